@@ -1,3 +1,4 @@
 pub mod Sets
 pub mod Searches
 pub mod Columns
+pub mod Bytes

@@ -1,0 +1,4 @@
+pub mod Graph
+pub mod Tree
+pub mod Least
+pub mod Builder

@@ -1,0 +1,21 @@
+-- Spanning trees, the tree path between two vertices, and the exchange of a row.
+-- Assumes nothing.
+use Prim.Native.Nat.{ℕ, suc, _≤_}
+use mathlib.Core.Bool.{Bool, true, not, _&&_}
+use mathlib.Core.Path.{_≡_}
+use Rattle.graph.specs.Graph.{Graph, Inside, Walk, joined}
+use Rattle.rowset.specs.Sets.{count, put, takeOut}
+
+-- a spanning tree: n − 1 rows of the graph over which every vertex is joined to vertex 1 by a walk
+pub record SpanningTree (g : Graph) (S : ℕ → Bool) : Type 0 where
+  pub inside : Inside g S
+  pub marks : suc (count (g .m) S) ≡ g .n
+  pub reached : (v : ℕ) → 1 ≤ v → v ≤ g .n → Walk g S 1 v
+
+-- row i lies on the tree path from u to v: it is a row of the tree, and without it u and v are not joined
+unfoldable pub onPath : Graph → (ℕ → Bool) → ℕ → ℕ → ℕ → Bool
+onPath g S u v i = S i && not (joined g (takeOut S i) u v)
+
+-- the exchange: row e goes out and row f comes in
+unfoldable pub exchange : (ℕ → Bool) → ℕ → ℕ → ℕ → Bool
+exchange S e f = put (takeOut S e) f

@@ -1,0 +1,62 @@
+-- What a call hands in: n and four byte columns, and the graph, weights and claim that they describe.
+-- Assumes nothing.
+use Prim.Native.Nat.{ℕ, zero, suc, _-_}
+use mathlib.Core.Bool.{Bool, cond}
+use mathlib.Core.List.{List, [], _∷_}
+use lib.Dec.{eqb}
+use lib.ListN.{length, set}
+use Rattle.graph.specs.Graph.{Graph}
+use Rattle.rowset.specs.Bytes.{inRow}
+use Rattle.rowset.specs.Sets.{upTo, sum}
+
+-- n, the left and right columns with one byte a row, the weight column with four, and the mark column, or claim, with one
+pub record Call : Type 0 where
+  pub n : ℕ
+  pub left : List ℕ
+  pub right : List ℕ
+  pub weight : List ℕ
+  pub mark : List ℕ
+
+-- m, the number of edge rows: the length of the left column
+abbrev pub rowsOf : Call → ℕ
+rowsOf c = length (c .left)
+
+-- the graph: row i of 1 to m joins the vertices that the left and the right column name
+unfoldable pub graphOf : Call → Graph
+graphOf c =
+    record {
+      n = c .n;
+      m = rowsOf c;
+      a = inRow 1 (c .left);
+      b = inRow 1 (c .right);
+      rows = upTo (rowsOf c);
+    }
+
+-- the weight of row i
+unfoldable pub weightOf : Call → ℕ → ℕ
+weightOf c = inRow 4 (c .weight)
+
+-- the marked rows of a claim: those whose byte is 1
+unfoldable pub marked : List ℕ → ℕ → Bool
+marked l i = eqb (inRow 1 l i) 1
+
+-- the weight of the claim: the sum of its marked rows' weights
+unfoldable pub claimWeight : Call → ℕ
+claimWeight c = sum (rowsOf c) (weightOf c) (marked (c .mark))
+
+-- the same table with another claim
+abbrev pub withClaim : Call → List ℕ → Call
+withClaim c l = record { n = c .n; left = c .left; right = c .right; weight = c .weight; mark = l }
+
+-- the claim with k bytes after row i: 1 for a row of S, 0 for any other
+unfoldable pub claimFrom : (ℕ → Bool) → ℕ → ℕ → List ℕ
+claimFrom S i zero = []
+claimFrom S i (suc k) = cond (S (suc i)) 1 0 ∷ claimFrom S (suc i) k
+
+-- the claim of m bytes that marks the rows of S
+unfoldable pub claimOf : ℕ → (ℕ → Bool) → List ℕ
+claimOf m S = claimFrom S 0 m
+
+-- the exchange: 0 at row out, 1 at row into, and every other byte as it was
+unfoldable pub exchanged : List ℕ → ℕ → ℕ → List ℕ
+exchanged l out into = set (set l (out - 1) 0) (into - 1) 1

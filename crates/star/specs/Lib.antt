@@ -1,0 +1,7 @@
+pub mod Call
+pub mod Refusals
+pub mod MatrixPath
+pub mod Cst
+pub mod Mst1
+pub mod Door
+pub mod Trials

@@ -1,0 +1,128 @@
+-- Why a call is declined: each cause with its number and place, and each procedure's causes in their order. The first that applies is the refusal.
+-- Assumes nothing.
+use Prim.Native.Nat.{ℕ, zero, suc, _*_}
+use mathlib.Core.Bool.{Bool, true, false, not, cond, _||_}
+use mathlib.Core.List.{List, [], _∷_, _++_}
+use mathlib.Core.Option.{Option, none, some}
+use mathlib.Core.Path.{_≡_}
+use lib.Dec.{eqb, leb, ltb}
+use lib.ListN.{length}
+use Rattle.graph.specs.Builder.{Fragment, tree}
+use Rattle.graph.specs.Graph.{joined}
+use Rattle.refusal.specs.declared.Refusal.{Refusal}
+use Rattle.rowset.specs.Bytes.{inRow}
+use Rattle.rowset.specs.Sets.{uppermost, count}
+use Rattle.star.specs.Call.{Call, rowsOf, graphOf, weightOf, marked}
+
+-- the largest n, m and weight that are taken
+abbrev pub maxVertices : ℕ
+maxVertices = 255
+
+abbrev pub maxRows : ℕ
+maxRows = 1024
+
+abbrev pub maxWeight : ℕ
+maxWeight = 2147483647
+
+-- the words of one column of the path matrix
+abbrev pub columnWords : ℕ
+columnWords = 16
+
+-- the refusal with this number and place where the test holds
+unfoldable pub cause : Bool → ℕ → ℕ → Option Refusal
+cause true number place = some (record { number = number; place = place })
+cause false number place = none
+
+-- the refusal at a row or vertex, where 0 says that there is none
+unfoldable pub causeAt : ℕ → ℕ → Option Refusal
+causeAt number zero = none
+causeAt number (suc i) = some (record { number = number; place = suc i })
+
+-- 1: n is 0 or above 255
+unfoldable pub badVertices : Call → Option Refusal
+badVertices c = cause (eqb (c .n) 0 || ltb maxVertices (c .n)) 1 0
+
+-- 2: m above 1,024
+unfoldable pub tooManyRows : Call → Option Refusal
+tooManyRows c = cause (ltb maxRows (rowsOf c)) 2 0
+
+-- 3: the right or mark column is not m bytes, or the weight column not 4 · m
+unfoldable pub badLengths : Call → Option Refusal
+badLengths c =
+    cause
+    (not (eqb (length (c .right)) (rowsOf c)) || not (eqb (length (c .mark)) (rowsOf c))
+    || not (eqb (length (c .weight)) (4 * rowsOf c)))
+    3
+    0
+
+-- an end is 0 or above n, or both ends are equal
+unfoldable pub badEnds : Call → ℕ → Bool
+badEnds c i =
+    eqb (inRow 1 (c .left) i) 0 || ltb (c .n) (inRow 1 (c .left) i) || eqb (inRow 1 (c .right) i) 0
+    || ltb (c .n) (inRow 1 (c .right) i)
+    || eqb (inRow 1 (c .left) i) (inRow 1 (c .right) i)
+
+-- a weight above 2,147,483,647
+unfoldable pub tooHeavy : Call → ℕ → Bool
+tooHeavy c i = ltb maxWeight (weightOf c i)
+
+-- 4 and 5: sought row by row from the top, 4 first in a row
+unfoldable pub badRow : Call → Option Refusal
+badRow c =
+    let i = uppermost (rowsOf c) (λ k. badEnds c k || tooHeavy c k) in
+    causeAt (cond (badEnds c i) 4 5) i
+
+-- 6: a claim byte other than 0 and 1
+unfoldable pub badClaim : Call → Option Refusal
+badClaim c = causeAt 6 (uppermost (rowsOf c) (λ i. ltb 1 (inRow 1 (c .mark) i)))
+
+-- 7: s is 0 or above n
+unfoldable pub badSource : Call → ℕ → Option Refusal
+badSource c s = cause (eqb s 0 || ltb (c .n) s) 7 0
+
+-- 8: R is shorter than 16 · n words
+unfoldable pub shortMatrix : Call → ℕ → Option Refusal
+shortMatrix c size = cause (ltb size (columnWords * c .n)) 8 0
+
+-- 9: the marks are not n − 1
+unfoldable pub badCount : Call → Option Refusal
+badCount c = cause (not (eqb (suc (count (rowsOf c) (marked (c .mark)))) (c .n))) 9 0
+
+-- 10: no tree; the place is the smallest vertex that marked rows do not join to s
+unfoldable pub unjoined : Call → ℕ → Option Refusal
+unjoined c s = causeAt 10 (uppermost (c .n) (λ v. not (joined (graphOf c) (marked (c .mark)) s v)))
+
+-- 11: no spanning tree exists
+unfoldable pub isNone : Option Fragment → Bool
+isNone none = true
+isNone (some f) = false
+
+unfoldable pub noTree : Call → Option Refusal
+noTree c = cause (isNone (tree (graphOf c) (weightOf c))) 11 0
+
+-- the causes of every procedure that takes the table, and those of each procedure, in order
+unfoldable pub tableCauses : Call → List (Option Refusal)
+tableCauses c = badVertices c ∷ tooManyRows c ∷ badLengths c ∷ badRow c ∷ []
+
+unfoldable pub matrixPathCauses : Call → ℕ → ℕ → List (Option Refusal)
+matrixPathCauses c s size =
+    tableCauses c ++ (badClaim c ∷ badSource c s ∷ shortMatrix c size ∷ badCount c ∷ unjoined c s ∷ [])
+
+unfoldable pub cstCauses : Call → List (Option Refusal)
+cstCauses c = tableCauses c ++ (badClaim c ∷ badCount c ∷ unjoined c 1 ∷ [])
+
+unfoldable pub mst1Causes : Call → List (Option Refusal)
+mst1Causes c = tableCauses c ++ (noTree c ∷ [])
+
+-- the first refusal of a list of causes
+unfoldable pub orElse : Option Refusal → Option Refusal → Option Refusal
+orElse none later = later
+orElse (some r) later = some r
+
+unfoldable pub refusal : List (Option Refusal) → Option Refusal
+refusal [] = none
+refusal (x ∷ xs) = orElse x (refusal xs)
+
+-- an accepted table, with its mark column: none of causes 1 to 5 applies
+abbrev pub Accepted : Call → Type 0
+Accepted c = refusal (tableCauses c) ≡ none

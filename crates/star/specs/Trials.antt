@@ -1,0 +1,107 @@
+-- The starred trials: what the definitions give on small tables, beside what they should give.
+-- Assumes nothing.
+use Prim.Native.Nat.{ℕ}
+use mathlib.Core.List.{List, [], _∷_, _++_}
+use mathlib.Core.Option.{Option, none, some}
+use mathlib.Core.Path.{_≡_}
+use lib.ListN.{replicate}
+use Rattle.refusal.specs.declared.Refusal.{Refusal}
+use Rattle.star.specs.Call.{Call}
+use Rattle.star.specs.Cst.{Answer, refused, passed, lighter, cst}
+use Rattle.star.specs.MatrixPath.{matrixPath, matrixAfter}
+use Rattle.star.specs.Mst1.{mst1, mst1Marks}
+
+-- what a trial gives: an answer alone; the builder's answer with the marks afterwards; or MatrixPath's answer with the matrix afterwards
+pub data Outcome : Type 0 where
+  checked : Answer → Outcome
+  built : Answer → List ℕ → Outcome
+  filled : Option Refusal → List ℕ → Outcome
+
+abbrev checks : Call → Outcome
+checks c = checked (cst c)
+
+abbrev builds : Call → Outcome
+builds c = built (mst1 c) (mst1Marks c)
+
+abbrev fills : Call → ℕ → List ℕ → Outcome
+fills c s R = filled (matrixPath c s R) (matrixAfter c s R)
+
+-- a weight below 256 as four bytes
+abbrev small : ℕ → List ℕ
+small w = w ∷ 0 ∷ 0 ∷ 0 ∷ []
+
+-- the refusal with this number and place
+abbrev because : ℕ → ℕ → Refusal
+because number place = record { number = number; place = place }
+
+-- the yard: 1-2 weight 5, 2-3 weight 3, 3-4 weight 5, 1-4 weight 4, 1-3 weight 6
+abbrev pub yard : List ℕ → Call
+yard claim =
+    record {
+      n = 4;
+      left = 1 ∷ 2 ∷ 3 ∷ 1 ∷ 1 ∷ [];
+      right = 2 ∷ 3 ∷ 4 ∷ 4 ∷ 3 ∷ [];
+      weight = small 5 ++ (small 3 ++ (small 5 ++ (small 4 ++ small 6)));
+      mark = claim;
+    }
+
+-- the Stem: 1-2 weight 9, 2-3, 2-4 and 3-4 weight 1 each
+abbrev pub stem : List ℕ → Call
+stem claim =
+    record {
+      n = 4;
+      left = 1 ∷ 2 ∷ 2 ∷ 3 ∷ [];
+      right = 2 ∷ 3 ∷ 4 ∷ 4 ∷ [];
+      weight = small 9 ++ (small 1 ++ (small 1 ++ small 1));
+      mark = claim;
+    }
+
+-- two rows between the same two vertices: 1-2 weight 5 and 2-1 weight 3
+abbrev pub twice : List ℕ → Call
+twice claim =
+    record { n = 2; left = 1 ∷ 2 ∷ []; right = 2 ∷ 1 ∷ []; weight = small 5 ++ small 3; mark = claim }
+
+-- n vertices and no row
+abbrev pub bare : ℕ → Call
+bare n = record { n = n; left = []; right = []; weight = []; mark = [] }
+
+-- a column of the path matrix whose components are all among the first 64
+abbrev column : ℕ → List ℕ
+column word = word ∷ replicate 15 0
+
+-- what the definitions give
+abbrev pub given : List Outcome
+given =
+    builds (yard (9 ∷ 9 ∷ 9 ∷ 9 ∷ 9 ∷ []))
+    ∷ checks (yard (1 ∷ 1 ∷ 1 ∷ 0 ∷ 0 ∷ []))
+    ∷ checks (yard (0 ∷ 1 ∷ 1 ∷ 1 ∷ 0 ∷ []))
+    ∷ checks (yard (1 ∷ 1 ∷ 0 ∷ 0 ∷ 1 ∷ []))
+    ∷ checks (yard (1 ∷ 1 ∷ 0 ∷ 0 ∷ 0 ∷ []))
+    ∷ fills (yard (1 ∷ 1 ∷ 0 ∷ 1 ∷ 0 ∷ [])) 3 (replicate 66 7)
+    ∷ builds (bare 1)
+    ∷ checks (bare 1)
+    ∷ builds (bare 2)
+    ∷ checks (twice (1 ∷ 0 ∷ []))
+    ∷ checks (stem (1 ∷ 1 ∷ 1 ∷ 0 ∷ []))
+    ∷ []
+
+-- what the trials say: rows 1, 2, 4 with weight 12; lighter, out 1, in 4, saving 1; passed, 12; refused 10, place 4; refused 9;
+-- columns {1, 2}, {2}, Θ, {1, 2, 4}, and the words after them as they were; weight 0 and passed with 0; refused 11; lighter, out 1, in 2, saving 2; passed, 11
+abbrev pub expected : List Outcome
+expected =
+    built (passed 12) (1 ∷ 1 ∷ 0 ∷ 1 ∷ 0 ∷ [])
+    ∷ checked (lighter 1 4 1)
+    ∷ checked (passed 12)
+    ∷ checked (refused (because 10 4))
+    ∷ checked (refused (because 9 0))
+    ∷ filled none (column 3 ++ (column 2 ++ (column 0 ++ (column 11 ++ (7 ∷ 7 ∷ [])))))
+    ∷ built (passed 0) []
+    ∷ checked (passed 0)
+    ∷ built (refused (because 11 0)) []
+    ∷ checked (lighter 1 2 2)
+    ∷ checked (passed 11)
+    ∷ []
+
+-- the theorem: each trial gives what it should
+abbrev pub TrialsHold : Type 0
+TrialsHold = given ≡ expected
