@@ -5,3 +5,4 @@ pub mod Cst
 pub mod Mst1
 pub mod Door
 pub mod Trials
+pub mod Demand3
