@@ -1,0 +1,5 @@
+pub mod Reach
+pub mod Joined
+pub mod Path
+pub mod PathRows
+pub mod Exchange

@@ -1,0 +1,168 @@
+-- What an accepted table gives: a sound graph, and columns of the right lengths.
+-- Assumes nothing.
+use Prim.Native.Nat.{ℕ, zero, suc, _+_, _*_, _≤_, _<_}
+use mathlib.Core.Bool.{Bool, true, false, not, _||_}
+use mathlib.Core.List.{List, [], _∷_, _++_}
+use mathlib.Core.Logic.{_≢_}
+use mathlib.Core.Option.{Option, none, some}
+use mathlib.Core.Path.{_≡_, refl, sym, ap, _∙_}
+use borrow.Author.Tests.{ltb-false, eqb-false, eqb-true, not-false}
+use lib.Dec.{eqb, ltb}
+use lib.ListN.{length}
+use native.Mathlib.Omega.{arith}
+use Rattle.graph.specs.Graph.{Graph, Sound}
+use Rattle.refusal.specs.declared.Refusal.{Refusal}
+use Rattle.rowset.specs.Bytes.{inRow}
+use Rattle.rowset.specs.Sets.{upTo, uppermost}
+use Rattle.rowset.proofs.Laws.{uppermost-none, upTo-in}
+use Rattle.star.specs.Call.{Call, rowsOf, graphOf, weightOf}
+use Rattle.star.specs.Refusals.{maxVertices, maxRows, maxWeight, cause, causeAt, badVertices, tooManyRows, badLengths, badEnds, tooHeavy, badRow, tableCauses, orElse, refusal, Accepted}
+
+-- a disjunction that fails
+or-left : (a b : Bool) → (a || b) ≡ false → a ≡ false
+or-left true b e = e
+or-left false b e = refl
+
+or-right : (a b : Bool) → (a || b) ≡ false → b ≡ false
+or-right true b e = cc
+or-right false b e = e
+
+-- the head of a list of causes does not apply, and none of the tail does, where none of the list applies
+pub none-head : (x : Option Refusal) (xs : List (Option Refusal)) → refusal (x ∷ xs) ≡ none → x ≡ none
+unfolding refusal orElse
+none-head none xs e = refl
+none-head (some r) xs e = e
+
+pub none-tail : (x : Option Refusal) (xs : List (Option Refusal)) → refusal (x ∷ xs) ≡ none → refusal xs ≡ none
+unfolding refusal orElse
+none-tail none xs e = e
+none-tail (some r) xs e = cc
+
+pub none-cons : (x : Option Refusal) (xs : List (Option Refusal)) → x ≡ none → refusal (x ∷ xs) ≡ refusal xs
+unfolding refusal orElse
+none-cons none xs e = refl
+none-cons (some r) xs e = cc
+
+pub none-nil : refusal [] ≡ none
+unfolding refusal
+none-nil = refl
+
+pub none-both : (x : Option Refusal) (xs : List (Option Refusal)) → x ≡ none → refusal xs ≡ none → refusal (x ∷ xs) ≡ none
+none-both x xs e h = none-cons x xs e ∙ h
+
+-- causes that none applies of may be left out in front
+pub refusal-append : (xs ys : List (Option Refusal)) → refusal xs ≡ none → refusal (xs ++ ys) ≡ refusal ys
+refusal-append [] ys e = refl
+refusal-append (x ∷ xs) ys e = none-cons x (xs ++ ys) (none-head x xs e) ∙ refusal-append xs ys (none-tail x xs e)
+
+pub cause-none : (b : Bool) (k p : ℕ) → cause b k p ≡ none → b ≡ false
+unfolding cause
+cause-none true k p e = cc
+cause-none false k p e = refl
+
+pub none-cause : (b : Bool) (k p : ℕ) → b ≡ false → cause b k p ≡ none
+unfolding cause
+none-cause true k p e = cc
+none-cause false k p e = refl
+
+pub causeAt-none : (k i : ℕ) → causeAt k i ≡ none → i ≡ 0
+unfolding causeAt
+causeAt-none k zero e = refl
+causeAt-none k (suc i) e = cc
+
+-- what acceptance says of a call
+pub record Taken (c : Call) : Type 0 where
+  pub some-vertex : 1 ≤ c .n
+  pub few-vertices : c .n ≤ maxVertices
+  pub few-rows : rowsOf c ≤ maxRows
+  pub right-length : length (c .right) ≡ rowsOf c
+  pub mark-length : length (c .mark) ≡ rowsOf c
+  pub weight-length : length (c .weight) ≡ 4 * rowsOf c
+  pub good-ends : (i : ℕ) → 1 ≤ i → i ≤ rowsOf c → badEnds c i ≡ false
+  pub good-weight : (i : ℕ) → 1 ≤ i → i ≤ rowsOf c → weightOf c i ≤ maxWeight
+
+pub taken : (c : Call) → Accepted c → Taken c
+unfolding tableCauses badVertices tooManyRows badLengths badRow tooHeavy
+taken c e =
+    record {
+      some-vertex = omega (arith, eqb-false (c .n) 0 (or-left (eqb (c .n) 0) (ltb maxVertices (c .n)) vertices));
+      few-vertices = ltb-false maxVertices (c .n) (or-right (eqb (c .n) 0) (ltb maxVertices (c .n)) vertices);
+      few-rows = ltb-false maxRows (rowsOf c) rows;
+      right-length = eqb-true _ _ (not-false _ (or-left right mark (or-left (right || mark) weight lengths)));
+      mark-length = eqb-true _ _ (not-false _ (or-right right mark (or-left (right || mark) weight lengths)));
+      weight-length = eqb-true _ _ (not-false _ (or-right (right || mark) weight lengths));
+      good-ends = λ i l u. or-left (badEnds c i) (tooHeavy c i) (good-row i l u);
+      good-weight = λ i l u. ltb-false maxWeight (weightOf c i) (or-right (badEnds c i) (tooHeavy c i) (good-row i l u));
+    }
+  where
+    vertices : (eqb (c .n) 0 || ltb maxVertices (c .n)) ≡ false
+    vertices = cause-none _ 1 0 (none-head _ _ e)
+
+    e₂ : refusal (tooManyRows c ∷ badLengths c ∷ badRow c ∷ []) ≡ none
+    e₂ = none-tail _ _ e
+
+    rows : ltb maxRows (rowsOf c) ≡ false
+    rows = cause-none _ 2 0 (none-head _ _ e₂)
+
+    e₃ : refusal (badLengths c ∷ badRow c ∷ []) ≡ none
+    e₃ = none-tail _ _ e₂
+
+    right : Bool
+    right = not (eqb (length (c .right)) (rowsOf c))
+
+    mark : Bool
+    mark = not (eqb (length (c .mark)) (rowsOf c))
+
+    weight : Bool
+    weight = not (eqb (length (c .weight)) (4 * rowsOf c))
+
+    lengths : (right || mark || weight) ≡ false
+    lengths = cause-none _ 3 0 (none-head _ _ e₃)
+
+    good-row : (i : ℕ) → 1 ≤ i → i ≤ rowsOf c → (badEnds c i || tooHeavy c i) ≡ false
+    good-row i l u = uppermost-none (rowsOf c) (λ k. badEnds c k || tooHeavy c k) (causeAt-none _ _ (none-head _ _ (none-tail _ _ e₃))) i l u
+
+-- the graph of an accepted table is sound
+pub sound : (c : Call) → Taken c → Sound (graphOf c)
+unfolding graphOf badEnds
+sound c t =
+    record {
+      vertex = t .some-vertex;
+      position = upTo-in (rowsOf c);
+      left = λ i r. (positive (a i) (or-left (a₀ i) (a₁ i) (ends₂ i r)), ltb-false (c .n) (a i) (or-right (a₀ i) (a₁ i) (ends₂ i r)));
+      right = λ i r. (positive (b i) (or-right (a₀ i || a₁ i) (b₀ i) (ends₃ i r)), ltb-false (c .n) (b i) (or-right (a₀ i || a₁ i || b₀ i) (b₁ i) (ends₄ i r)));
+      apart = λ i r. eqb-false (a i) (b i) (or-right (a₀ i || a₁ i || b₀ i || b₁ i) (eqb (a i) (b i)) (ends i r));
+    }
+  where
+    a : ℕ → ℕ
+    a = inRow 1 (c .left)
+
+    b : ℕ → ℕ
+    b = inRow 1 (c .right)
+
+    a₀ : ℕ → Bool
+    a₀ i = eqb (a i) 0
+
+    a₁ : ℕ → Bool
+    a₁ i = ltb (c .n) (a i)
+
+    b₀ : ℕ → Bool
+    b₀ i = eqb (b i) 0
+
+    b₁ : ℕ → Bool
+    b₁ i = ltb (c .n) (b i)
+
+    positive : (x : ℕ) → eqb x 0 ≡ false → 1 ≤ x
+    positive x e = omega (arith, eqb-false x 0 e)
+
+    ends : (i : ℕ) → upTo (rowsOf c) i ≡ true → badEnds c i ≡ false
+    ends i r = t .good-ends i (upTo-in (rowsOf c) i r .0) (upTo-in (rowsOf c) i r .1)
+
+    ends₄ : (i : ℕ) → upTo (rowsOf c) i ≡ true → (a₀ i || a₁ i || b₀ i || b₁ i) ≡ false
+    ends₄ i r = or-left (a₀ i || a₁ i || b₀ i || b₁ i) (eqb (a i) (b i)) (ends i r)
+
+    ends₃ : (i : ℕ) → upTo (rowsOf c) i ≡ true → (a₀ i || a₁ i || b₀ i) ≡ false
+    ends₃ i r = or-left (a₀ i || a₁ i || b₀ i) (b₁ i) (ends₄ i r)
+
+    ends₂ : (i : ℕ) → upTo (rowsOf c) i ≡ true → (a₀ i || a₁ i) ≡ false
+    ends₂ i r = or-left (a₀ i || a₁ i) (b₀ i) (ends₃ i r)
