@@ -3,3 +3,5 @@ pub mod Joined
 pub mod Path
 pub mod PathRows
 pub mod Exchange
+pub mod Least
+pub mod Builder

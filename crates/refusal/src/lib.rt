@@ -1,7 +1,13 @@
-// The refusal record: why a call was declined.
+// The refusal record, and the answer of what is done or refused.
 
-// The cause's number, and its place: a row or a vertex, 0 where the cause has none. A place has 32 bits.
+// Why a call was declined: the cause's number, and its place: a row or a vertex, 0 where the cause has none.
 pub struct Refusal {
     pub number: u32,
     pub place: u32,
+}
+
+// Done, or refused with a record: what a check and MatrixPath answer.
+pub enum Outcome {
+    Done,
+    Refused(Refusal),
 }

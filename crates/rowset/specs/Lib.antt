@@ -2,3 +2,4 @@ pub mod Sets
 pub mod Searches
 pub mod Columns
 pub mod Bytes
+pub mod Words

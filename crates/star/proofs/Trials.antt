@@ -9,9 +9,10 @@ use Rattle.graph.specs.Tree.{onPath}
 use Rattle.rowset.specs.Bytes.{little, inRow}
 use Rattle.rowset.specs.Searches.{greaterThan, smallest}
 use Rattle.rowset.specs.Sets.{empty, upTo, both, put, takeOut, any, firstOf, uppermost, sum, count}
+use Rattle.rowset.specs.Words.{wordAt, wordsFrom, matrixWords}
 use Rattle.star.specs.Call.{graphOf, weightOf, marked, claimWeight, claimFrom, claimOf}
 use Rattle.star.specs.Cst.{judged, verdict, cst}
-use Rattle.star.specs.MatrixPath.{wordAt, wordsFrom, matrixWords, pathColumn, matrixPath, matrixOr, matrixAfter}
+use Rattle.star.specs.MatrixPath.{pathColumn, matrixPath, matrixOr, matrixAfter}
 use Rattle.star.specs.Mst1.{chosenRows, treeRows, built, mst1, builtMarks, mst1Marks}
 use Rattle.star.specs.Refusals.{cause, causeAt, badVertices, tooManyRows, badLengths, badEnds, tooHeavy, badRow, badClaim, badSource, shortMatrix, badCount, unjoined, isNone, noTree, tableCauses, matrixPathCauses, cstCauses, mst1Causes, orElse, refusal}
 use Rattle.star.specs.Trials.{TrialsHold}

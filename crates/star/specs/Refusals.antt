@@ -12,6 +12,7 @@ use Rattle.graph.specs.Graph.{joined}
 use Rattle.refusal.specs.declared.Refusal.{Refusal}
 use Rattle.rowset.specs.Bytes.{inRow}
 use Rattle.rowset.specs.Sets.{uppermost, count}
+use Rattle.rowset.specs.Words.{columnWords}
 use Rattle.star.specs.Call.{Call, rowsOf, graphOf, weightOf, marked}
 
 -- the largest n, m and weight that are taken
@@ -23,10 +24,6 @@ maxRows = 1024
 
 abbrev pub maxWeight : ℕ
 maxWeight = 2147483647
-
--- the words of one column of the path matrix
-abbrev pub columnWords : ℕ
-columnWords = 16
 
 -- the refusal with this number and place where the test holds
 unfoldable pub cause : Bool → ℕ → ℕ → Option Refusal

@@ -1,0 +1,164 @@
+-- Least spanning trees and the checker.
+-- Defines: CutExchange (a tree with a row exchanged in across a colouring), Lighter (what the checker's exchange is worth).
+-- Main statements: the cut property (cut-property); a spanning tree is least exactly where it is good (good-least, least-good);
+-- the checker finds no row exactly where it is good (none-good, good-none), and what it finds otherwise is a lighter exchange (found-lighter).
+-- Assumes nothing.
+use Prim.Native.Nat.{ℕ, zero, suc, _≤_, _<_}
+use borrow.Author.Tests.{ltb-false, eqb-true, eq-eqb, ne-eqb, not-true, not-false}
+use lib.Dec.{eqb}
+use mathlib.Core.Bool.{Bool, true, false, not, _&&_, and-eq-true-iff}
+use mathlib.Core.Path.{_≡_, refl, sym, _∙_, ap}
+use native.Mathlib.Omega.{arith}
+use Rattle.graph.proofs.Exchange.{exchange-spanning, exchange-weight, crossing-on-path}
+use Rattle.rowset.proofs.Members.{without-in, in-without, count-fewer}
+use Rattle.graph.proofs.Path.{path-inside, cut-crossed, cut-crossed-once}
+use Rattle.graph.specs.Graph.{Graph, Sound, crosses}
+use Rattle.graph.specs.Least.{Least, Good, heavier, lighter, rowIn, rowOut}
+use Rattle.graph.specs.Tree.{SpanningTree, onPath, exchange}
+use Rattle.rowset.proofs.Laws.{clash, refuted, put-same, put-keeps, takeOut-other, uppermost-some, uppermost-none, uppermost-zero, any-found, any-none, sum-monotone}
+use Rattle.rowset.proofs.Searches.{greaterThan-in}
+use Rattle.rowset.specs.Searches.{greaterThan}
+use Rattle.rowset.specs.Sets.{sum, count, uppermost, without, takeOut}
+
+-- a spanning tree with row e that keeps every row of S that does not cross the colouring, and weighs no more than S
+pub record CutExchange (g : Graph) (w : ℕ → ℕ) (S side : ℕ → Bool) (e : ℕ) : Type 0 where
+  pub set : ℕ → Bool
+  pub tree : SpanningTree g set
+  pub weight : sum (g .m) w set ≤ sum (g .m) w S
+  pub brought : set e ≡ true
+  pub kept : (i : ℕ) → S i ≡ true → crosses g side i ≡ false → set i ≡ true
+
+-- the cut property: a row that crosses a colouring, and is no heavier than any row of the tree that does, can be exchanged in
+pub cut-property : (g : Graph) (ok : Sound g) (w : ℕ → ℕ) (S : ℕ → Bool) (t : SpanningTree g S) (side : ℕ → Bool) (e : ℕ) → g .rows e ≡ true → crosses g side e ≡ true → ((f : ℕ) → S f ≡ true → crosses g side f ≡ true → w e ≤ w f) → CutExchange g w S side e
+unfolding exchange
+cut-property g ok w S t side e r c light = go (S e) refl
+  where
+    go : (x : Bool) → S e ≡ x → CutExchange g w S side e
+    go true on = record { set = S; tree = t; weight = omega arith; brought = on; kept = λ i h _. h }
+    go false out =
+        let (f, on, cf, path) = crossing-on-path g ok S t side e r c in
+        record {
+          set = exchange S f e;
+          tree = exchange-spanning g ok S t f e r out path;
+          weight = omega (arith, exchange-weight g ok S t w f e on r out, light f on cf);
+          brought = put-same (takeOut S f) e;
+          kept = λ i h ci. put-keeps (takeOut S f) e i (takeOut-other S f i (λ q. clash cf (rw q at ci)) ∙ h);
+        }
+
+-- what the checker's exchange is worth: row e is marked, row f is a row of the graph that is not, the exchange is a spanning tree, and it is lighter
+pub record Lighter (g : Graph) (w : ℕ → ℕ) (S : ℕ → Bool) (e f : ℕ) : Type 0 where
+  pub out-marked : S e ≡ true
+  pub in-row : g .rows f ≡ true
+  pub in-unmarked : S f ≡ false
+  pub on-path : onPath g S (g .a f) (g .b f) e ≡ true
+  pub saves : w f < w e
+  pub tree : SpanningTree g (exchange S e f)
+
+module _ (g : Graph) (ok : Sound g) (w : ℕ → ℕ) (S : ℕ → Bool) (tree : SpanningTree g S) where
+  -- of the rows of S only e crosses the cut of e
+  own-cut : (e i : ℕ) → S i ≡ true → crosses g (λ v. onPath g S 1 v e) i ≡ eqb e i
+  own-cut e i h = cut-crossed-once g ok S tree 1 e i (omega arith) (ok .vertex) h
+
+  -- a row of a good tree is no heavier than any row of the graph that crosses its cut
+  cut-light : Good g w S → (e f : ℕ) → g .rows f ≡ true → crosses g (λ v. onPath g S 1 v e) f ≡ true → w e ≤ w f
+  cut-light good e f r c = go (S f) refl
+    where
+      go : (x : Bool) → S f ≡ x → w e ≤ w f
+      go true h = omega (arith, ap w (eqb-true e f (sym (own-cut e f h) ∙ c)))
+      go false h = good f r h e (sym (cut-crossed g ok S tree 1 e f (omega arith) (ok .vertex) r) ∙ c)
+
+  -- a row of a good tree can be exchanged into any spanning tree, across its cut
+  towards : Good g w S → (S′ : ℕ → Bool) → SpanningTree g S′ → (e : ℕ) → S e ≡ true → CutExchange g w S′ (λ v. onPath g S 1 v e) e
+  towards good S′ t e on =
+      cut-property g ok w S′ t (λ v. onPath g S 1 v e) e (tree .inside e on) (own-cut e e on ∙ eq-eqb e e refl) (λ f h c. cut-light good e f (t .inside f h) c)
+
+  -- fewer rows of S are lacking then
+  fewer : (S′ : ℕ → Bool) (e : ℕ) → without S S′ e ≡ true → (x : CutExchange g w S′ (λ v. onPath g S 1 v e) e) → count (g .m) (without S (x .set)) < count (g .m) (without S S′)
+  unfolding without
+  fewer S′ e lacks x =
+      let (on, _) = without-in S S′ e lacks in
+      let (l, u) = ok .position e (tree .inside e on) in
+      count-fewer (g .m) e (without S (x .set)) (without S S′) l u lacks (rw (on, x .brought)) stays
+    where
+      stays : (i : ℕ) → without S (x .set) i ≡ true → without S S′ i ≡ true
+      stays i h =
+          let (on, off) = without-in S (x .set) i h in
+          let other = own-cut e i on ∙ ne-eqb e i (λ q. clash (x .brought) (ap (x .set) q ∙ off)) in
+          in-without S S′ i on (refuted (S′ i) (λ k. clash (x .kept i k other) off))
+
+  -- where none is lacking the good tree weighs no more
+  none-lacking : (S′ : ℕ → Bool) → uppermost (g .m) (without S S′) ≡ 0 → sum (g .m) w S ≤ sum (g .m) w S′
+  unfolding without
+  none-lacking S′ none = sum-monotone (g .m) w S S′ there
+    where
+      there : (i : ℕ) → S i ≡ true → S′ i ≡ true
+      there i h =
+          let (l, u) = ok .position i (tree .inside i h) in
+          not-false (S′ i) (rw h at (uppermost-none (g .m) (without S S′) none i l u))
+
+  -- a good tree weighs at most as much as one that lacks fewer than k of its rows
+  closer : Good g w S → (k : ℕ) (S′ : ℕ → Bool) → SpanningTree g S′ → count (g .m) (without S S′) < k → sum (g .m) w S ≤ sum (g .m) w S′
+  closer good zero S′ t h = omega arith
+  closer good (suc k) S′ t h = go (closer good k) (uppermost (g .m) (without S S′)) refl
+    where
+      go : ((T : ℕ → Bool) → SpanningTree g T → count (g .m) (without S T) < k → sum (g .m) w S ≤ sum (g .m) w T) → (e : ℕ) → uppermost (g .m) (without S S′) ≡ e → sum (g .m) w S ≤ sum (g .m) w S′
+      go before zero none = none-lacking S′ none
+      go before (suc j) u =
+          let lacks = uppermost-some (g .m) j (without S S′) u .0 in
+          let x = towards good S′ t (suc j) (without-in S S′ (suc j) lacks .0) in
+          omega (arith, x .weight, before (x .set) (x .tree) (omega (arith, fewer S′ (suc j) lacks x)))
+
+  -- a good tree is least
+  pub good-least : Good g w S → Least g w S
+  good-least good =
+      record { tree = tree; least = λ S′ t. closer good (suc (count (g .m) (without S S′))) S′ t (omega arith) }
+
+  -- a least tree is good
+  pub least-good : Least g w S → Good g w S
+  least-good least f r out e path =
+      omega (
+        arith,
+        least .least (exchange S e f) (exchange-spanning g ok S tree e f r out path),
+        exchange-weight g ok S tree w e f (path-inside g ok S tree (g .a f) (g .b f) e path) r out,
+      )
+
+  -- the uppermost heavier row on the path of a lighter row makes a lighter exchange
+  lighter-exchange : (f : ℕ) → lighter g w S f ≡ true → Lighter g w S (uppermost (g .m) (heavier g w S f)) f
+  unfolding lighter heavier
+  lighter-exchange f h =
+      let (h′, some) = and-eq-true-iff (g .rows f && not (S f)) _ .0 h in
+      let (r, out) = and-eq-true-iff (g .rows f) _ .0 h′ in
+      let (j, u) = any-found (g .m) (heavier g w S f) some in
+      let (path, heavy) = greaterThan-in w (w f) (onPath g S (g .a f) (g .b f)) (suc j) (uppermost-some (g .m) j (heavier g w S f) u .0) in
+      rw u
+      (record {
+        out-marked = path-inside g ok S tree (g .a f) (g .b f) (suc j) path;
+        in-row = r;
+        in-unmarked = not-true (S f) out;
+        on-path = path;
+        saves = heavy;
+        tree = exchange-spanning g ok S tree (suc j) f r (not-true (S f) out) path;
+      })
+
+  -- the checker finds no row exactly where the tree is good
+  pub none-good : rowIn g w S ≡ 0 → Good g w S
+  unfolding rowIn lighter heavier greaterThan
+  none-good none f r out e path =
+      let (lf, uf) = ok .position f r in
+      let (le, ue) = ok .position e (tree .inside e (path-inside g ok S tree (g .a f) (g .b f) e path)) in
+      let no-heavier = rw (r, out) at (uppermost-none (g .m) (lighter g w S) none f lf uf) in
+      ltb-false (w f) (w e) (rw path at (any-none (g .m) (heavier g w S f) no-heavier e le ue))
+
+  pub good-none : Good g w S → rowIn g w S ≡ 0
+  unfolding rowIn
+  good-none good = uppermost-zero (g .m) (lighter g w S) (λ f _ _. refuted (lighter g w S f) (never f))
+    where
+      never : (f : ℕ) → lighter g w S f ≡ true → ⊥
+      never f h =
+          let x = lighter-exchange f h in
+          omega (arith, good f (x .in-row) (x .in-unmarked) _ (x .on-path))
+
+  -- and what it finds otherwise is a lighter exchange
+  pub found-lighter : (j : ℕ) → rowIn g w S ≡ suc j → Lighter g w S (rowOut g w S) (rowIn g w S)
+  unfolding rowIn rowOut
+  found-lighter j e = lighter-exchange (rowIn g w S) (rw e (uppermost-some (g .m) j (lighter g w S) e .0))

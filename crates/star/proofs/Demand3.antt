@@ -1,0 +1,331 @@
+-- Demand 3 holds: over every accepted table, what CST answers on a claim and what MST1 builds are what they should be.
+-- Assumes nothing.
+use Prim.Native.Nat.{ℕ, zero, suc, _+_, _-_, _*_, _≤_, _<_}
+use mathlib.Core.Bool.{Bool, true, false, not, _||_}
+use mathlib.Core.List.{List, [], _∷_}
+use mathlib.Core.Logic.{_↔_}
+use mathlib.Core.Option.{Option, none, some}
+use mathlib.Core.Path.{_≡_, refl, sym, ap, _∙_, subst, subst₃}
+use borrow.Author.Tests.{ltb-false, le-ltb, eqb-true, eq-eqb, not-false}
+use lib.Dec.{eqb, ltb}
+use lib.ListN.{length, length-set}
+use native.Mathlib.Decide.{decLe}
+use native.Mathlib.Omega.{arith}
+use Rattle.graph.proofs.Joined.{unjoined-none}
+use Rattle.graph.proofs.Reach.{walk-joined}
+use Rattle.graph.specs.Builder.{Fragment, tree}
+use Rattle.graph.specs.Graph.{Graph, Sound, Inside, Walk, joined}
+use Rattle.graph.specs.Least.{Least, Good, rowIn, rowOut}
+use Rattle.graph.specs.Tree.{SpanningTree, exchange}
+use Rattle.refusal.specs.declared.Refusal.{Refusal}
+use Rattle.rowset.proofs.Laws.{uppermost-none, uppermost-zero, in-upTo, upTo-in}
+use Rattle.rowset.specs.Bytes.{inRow}
+use Rattle.rowset.specs.Sets.{upTo, uppermost, sum, count}
+use Rattle.graph.proofs.Builder.{built-spanning, built-least, not-built}
+use Rattle.graph.proofs.Exchange.{exchange-weight}
+use Rattle.graph.proofs.Least.{Lighter, good-least, least-good, none-good, good-none, found-lighter}
+use Rattle.star.proofs.Accepted.{none-head, none-tail, none-both, none-nil, refusal-append, cause-none, none-cause, causeAt-none, Taken, taken, sound}
+use Rattle.star.proofs.Claims.{byte-outside, marked-row, marked-claimOf, claimOf-length, claimOf-bytes, marked-exchanged, exchanged-bytes}
+use Rattle.star.specs.Call.{Call, rowsOf, graphOf, weightOf, marked, claimWeight, withClaim, claimOf, exchanged}
+use Rattle.star.specs.Cst.{Answer, refused, passed, lighter, judged, verdict, cst}
+use Rattle.star.specs.Demand3.{ClaimTree, LeastClaim, WorthExchange, Holds, Demand3}
+use Rattle.star.specs.Mst1.{chosenRows, treeRows, built, mst1, builtMarks, mst1Marks}
+use Rattle.star.specs.Refusals.{cause, causeAt, badVertices, tooManyRows, badLengths, badRow, badEnds, tooHeavy, badClaim, badCount, unjoined, noTree, isNone, tableCauses, cstCauses, mst1Causes, refusal, orElse, Accepted}
+
+-- position 0 holds no byte
+byte-none : (l : List ℕ) → inRow 1 l 0 ≡ 0
+unfolding inRow
+byte-none l = refl
+
+none-causeAt : (k : ℕ) {i : ℕ} → i ≡ 0 → causeAt k i ≡ none
+unfolding causeAt
+none-causeAt k e = ap (causeAt k) e
+
+-- a refusal is not none, and the answers are told apart
+apart : (r : Refusal) → _≡_ {A = Option Refusal} (some r) none → ⊥
+apart r e = let z : _≡_ {A = ℕ} 0 1 = cc in omega arith
+
+refused-passed : {x : Answer} {r : Refusal} {weight : ℕ} → x ≡ refused r → x ≡ passed weight → ⊥
+refused-passed e h = let z : _≡_ {A = ℕ} 0 1 = cc in omega arith
+
+refused-lighter : {x : Answer} {r : Refusal} {out into saving : ℕ} → x ≡ refused r → x ≡ lighter out into saving → ⊥
+refused-lighter e h = let z : _≡_ {A = ℕ} 0 1 = cc in omega arith
+
+passed-lighter : {x : Answer} {weight out into saving : ℕ} → x ≡ passed weight → x ≡ lighter out into saving → ⊥
+passed-lighter e h = let z : _≡_ {A = ℕ} 0 1 = cc in omega arith
+
+length-exchanged : (l : List ℕ) (out into : ℕ) → length (exchanged l out into) ≡ length l
+unfolding exchanged
+length-exchanged l out into = simp length-set
+
+none-some : {j : ℕ} → _≡_ {A = ℕ} (suc j) 0 → ⊥
+none-some e = omega arith
+
+-- the rows that the claim marks are rows of the table
+marked-inside : (c : Call) → length (c .mark) ≡ rowsOf c → Inside (graphOf c) (marked (c .mark))
+unfolding graphOf
+marked-inside c e i h = in-upTo (rowsOf c) i (marked-row (c .mark) i h .0) (subst (λ n. i ≤ n) e (marked-row (c .mark) i h .1))
+
+-- the causes that CST seeks after the table's own
+claim-causes : (c : Call) → Accepted c → refusal (cstCauses c) ≡ refusal (badClaim c ∷ badCount c ∷ unjoined c 1 ∷ [])
+unfolding cstCauses
+claim-causes c a = refusal-append (tableCauses c) _ a
+
+module _ (c : Call) (a : Accepted c) where
+  ok : Sound (graphOf c)
+  ok = sound c (taken c a)
+
+  -- a claim that is not refused is a spanning tree
+  tree-of : refusal (cstCauses c) ≡ none → ClaimTree c
+  unfolding graphOf badClaim badCount unjoined
+  tree-of e =
+      record {
+        bytes = t .mark-length;
+        zero-or-one = small;
+        spanning =
+            record {
+              inside = marked-inside c (t .mark-length);
+              marks = eqb-true _ _ (not-false _ (cause-none _ 9 0 (none-head _ _ e₂)));
+              reached = unjoined-none (graphOf c) ok (marked (c .mark)) (marked-inside c (t .mark-length)) 1 (omega arith) (t .some-vertex) (causeAt-none 10 _ (none-head _ _ (none-tail _ _ e₂)));
+            };
+      }
+    where
+      t : Taken c
+      t = taken c a
+
+      e₁ : refusal (badClaim c ∷ badCount c ∷ unjoined c 1 ∷ []) ≡ none
+      e₁ = sym (claim-causes c a) ∙ e
+
+      e₂ : refusal (badCount c ∷ unjoined c 1 ∷ []) ≡ none
+      e₂ = none-tail _ _ e₁
+
+      small : (i : ℕ) → inRow 1 (c .mark) i ≤ 1
+      small zero = omega (arith, byte-none (c .mark))
+      small (suc j) =
+          elim (decLe (suc j) (rowsOf c)) [
+            | yes h ↦ ltb-false 1 _ (uppermost-none (rowsOf c) (λ i. ltb 1 (inRow 1 (c .mark) i)) (causeAt-none 6 _ (none-head _ _ e₁)) (suc j) (omega arith) h)
+            | no h ↦ omega (arith, byte-outside (c .mark) (suc j) (omega (arith, t .mark-length)))
+          ]
+
+  -- and a spanning tree is not refused
+  not-refused : ClaimTree c → refusal (cstCauses c) ≡ none
+  unfolding graphOf badClaim badCount unjoined
+  not-refused t =
+      claim-causes c a
+      ∙ none-both (badClaim c) _ (none-causeAt 6 bytes)
+      (none-both (badCount c) _ (none-cause _ 9 0 marks) (none-both (unjoined c 1) _ (none-causeAt 10 joins) none-nil))
+    where
+      bytes : uppermost (rowsOf c) (λ i. ltb 1 (inRow 1 (c .mark) i)) ≡ 0
+      bytes = uppermost-zero (rowsOf c) (λ i. ltb 1 (inRow 1 (c .mark) i)) (λ i l u. le-ltb 1 _ (t .zero-or-one i))
+
+      marks : not (eqb (suc (count (rowsOf c) (marked (c .mark)))) (c .n)) ≡ false
+      marks = ap not (eq-eqb _ _ (t .spanning .marks))
+
+      joins : uppermost (c .n) (λ v. not (joined (graphOf c) (marked (c .mark)) 1 v)) ≡ 0
+      joins =
+          uppermost-zero (c .n) (λ v. not (joined (graphOf c) (marked (c .mark)) 1 v))
+          (λ v l u. ap not (walk-joined (graphOf c) ok (marked (c .mark)) (t .spanning .inside) 1 (omega arith) (taken c a .some-vertex) v (t .spanning .reached v l u)))
+
+  -- the three forms of CST's answer
+  data Judged : Type 0 where
+    declined : (r : Refusal) → cst c ≡ refused r → (ClaimTree c → ⊥) → Judged
+    approved : ClaimTree c → rowIn (graphOf c) (weightOf c) (marked (c .mark)) ≡ 0 → cst c ≡ passed (claimWeight c) → Judged
+    faulted : ClaimTree c → (j : ℕ) → rowIn (graphOf c) (weightOf c) (marked (c .mark)) ≡ suc j → cst c ≡ judged c (suc j) (rowOut (graphOf c) (weightOf c) (marked (c .mark))) → Judged
+
+  judgement : Judged
+  unfolding cst verdict judged
+  judgement = go (refusal (cstCauses c)) refl
+    where
+      go₂ : (t : ClaimTree c) (i : ℕ) → rowIn (graphOf c) (weightOf c) (marked (c .mark)) ≡ i → Judged
+      go₂ t zero e = approved t e (ap (verdict c) (not-refused t) ∙ ap (λ i. judged c i (rowOut (graphOf c) (weightOf c) (marked (c .mark)))) e)
+      go₂ t (suc j) e = faulted t j e (ap (verdict c) (not-refused t) ∙ ap (λ i. judged c i (rowOut (graphOf c) (weightOf c) (marked (c .mark)))) e)
+
+      go : (o : Option Refusal) → refusal (cstCauses c) ≡ o → Judged
+      go none e = go₂ (tree-of e) _ refl
+      go (some r) e = declined r (ap (verdict c) e) (λ t. apart r (sym e ∙ not-refused t))
+
+  -- a claim is least among claims exactly where its rows are least among sets of rows
+  least-claim : ClaimTree c → Least (graphOf c) (weightOf c) (marked (c .mark)) → LeastClaim c
+  unfolding graphOf weightOf claimWeight
+  least-claim t l = record { tree = t; least = λ other o. l .least (marked other) (o .spanning) }
+
+  -- the claim that marks the rows of a spanning tree
+  claim-rows : (S : ℕ → Bool) → SpanningTree (graphOf c) S → marked (claimOf (rowsOf c) S) ≡ S
+  unfolding graphOf
+  claim-rows S t = marked-claimOf (rowsOf c) S (λ i e. upTo-in (rowsOf c) i (t .inside i e))
+
+  claim-tree : (S : ℕ → Bool) → SpanningTree (graphOf c) S → ClaimTree (withClaim c (claimOf (rowsOf c) S))
+  unfolding graphOf
+  claim-tree S t =
+      record {
+        bytes = claimOf-length (rowsOf c) S;
+        zero-or-one = claimOf-bytes (rowsOf c) S;
+        spanning = subst (λ (Q : ℕ → Bool). SpanningTree (graphOf c) Q) (sym (claim-rows S t)) t;
+      }
+
+  claim-least : LeastClaim c → Least (graphOf c) (weightOf c) (marked (c .mark))
+  unfolding graphOf weightOf claimWeight
+  claim-least l =
+      record {
+        tree = l .tree .spanning;
+        least =
+            λ S t.
+            subst (λ (Q : ℕ → Bool). claimWeight c ≤ sum (rowsOf c) (weightOf c) Q) (claim-rows S t)
+            (l .least _ (claim-tree S t));
+      }
+
+  -- what a lighter exchange of rows says of the claim's bytes
+  worth : ClaimTree c → (out into : ℕ) → Lighter (graphOf c) (weightOf c) (marked (c .mark)) out into → WorthExchange c out into (weightOf c out - weightOf c into)
+  unfolding graphOf weightOf claimWeight
+  worth t out into l =
+      record {
+        claim-tree = t;
+        out-marked = l .out-marked;
+        in-unmarked = l .in-unmarked;
+        tree =
+            record {
+              bytes = length-exchanged (c .mark) out into ∙ t .bytes;
+              zero-or-one = exchanged-bytes (c .mark) out into (o .0) (o .1) (i .0) (i .1) (t .zero-or-one);
+              spanning = subst (λ (Q : ℕ → Bool). SpanningTree (graphOf c) Q) (sym rows) (l .tree);
+            };
+        weight = rw rows (omega (arith, exchange-weight (graphOf c) ok (marked (c .mark)) (t .spanning) (weightOf c) out into (l .out-marked) (l .in-row) (l .in-unmarked), l .saves));
+        positive = omega (arith, l .saves);
+      }
+    where
+      o : (1 ≤ out) × (out ≤ length (c .mark))
+      o = marked-row (c .mark) out (l .out-marked)
+
+      i : (1 ≤ into) × (into ≤ length (c .mark))
+      i = (upTo-in (rowsOf c) into (l .in-row) .0, subst (λ n. into ≤ n) (sym (t .bytes)) (upTo-in (rowsOf c) into (l .in-row) .1))
+
+      rows : marked (exchanged (c .mark) out into) ≡ exchange (marked (c .mark)) out into
+      rows = marked-exchanged (c .mark) out into (o .0) (o .1) (i .0) (i .1)
+
+  -- the two forms of MST1's answer
+  data Grown : Type 0 where
+    unbuilt : tree (graphOf c) (weightOf c) ≡ none → mst1 c ≡ refused (record { number = 11; place = 0 }) → Grown
+    grown : (f : Fragment) → tree (graphOf c) (weightOf c) ≡ some f → mst1 c ≡ passed (sum (rowsOf c) (weightOf c) (f .chosen)) → mst1Marks c ≡ claimOf (rowsOf c) (f .chosen) → Grown
+
+  growth : Grown
+  unfolding mst1 mst1Marks built builtMarks mst1Causes noTree refusal orElse cause isNone treeRows chosenRows
+  growth = go (tree (graphOf c) (weightOf c)) refl
+    where
+      after : (o : Option Fragment) → tree (graphOf c) (weightOf c) ≡ o → refusal (mst1Causes c) ≡ refusal (cause (isNone o) 11 0 ∷ [])
+      after o e = refusal-append (tableCauses c) (noTree c ∷ []) a ∙ ap (λ x. refusal (cause (isNone x) 11 0 ∷ [])) e
+
+      go : (o : Option Fragment) → tree (graphOf c) (weightOf c) ≡ o → Grown
+      go none e = unbuilt e (ap (built c) (after none e))
+      go (some f) e =
+          grown f e
+          (ap (built c) (after (some f) e) ∙ ap (λ x. passed (sum (rowsOf c) (weightOf c) (chosenRows x))) e)
+          (ap (builtMarks c) (after (some f) e) ∙ ap (λ x. claimOf (rowsOf c) (chosenRows x)) e)
+
+  -- the verdict on a least tree
+  least-passed : LeastClaim c → cst c ≡ passed (claimWeight c)
+  unfolding judged
+  least-passed l =
+      elim judgement [
+        | declined r x n ↦ absurd (n (l .tree))
+        | approved t z x ↦ x
+        | faulted t j z x ↦ absurd (none-some (sym z ∙ good-none (graphOf c) ok (weightOf c) (marked (c .mark)) (t .spanning) (least-good (graphOf c) ok (weightOf c) (marked (c .mark)) (t .spanning) (claim-least l))))
+      ]
+
+  passed-least : (weight : ℕ) → cst c ≡ passed weight → LeastClaim c × (weight ≡ claimWeight c)
+  unfolding judged
+  passed-least weight e =
+      elim judgement [
+        | declined r x n ↦ absurd (refused-passed x e)
+        | approved t z x ↦ (least-claim t (good-least (graphOf c) ok (weightOf c) (marked (c .mark)) (t .spanning) (none-good (graphOf c) ok (weightOf c) (marked (c .mark)) (t .spanning) z)), cc)
+        | faulted t j z x ↦ absurd (passed-lighter e x)
+      ]
+
+  -- a spanning tree that is not least comes back lighter
+  comes-lighter : ClaimTree c → (LeastClaim c → ⊥) → (out into saving : ℕ) × (cst c ≡ lighter out into saving)
+  unfolding judged
+  comes-lighter t n =
+      elim judgement [
+        | declined r x k ↦ absurd (k t)
+        | approved t z x ↦ absurd (n (passed-least _ x .0))
+        | faulted t j z x ↦ (_, _, _, x)
+      ]
+
+  found : (t : ClaimTree c) (j : ℕ) → rowIn (graphOf c) (weightOf c) (marked (c .mark)) ≡ suc j → Lighter (graphOf c) (weightOf c) (marked (c .mark)) (rowOut (graphOf c) (weightOf c) (marked (c .mark))) (suc j)
+  found t j z = subst (λ (i : ℕ). Lighter (graphOf c) (weightOf c) (marked (c .mark)) (rowOut (graphOf c) (weightOf c) (marked (c .mark))) i) z (found-lighter (graphOf c) ok (weightOf c) (marked (c .mark)) (t .spanning) j z)
+
+  -- and an exchange that comes back is worth it
+  lighter-worth : (out into saving : ℕ) → cst c ≡ lighter out into saving → WorthExchange c out into saving
+  unfolding judged
+  lighter-worth out into saving e =
+      elim judgement [
+        | declined r x n ↦ absurd (refused-lighter x e)
+        | approved t z x ↦ absurd (passed-lighter x e)
+        | faulted t j z x ↦ subst₃ (WorthExchange c) (cc) (cc) (cc) (worth t (rowOut (graphOf c) (weightOf c) (marked (c .mark))) (suc j) (found t j z))
+      ]
+
+  -- the builder refuses exactly where there is no spanning tree
+  no-tree : mst1 c ≡ refused (record { number = 11; place = 0 }) → (other : List ℕ) → ClaimTree (withClaim c other) → ⊥
+  unfolding graphOf
+  no-tree e other t =
+      elim growth [
+        | unbuilt z x ↦ not-built (graphOf c) ok (weightOf c) z (marked other) (t .spanning)
+        | grown f z x k ↦ refused-passed e x
+      ]
+
+  refuses-no-tree : ((other : List ℕ) → ClaimTree (withClaim c other) → ⊥) → mst1 c ≡ refused (record { number = 11; place = 0 })
+  refuses-no-tree n =
+      elim growth [
+        | unbuilt z x ↦ x
+        | grown f z x k ↦ absurd (n _ (claim-tree (f .chosen) (built-spanning (graphOf c) ok (weightOf c) f z)))
+      ]
+
+  refuses-eleven : (r : Refusal) → mst1 c ≡ refused r → r ≡ record { number = 11; place = 0 }
+  refuses-eleven r e = elim growth [ unbuilt z x ↦ cc | grown f z x k ↦ absurd (refused-passed e x) ]
+
+  builds-tree : (other : List ℕ) → ClaimTree (withClaim c other) → (weight : ℕ) × (mst1 c ≡ passed weight)
+  builds-tree other t = elim growth [ unbuilt z x ↦ absurd (no-tree x other t) | grown f z x k ↦ (_, x) ]
+
+-- another claim of m bytes leaves the table accepted
+accepted-claim : (c : Call) (l : List ℕ) → length l ≡ length (c .mark) → Accepted c → Accepted (withClaim c l)
+unfolding tableCauses badVertices tooManyRows badLengths badRow badEnds tooHeavy weightOf
+accepted-claim c l e a = rw e a
+
+-- a least tree that was grown is passed as a claim, with its weight
+grown-passed : (c : Call) (a : Accepted c) (f : Fragment) → tree (graphOf c) (weightOf c) ≡ some f → cst (withClaim c (claimOf (rowsOf c) (f .chosen))) ≡ passed (sum (rowsOf c) (weightOf c) (f .chosen))
+unfolding graphOf weightOf claimWeight
+grown-passed c a f z = least-passed d b least ∙ ap (λ S. passed (sum (rowsOf c) (weightOf c) S)) rows
+  where
+    t : SpanningTree (graphOf c) (f .chosen)
+    t = built-spanning (graphOf c) (ok c a) (weightOf c) f z
+
+    rows : marked (claimOf (rowsOf c) (f .chosen)) ≡ f .chosen
+    rows = claim-rows c a (f .chosen) t
+
+    d : Call
+    d = withClaim c (claimOf (rowsOf c) (f .chosen))
+
+    b : Accepted d
+    b = accepted-claim c (claimOf (rowsOf c) (f .chosen)) (claimOf-length (rowsOf c) (f .chosen) ∙ sym (taken c a .mark-length)) a
+
+    least : LeastClaim d
+    least = least-claim d b (claim-tree c a (f .chosen) t) (subst (λ (S : ℕ → Bool). Least (graphOf c) (weightOf c) S) (sym rows) (built-least (graphOf c) (ok c a) (weightOf c) f z))
+
+-- what is built is passed, with the weight that was stated
+built-passed : (c : Call) → Accepted c → (weight : ℕ) → mst1 c ≡ passed weight → cst (withClaim c (mst1Marks c)) ≡ passed weight
+built-passed c a weight e =
+    elim (growth c a) [
+      | unbuilt z x ↦ absurd (refused-passed x e)
+      | grown f z x k ↦ ap (λ l. cst (withClaim c l)) k ∙ grown-passed c a f z ∙ sym x ∙ e
+    ]
+
+pub demand3 : Demand3
+demand3 c a =
+    record {
+      passes = (λ p. passed-least c a (p .0) (p .1) .0, λ l. (claimWeight c, least-passed c a l));
+      weight = λ weight e. passed-least c a weight e .1;
+      not-passed = comes-lighter c a;
+      exchange = lighter-worth c a;
+      refuses = (no-tree c a, refuses-no-tree c a);
+      refuses-only = refuses-eleven c a;
+      built = builds-tree c a;
+      builds = built-passed c a;
+    }
