@@ -5,3 +5,4 @@ pub mod PathRows
 pub mod Exchange
 pub mod Least
 pub mod Builder
+pub mod Meaning
