@@ -1,23 +1,21 @@
--- Least spanning trees and the checker.
--- Defines: CutExchange (a tree with a row exchanged in across a colouring), Lighter (what the checker's exchange is worth).
+-- Least spanning trees.
+-- Defines: CutExchange (a tree with a row exchanged in across a colouring), Lighter (what an exchange for a lighter row is worth).
 -- Main statements: the cut property (cut-property); a spanning tree is least exactly where it is good (good-least, least-good);
--- the checker finds no row exactly where it is good (none-good, good-none), and what it finds otherwise is a lighter exchange (found-lighter).
+-- a heavier row on the path of a row outside the tree makes a lighter exchange (lighter-exchange).
 -- Assumes nothing.
 use Prim.Native.Nat.{ℕ, zero, suc, _≤_, _<_}
-use borrow.Author.Tests.{ltb-false, eqb-true, eq-eqb, ne-eqb, not-true, not-false}
+use borrow.Author.Tests.{eqb-true, eq-eqb, ne-eqb, not-false}
 use lib.Dec.{eqb}
-use mathlib.Core.Bool.{Bool, true, false, not, _&&_, and-eq-true-iff}
+use mathlib.Core.Bool.{Bool, true, false}
 use mathlib.Core.Path.{_≡_, refl, sym, _∙_, ap}
 use native.Mathlib.Omega.{arith}
 use Rattle.graph.proofs.Exchange.{exchange-spanning, exchange-weight, crossing-on-path}
 use Rattle.rowset.proofs.Members.{without-in, in-without, count-fewer}
 use Rattle.graph.proofs.Path.{path-inside, cut-crossed, cut-crossed-once}
 use Rattle.graph.specs.Graph.{Graph, Sound, crosses}
-use Rattle.graph.specs.Least.{Least, Good, heavier, lighter, rowIn, rowOut}
+use Rattle.graph.specs.Least.{Least, Good}
 use Rattle.graph.specs.Tree.{SpanningTree, onPath, exchange}
-use Rattle.rowset.proofs.Laws.{clash, refuted, put-same, put-keeps, takeOut-other, uppermost-some, uppermost-none, uppermost-zero, any-found, any-none, sum-monotone}
-use Rattle.rowset.proofs.Searches.{greaterThan-in}
-use Rattle.rowset.specs.Searches.{greaterThan}
+use Rattle.rowset.proofs.Laws.{clash, refuted, put-same, put-keeps, takeOut-other, uppermost-some, uppermost-none, sum-monotone}
 use Rattle.rowset.specs.Sets.{sum, count, uppermost, without, takeOut}
 
 -- a spanning tree with row e that keeps every row of S that does not cross the colouring, and weighs no more than S
@@ -45,7 +43,7 @@ cut-property g ok w S t side e r c light = go (S e) refl
           kept = λ i h ci. put-keeps (takeOut S f) e i (takeOut-other S f i (λ q. clash cf (rw q at ci)) ∙ h);
         }
 
--- what the checker's exchange is worth: row e is marked, row f is a row of the graph that is not, the exchange is a spanning tree, and it is lighter
+-- what an exchange is worth: row e is in the tree, row f is a row of the graph that is not, the exchange is a spanning tree, and it is lighter
 pub record Lighter (g : Graph) (w : ℕ → ℕ) (S : ℕ → Bool) (e f : ℕ) : Type 0 where
   pub out-marked : S e ≡ true
   pub in-row : g .rows f ≡ true
@@ -122,43 +120,14 @@ module _ (g : Graph) (ok : Sound g) (w : ℕ → ℕ) (S : ℕ → Bool) (tree :
         exchange-weight g ok S tree w e f (path-inside g ok S tree (g .a f) (g .b f) e path) r out,
       )
 
-  -- the uppermost heavier row on the path of a lighter row makes a lighter exchange
-  lighter-exchange : (f : ℕ) → lighter g w S f ≡ true → Lighter g w S (uppermost (g .m) (heavier g w S f)) f
-  unfolding lighter heavier
-  lighter-exchange f h =
-      let (h′, some) = and-eq-true-iff (g .rows f && not (S f)) _ .0 h in
-      let (r, out) = and-eq-true-iff (g .rows f) _ .0 h′ in
-      let (j, u) = any-found (g .m) (heavier g w S f) some in
-      let (path, heavy) = greaterThan-in w (w f) (onPath g S (g .a f) (g .b f)) (suc j) (uppermost-some (g .m) j (heavier g w S f) u .0) in
-      rw u
-      (record {
-        out-marked = path-inside g ok S tree (g .a f) (g .b f) (suc j) path;
+  -- a heavier row on the path of an unmarked row makes a lighter exchange
+  pub lighter-exchange : (e f : ℕ) → g .rows f ≡ true → S f ≡ false → onPath g S (g .a f) (g .b f) e ≡ true → w f < w e → Lighter g w S e f
+  lighter-exchange e f r out path heavy =
+      record {
+        out-marked = path-inside g ok S tree (g .a f) (g .b f) e path;
         in-row = r;
-        in-unmarked = not-true (S f) out;
+        in-unmarked = out;
         on-path = path;
         saves = heavy;
-        tree = exchange-spanning g ok S tree (suc j) f r (not-true (S f) out) path;
-      })
-
-  -- the checker finds no row exactly where the tree is good
-  pub none-good : rowIn g w S ≡ 0 → Good g w S
-  unfolding rowIn lighter heavier greaterThan
-  none-good none f r out e path =
-      let (lf, uf) = ok .position f r in
-      let (le, ue) = ok .position e (tree .inside e (path-inside g ok S tree (g .a f) (g .b f) e path)) in
-      let no-heavier = rw (r, out) at (uppermost-none (g .m) (lighter g w S) none f lf uf) in
-      ltb-false (w f) (w e) (rw path at (any-none (g .m) (heavier g w S f) no-heavier e le ue))
-
-  pub good-none : Good g w S → rowIn g w S ≡ 0
-  unfolding rowIn
-  good-none good = uppermost-zero (g .m) (lighter g w S) (λ f _ _. refuted (lighter g w S f) (never f))
-    where
-      never : (f : ℕ) → lighter g w S f ≡ true → ⊥
-      never f h =
-          let x = lighter-exchange f h in
-          omega (arith, good f (x .in-row) (x .in-unmarked) _ (x .on-path))
-
-  -- and what it finds otherwise is a lighter exchange
-  pub found-lighter : (j : ℕ) → rowIn g w S ≡ suc j → Lighter g w S (rowOut g w S) (rowIn g w S)
-  unfolding rowIn rowOut
-  found-lighter j e = lighter-exchange (rowIn g w S) (rw e (uppermost-some (g .m) j (lighter g w S) e .0))
+        tree = exchange-spanning g ok S tree e f r out path;
+      }

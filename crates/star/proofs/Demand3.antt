@@ -15,7 +15,7 @@ use Rattle.graph.proofs.Joined.{unjoined-none}
 use Rattle.graph.proofs.Reach.{walk-joined}
 use Rattle.graph.specs.Builder.{Fragment, tree}
 use Rattle.graph.specs.Graph.{Graph, Sound, Inside, Walk, joined}
-use Rattle.graph.specs.Least.{Least, Good, rowIn, rowOut}
+use Rattle.graph.specs.Least.{Least}
 use Rattle.graph.specs.Tree.{SpanningTree, exchange}
 use Rattle.refusal.specs.declared.Refusal.{Refusal}
 use Rattle.rowset.proofs.Laws.{uppermost-none, uppermost-zero, in-upTo, upTo-in}
@@ -23,11 +23,12 @@ use Rattle.rowset.specs.Bytes.{inRow}
 use Rattle.rowset.specs.Sets.{upTo, uppermost, sum, count}
 use Rattle.graph.proofs.Builder.{built-spanning, built-least, not-built}
 use Rattle.graph.proofs.Exchange.{exchange-weight}
-use Rattle.graph.proofs.Least.{Lighter, good-least, least-good, none-good, good-none, found-lighter}
+use Rattle.graph.proofs.Least.{Lighter, good-least, least-good}
 use Rattle.star.proofs.Accepted.{none-head, none-tail, none-both, none-nil, refusal-append, cause-none, none-cause, causeAt-none, Taken, taken, sound}
+use Rattle.star.proofs.Checker.{none-good, good-none, found-lighter}
 use Rattle.star.proofs.Claims.{byte-outside, marked-row, marked-claimOf, claimOf-length, claimOf-bytes, marked-exchanged, exchanged-bytes}
 use Rattle.star.specs.Call.{Call, rowsOf, graphOf, weightOf, marked, claimWeight, withClaim, claimOf, exchanged}
-use Rattle.star.specs.Cst.{Answer, refused, passed, lighter, judged, verdict, cst}
+use Rattle.star.specs.Cst.{Answer, refused, passed, lighter, rowIn, rowOut, judged, verdict, cst}
 use Rattle.star.specs.Demand3.{ClaimTree, LeastClaim, WorthExchange, Holds, Demand3}
 use Rattle.star.specs.Mst1.{chosenRows, treeRows, built, mst1, builtMarks, mst1Marks}
 use Rattle.star.specs.Refusals.{cause, causeAt, badVertices, tooManyRows, badLengths, badRow, badEnds, tooHeavy, badClaim, badCount, unjoined, noTree, isNone, tableCauses, cstCauses, mst1Causes, refusal, orElse, Accepted}
@@ -129,16 +130,16 @@ module _ (c : Call) (a : Accepted c) where
   -- the three forms of CST's answer
   data Judged : Type 0 where
     declined : (r : Refusal) → cst c ≡ refused r → (ClaimTree c → ⊥) → Judged
-    approved : ClaimTree c → rowIn (graphOf c) (weightOf c) (marked (c .mark)) ≡ 0 → cst c ≡ passed (claimWeight c) → Judged
-    faulted : ClaimTree c → (j : ℕ) → rowIn (graphOf c) (weightOf c) (marked (c .mark)) ≡ suc j → cst c ≡ judged c (suc j) (rowOut (graphOf c) (weightOf c) (marked (c .mark))) → Judged
+    approved : ClaimTree c → rowIn c ≡ 0 → cst c ≡ passed (claimWeight c) → Judged
+    faulted : ClaimTree c → (j : ℕ) → rowIn c ≡ suc j → cst c ≡ judged c (suc j) (rowOut c) → Judged
 
   judgement : Judged
   unfolding cst verdict judged
   judgement = go (refusal (cstCauses c)) refl
     where
-      go₂ : (t : ClaimTree c) (i : ℕ) → rowIn (graphOf c) (weightOf c) (marked (c .mark)) ≡ i → Judged
-      go₂ t zero e = approved t e (ap (verdict c) (not-refused t) ∙ ap (λ i. judged c i (rowOut (graphOf c) (weightOf c) (marked (c .mark)))) e)
-      go₂ t (suc j) e = faulted t j e (ap (verdict c) (not-refused t) ∙ ap (λ i. judged c i (rowOut (graphOf c) (weightOf c) (marked (c .mark)))) e)
+      go₂ : (t : ClaimTree c) (i : ℕ) → rowIn c ≡ i → Judged
+      go₂ t zero e = approved t e (ap (verdict c) (not-refused t) ∙ ap (λ i. judged c i (rowOut c)) e)
+      go₂ t (suc j) e = faulted t j e (ap (verdict c) (not-refused t) ∙ ap (λ i. judged c i (rowOut c)) e)
 
       go : (o : Option Refusal) → refusal (cstCauses c) ≡ o → Judged
       go none e = go₂ (tree-of e) _ refl
@@ -227,7 +228,7 @@ module _ (c : Call) (a : Accepted c) where
       elim judgement [
         | declined r x n ↦ absurd (n (l .tree))
         | approved t z x ↦ x
-        | faulted t j z x ↦ absurd (none-some (sym z ∙ good-none (graphOf c) ok (weightOf c) (marked (c .mark)) (t .spanning) (least-good (graphOf c) ok (weightOf c) (marked (c .mark)) (t .spanning) (claim-least l))))
+        | faulted t j z x ↦ absurd (none-some (sym z ∙ good-none c ok (t .spanning) (least-good (graphOf c) ok (weightOf c) (marked (c .mark)) (t .spanning) (claim-least l))))
       ]
 
   passed-least : (weight : ℕ) → cst c ≡ passed weight → LeastClaim c × (weight ≡ claimWeight c)
@@ -235,7 +236,7 @@ module _ (c : Call) (a : Accepted c) where
   passed-least weight e =
       elim judgement [
         | declined r x n ↦ absurd (refused-passed x e)
-        | approved t z x ↦ (least-claim t (good-least (graphOf c) ok (weightOf c) (marked (c .mark)) (t .spanning) (none-good (graphOf c) ok (weightOf c) (marked (c .mark)) (t .spanning) z)), cc)
+        | approved t z x ↦ (least-claim t (good-least (graphOf c) ok (weightOf c) (marked (c .mark)) (t .spanning) (none-good c ok (t .spanning) z)), cc)
         | faulted t j z x ↦ absurd (passed-lighter e x)
       ]
 
@@ -249,8 +250,8 @@ module _ (c : Call) (a : Accepted c) where
         | faulted t j z x ↦ (_, _, _, x)
       ]
 
-  found : (t : ClaimTree c) (j : ℕ) → rowIn (graphOf c) (weightOf c) (marked (c .mark)) ≡ suc j → Lighter (graphOf c) (weightOf c) (marked (c .mark)) (rowOut (graphOf c) (weightOf c) (marked (c .mark))) (suc j)
-  found t j z = subst (λ (i : ℕ). Lighter (graphOf c) (weightOf c) (marked (c .mark)) (rowOut (graphOf c) (weightOf c) (marked (c .mark))) i) z (found-lighter (graphOf c) ok (weightOf c) (marked (c .mark)) (t .spanning) j z)
+  found : (t : ClaimTree c) (j : ℕ) → rowIn c ≡ suc j → Lighter (graphOf c) (weightOf c) (marked (c .mark)) (rowOut c) (suc j)
+  found t j z = subst (λ (i : ℕ). Lighter (graphOf c) (weightOf c) (marked (c .mark)) (rowOut c) i) z (found-lighter c ok (t .spanning) j z)
 
   -- and an exchange that comes back is worth it
   lighter-worth : (out into saving : ℕ) → cst c ≡ lighter out into saving → WorthExchange c out into saving
@@ -259,7 +260,7 @@ module _ (c : Call) (a : Accepted c) where
       elim judgement [
         | declined r x n ↦ absurd (refused-lighter x e)
         | approved t z x ↦ absurd (passed-lighter x e)
-        | faulted t j z x ↦ subst₃ (WorthExchange c) (cc) (cc) (cc) (worth t (rowOut (graphOf c) (weightOf c) (marked (c .mark))) (suc j) (found t j z))
+        | faulted t j z x ↦ subst₃ (WorthExchange c) (cc) (cc) (cc) (worth t (rowOut c) (suc j) (found t j z))
       ]
 
   -- the builder refuses exactly where there is no spanning tree

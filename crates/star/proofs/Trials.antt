@@ -4,19 +4,18 @@ use mathlib.Core.Bool.{xor}
 use mathlib.Core.Path.{_≡_, refl}
 use Rattle.graph.specs.Builder.{cheapest, choose, first, next, fragment, treeOf, tree}
 use Rattle.graph.specs.Graph.{crosses, withEnds, step, grow, joined}
-use Rattle.graph.specs.Least.{heavier, lighter, rowIn, rowOut}
 use Rattle.graph.specs.Tree.{onPath}
 use Rattle.rowset.specs.Bytes.{little, inRow}
 use Rattle.rowset.specs.Searches.{greaterThan, smallest}
-use Rattle.rowset.specs.Sets.{empty, upTo, both, put, takeOut, any, firstOf, uppermost, sum, count}
+use Rattle.rowset.specs.Sets.{empty, upTo, both, oneOf, without, put, takeOut, any, firstOf, uppermost, sum, count}
 use Rattle.rowset.specs.Words.{wordAt, wordsFrom, matrixWords}
 use Rattle.star.specs.Call.{graphOf, weightOf, marked, claimWeight, claimFrom, claimOf}
-use Rattle.star.specs.Cst.{judged, verdict, cst}
+use Rattle.star.specs.Cst.{between, heavier, improves, rowIn, rowOut, judged, verdict, cst}
 use Rattle.star.specs.MatrixPath.{pathColumn, matrixPath, matrixOr, matrixAfter}
 use Rattle.star.specs.Mst1.{chosenRows, treeRows, built, mst1, builtMarks, mst1Marks}
 use Rattle.star.specs.Refusals.{cause, causeAt, badVertices, tooManyRows, badLengths, badEnds, tooHeavy, badRow, badClaim, badSource, shortMatrix, badCount, unjoined, isNone, noTree, tableCauses, matrixPathCauses, cstCauses, mst1Causes, orElse, refusal}
 use Rattle.star.specs.Trials.{TrialsHold}
 
 pub trials-hold : TrialsHold
-unfolding xor cheapest choose first next fragment treeOf tree crosses withEnds step grow joined heavier lighter rowIn rowOut onPath little inRow greaterThan smallest empty upTo both put takeOut any firstOf uppermost sum count graphOf weightOf marked claimWeight claimFrom claimOf judged verdict cst wordAt wordsFrom matrixWords pathColumn matrixPath matrixOr matrixAfter chosenRows treeRows built mst1 builtMarks mst1Marks cause causeAt badVertices tooManyRows badLengths badEnds tooHeavy badRow badClaim badSource shortMatrix badCount unjoined isNone noTree tableCauses matrixPathCauses cstCauses mst1Causes orElse refusal
+unfolding xor cheapest choose first next fragment treeOf tree crosses withEnds step grow joined between heavier improves rowIn rowOut onPath little inRow greaterThan smallest empty upTo both oneOf without put takeOut any firstOf uppermost sum count graphOf weightOf marked claimWeight claimFrom claimOf judged verdict cst wordAt wordsFrom matrixWords pathColumn matrixPath matrixOr matrixAfter chosenRows treeRows built mst1 builtMarks mst1Marks cause causeAt badVertices tooManyRows badLengths badEnds tooHeavy badRow badClaim badSource shortMatrix badCount unjoined isNone noTree tableCauses matrixPathCauses cstCauses mst1Causes orElse refusal
 trials-hold = refl
