@@ -61,6 +61,17 @@ abbrev pub twice : List ℕ → Call
 twice claim =
     record { n = 2; left = 1 ∷ 2 ∷ []; right = 2 ∷ 1 ∷ []; weight = small 5 ++ small 3; mark = claim }
 
+-- a ring of four: 1-2 weight 5, 2-3 weight 9, 3-4 weight 1, 1-4 weight 2
+abbrev pub ring : List ℕ → Call
+ring claim =
+    record {
+      n = 4;
+      left = 1 ∷ 2 ∷ 3 ∷ 1 ∷ [];
+      right = 2 ∷ 3 ∷ 4 ∷ 4 ∷ [];
+      weight = small 5 ++ (small 9 ++ (small 1 ++ small 2));
+      mark = claim;
+    }
+
 -- n vertices and no row
 abbrev pub bare : ℕ → Call
 bare n = record { n = n; left = []; right = []; weight = []; mark = [] }
@@ -83,10 +94,13 @@ given =
     ∷ builds (bare 2)
     ∷ checks (twice (1 ∷ 0 ∷ []))
     ∷ checks (stem (1 ∷ 1 ∷ 1 ∷ 0 ∷ []))
+    ∷ builds (stem (0 ∷ 0 ∷ 0 ∷ 0 ∷ []))
+    ∷ checks (ring (1 ∷ 1 ∷ 1 ∷ 0 ∷ []))
     ∷ []
 
 -- what the trials say: rows 1, 2, 4 with weight 12; lighter, out 1, in 4, saving 1; passed, 12; refused 10, place 4; refused 9;
--- columns {1, 2}, {2}, Θ, {1, 2, 4}, and the words after them as they were; weight 0 and passed with 0; refused 11; lighter, out 1, in 2, saving 2; passed, 11
+-- columns {1, 2}, {2}, Θ, {1, 2, 4}, and the words after them as they were; weight 0 and passed with 0; refused 11; lighter, out 1, in 2, saving 2; passed, 11.
+-- Two more: the Stem is built without row 4, whose ends are both in the fragment; and of the heavier rows 1 and 2 the uppermost goes out, not the heaviest
 abbrev pub expected : List Outcome
 expected =
     built (passed 12) (1 ∷ 1 ∷ 0 ∷ 1 ∷ 0 ∷ [])
@@ -100,6 +114,8 @@ expected =
     ∷ built (refused (because 11 0)) []
     ∷ checked (lighter 1 2 2)
     ∷ checked (passed 11)
+    ∷ built (passed 11) (1 ∷ 1 ∷ 1 ∷ 0 ∷ [])
+    ∷ checked (lighter 1 4 3)
     ∷ []
 
 -- the theorem: each trial gives what it should
