@@ -5,4 +5,3 @@ pub mod Cst
 pub mod Mst1
 pub mod Door
 pub mod Trials
-pub mod Demand3

@@ -24,14 +24,14 @@ use Rattle.rowset.specs.Sets.{upTo, uppermost, sum, count}
 use Rattle.graph.proofs.Builder.{built-spanning, built-least, not-built}
 use Rattle.graph.proofs.Exchange.{exchange-weight}
 use Rattle.graph.proofs.Least.{Lighter, good-least, least-good}
 use Rattle.star.proofs.Accepted.{none-head, none-tail, none-both, none-nil, refusal-append, cause-none, none-cause, causeAt-none, Taken, taken, sound}
-use Rattle.star.proofs.Checker.{none-good, good-none, found-lighter}
+use Rattle.demand3.proofs.Checker.{none-good, good-none, found-lighter}
 use Rattle.star.proofs.Claims.{byte-outside, marked-row, marked-claimOf, claimOf-length, claimOf-bytes, marked-exchanged, exchanged-bytes}
 use Rattle.star.specs.Call.{Call, rowsOf, graphOf, weightOf, marked, claimWeight, withClaim, claimOf, exchanged}
 use Rattle.star.specs.Cst.{Answer, refused, passed, lighter, rowIn, rowOut, judged, verdict, cst}
-use Rattle.star.specs.Demand3.{ClaimTree, LeastClaim, WorthExchange, Holds, Demand3}
+use Rattle.demand3.specs.Demand3.{ClaimTree, LeastClaim, WorthExchange, Holds, Demand3}
 use Rattle.star.specs.Mst1.{chosenRows, treeRows, built, mst1, builtMarks, mst1Marks}
 use Rattle.star.specs.Refusals.{cause, causeAt, badVertices, tooManyRows, badLengths, badRow, badEnds, tooHeavy, badClaim, badCount, unjoined, noTree, isNone, tableCauses, cstCauses, mst1Causes, refusal, orElse, Accepted}
 
 -- position 0 holds no byte
 byte-none : (l : List ℕ) → inRow 1 l 0 ≡ 0

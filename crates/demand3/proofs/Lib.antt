@@ -1,0 +1,2 @@
+pub mod Checker
+pub mod Demand3
