@@ -6,3 +6,4 @@ pub mod Exchange
 pub mod Least
 pub mod Builder
 pub mod Meaning
+pub mod Trail
