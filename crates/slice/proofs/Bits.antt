@@ -1,6 +1,6 @@
 -- Laws of the bits of a number: of the operations and, or, xor and complement, of a power of two, of the lowest set bit, and that a number is its bits.
 -- Assumes nothing.
-use Prim.Native.Nat.{ℕ, zero, suc, _+_, _-_, _*_, _/_, _%_, _^_, _<_, _≤_}
+use Prim.Native.Nat.{ℕ, zero, suc, _+_, _-_, _/_, _%_, _^_, _<_}
 use mathlib.Core.Path.{_≡_, refl, sym, ap, ap₂, _∙_}
 use mathlib.Core.Bool.{Bool, true, false, not, cond, xor, _&&_, _||_}
 use native.Mathlib.Nat.{mod-eq-of-lt, div-one, zero-div, pow-suc}

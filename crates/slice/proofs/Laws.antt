@@ -1,6 +1,6 @@
 -- Laws of the components of a slice: where each stands among the words, what it is outside 1 to 1,024, and that a slice is its components.
 -- Assumes nothing.
-use Prim.Native.Nat.{ℕ, zero, suc, _+_, _-_, _*_, _/_, _%_, _^_, _<_, _≤_}
+use Prim.Native.Nat.{ℕ, _+_, _-_, _*_, _/_, _%_, _<_, _≤_}
 use mathlib.Core.Path.{_≡_, refl, sym, ap, ap₂, _∙_, fun-ext}
 use mathlib.Core.Bool.{Bool, true, false, not, cond, _&&_, _||_, true≢false}
 use mathlib.Core.List.{List}
@@ -12,7 +12,7 @@ use lib.ListN.{length, getD, set, replicate, getD-replicate}
 use lib.Seq.{ext-getD, getD-set-same, getD-set-other}
 use borrow.Author.Tests.{eq-eqb, ne-eqb, eqb-true, eqb-false}
 use Rattle.rowset.specs.Sets.{upTo, put, takeOut}
-use Rattle.slice.specs.Slices.{size, bit, component, written}
+use Rattle.slice.specs.Slices.{size, bit, component, written, SameComponents}
 use Rattle.slice.specs.declared.Slice.{Slice}
 use Rattle.slice.proofs.Bits.{same-bits}
 use Rattle.slice.proofs.Sets.{upTo-inside, upTo-below, upTo-above, upTo-bounds}
@@ -55,16 +55,15 @@ component-ext x p out inside = fun-ext (λ i. go i (upTo size i) refl)
         ∙ inside ((i - 1) / 64) ((i - 1) % 64) (omega arith) (omega arith)
         ∙ ap p at
 
--- Two slices of sixteen words of 64 bits with the same components are equal.
-pub same-components : (x y : Slice) → length (x .words) ≡ 16 → length (y .words) ≡ 16
-    → ((k : ℕ) → k < 16 → getD (x .words) k 0 < 2 ^ 64) → ((k : ℕ) → k < 16 → getD (y .words) k 0 < 2 ^ 64)
-    → component x ≡ component y → x ≡ y
-same-components x y lx ly wx wy e = ap (λ (l : List ℕ). record { words = l }) (ext-getD 0 (x .words) (y .words) (lx ∙ sym ly) same)
+-- two stored slices with the same components are equal
+pub same-components : SameComponents
+same-components x y hx hy e = ap (λ (l : List ℕ). record { words = l }) (ext-getD 0 (x .words) (y .words) (hx .sixteen ∙ sym (hy .sixteen)) same)
   where
     same : (k : ℕ) → k < length (x .words) → getD (x .words) k 0 ≡ getD (y .words) k 0
     same k h =
-        same-bits 64 (getD (x .words) k 0) (getD (y .words) k 0) (wx k (omega arith)) (wy k (omega arith))
-        (λ j l. sym (component-at x k j (omega arith) l) ∙ ap (λ (f : ℕ → Bool). f (64 * k + j + 1)) e ∙ component-at y k j (omega arith) l)
+        let l : k < 16 = omega (arith, hx .sixteen) in
+        same-bits 64 (getD (x .words) k 0) (getD (y .words) k 0) (hx .fits k l) (hy .fits k l)
+        (λ j g. sym (component-at x k j l g) ∙ ap (λ (f : ℕ → Bool). f (64 * k + j + 1)) e ∙ component-at y k j l g)
 
 -- a slice of sixteen equal words
 pub component-replicate : (w i : ℕ) → component (record { words = replicate 16 w }) i ≡ (upTo size i && bit w ((i - 1) % 64))

@@ -1,5 +1,5 @@
 -- The loop that and, or and xor share: word by word, an operation that is f on each bit. Assumes nothing.
-use Prim.Native.Nat.{ℕ, zero, suc, _+_, _*_, _<_, _≤_}
+use Prim.Native.Nat.{ℕ, _+_, _<_, _≤_}
 use mathlib.Core.Path.{_≡_, refl, sym, ap, ap₂, _∙_}
 use mathlib.Core.Bool.{Bool, false}
 use mathlib.Core.List.{List}
@@ -21,6 +21,7 @@ pub record Merged (op : ℕ → ℕ → ℕ) (x y : Slice) (r : Slice) (k : ℕ)
   pub rest : (i : ℕ) → k ≤ i → getD (r .words) i 0 ≡ getD (x .words) i 0
 
 module _ (op : ℕ → ℕ → ℕ) (x y : Slice) where
+  -- before the first word, and after one word more
   pub merged-none : length (x .words) ≡ 16 → Merged op x y x 0
   merged-none h = record { most = omega arith; full = h; done = λ i l. absurd (omega arith); rest = λ i l. refl }
 

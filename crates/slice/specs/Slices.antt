@@ -1,9 +1,10 @@
 -- What a slice means: its components, positions 1 to 1,024, read 0 outside.
 -- Assumes nothing.
-use Prim.Native.Nat.{ℕ, _/_, _%_, _-_, _^_}
+use Prim.Native.Nat.{ℕ, _/_, _%_, _-_, _^_, _<_}
 use mathlib.Core.Bool.{Bool, cond, _&&_}
+use mathlib.Core.Path.{_≡_}
 use lib.Dec.{eqb}
-use lib.ListN.{getD}
+use lib.ListN.{length, getD}
 use Rattle.rowset.specs.Sets.{upTo, put, takeOut}
 use Rattle.slice.specs.declared.Slice.{Slice}
 
@@ -22,3 +23,12 @@ component x i = upTo size i && bit (getD (x .words) ((i - 1) / 64) 0) ((i - 1) %
 -- a set of components after b is written at position k: nothing changes outside 1 to 1,024
 unfoldable pub written : (ℕ → Bool) → ℕ → Bool → ℕ → Bool
 written p k b = cond (upTo size k) (cond b (put p k) (takeOut p k)) p
+
+-- a slice as it is stored: sixteen words of 64 bits
+pub record Stored (x : Slice) : Type 0 where
+  pub sixteen : length (x .words) ≡ 16
+  pub fits : (k : ℕ) → k < 16 → getD (x .words) k 0 < 2 ^ 64
+
+-- The theorem that a slice is its components: two stored slices with the same components are equal.
+abbrev pub SameComponents : Type 0
+SameComponents = (x y : Slice) → Stored x → Stored y → component x ≡ component y → x ≡ y

@@ -182,3 +182,14 @@ pub fn step_value(x: Slice) -> Stepped
         slice: rest,
     }
 }
+
+// STEP: the position of the uppermost 1, 0 for Θ; that component of the caller's slice is cleared.
+pub fn step(x: &mut Slice) -> usize
+    ensures { λ r. ⌜
+        (r ≡ uppermost size (component (now (x .entry))))
+        × (component (now (x .exit)) ≡ takeOut (component (now (x .entry))) (uppermost size (component (now (x .entry))))) ⌝ }
+{
+    let s = step_value(*x);
+    *x = s.slice;
+    s.at
+}

@@ -1,26 +1,25 @@
 -- `slice::fnd` meets its contract. The loop's invariant: no component in the words below `k` is 1. The measure is what is left of the words.
 -- Assumes nothing.
-use Prim.Native.Nat.{ℕ, _+_, _-_, _*_, _/_, _%_, _^_, _<_, _≤_}
-use mathlib.Core.Bool.{true, false}
+use Prim.Native.Nat.{ℕ, suc, _+_, _-_, _*_, _^_, _<_, _≤_}
+use mathlib.Core.Bool.{false}
 use mathlib.Core.Logic.{by-cases}
-use mathlib.Core.Path.{_≡_, sym, ap, ap₂, _∙_}
+use mathlib.Core.Path.{_≡_, sym, ap, _∙_}
 use borrow.Author.Needs.{needs}
 use mir.Syntax.{w64}
 use mir.Val.{Fits}
 use native.Mathlib.Decide.{decLe}
+use native.Mathlib.Numerals.{add-one}
 use native.Mathlib.Omega.{arith}
 use lib.Count.{trailingZeros, trailing-le}
 use lib.ListN.{getD}
 use Rattle.rowset.specs.Sets.{uppermost}
+use Rattle.rowset.proofs.Laws.{uppermost-zero, uppermost-is}
 use Rattle.slice.specs.Slices.{size, bit, component}
 use Rattle.slice.specs.declared.Slice.{Slice}
 use Rattle.slice.proofs.Bits.{bit-of-zero, bit-below-trailing, bit-at-trailing}
-use Rattle.slice.proofs.Laws.{component-at, component-inside}
-use Rattle.slice.proofs.Sets.{uppermost-none, uppermost-is}
+use Rattle.slice.proofs.Laws.{component-at}
 use Rattle.slice.proofs.fnd.Statement.{statement}
 use Rattle.slice.proofs.fnd.Tie as tie
-use Rattle.slice.proofs.fnd.Reads as reads
-use Rattle.slice.proofs.fnd.Lts as lts
 
 -- no component in the words of x below k is 1
 abbrev Clear : Slice → ℕ → Type 0
@@ -42,7 +41,9 @@ found : (x : Slice) (k : ℕ) → k < 16 → 0 < getD (x .words) k 0 → getD (x
 found x k h p w below =
     let z = trailingZeros 64 (getD (x .words) k 0) in
     let t = bit-at-trailing 64 (getD (x .words) k 0) p w in
-    sym (uppermost-is size (component x) (64 * k + z + 1) (omega arith) (omega arith) (component-at x k z h (t .0) ∙ t .1)
+    let next : 64 * k + z + 1 ≡ suc (64 * k + z) = add-one (64 * k + z) in
+    next
+    ∙ sym (uppermost-is size (64 * k + z) (component x) (omega arith) (ap (component x) (sym next) ∙ component-at x k z h (t .0) ∙ t .1)
     (λ i l g.
     by-cases (decLe i (64 * k)) (λ o. below i l o)
     (λ o. in-word x k i h (omega arith) (omega arith) ∙ bit-below-trailing 64 (getD (x .words) k 0) (i - 1 - 64 * k) (omega arith))))
@@ -89,7 +90,7 @@ loop-again : tie.Need-loop-again Inv-loop μ-loop
 loop-again c = (omega arith, clear-more _ _ (omega arith) (c .if1 .left) (c .before .before .before .loop .inv .1))
 
 returns-2 : tie.Need-returns-2 Inv-loop μ-loop
-returns-2 c = sym (uppermost-none size _ (λ i l g. c .before .loop .inv .1 i l (omega arith)))
+returns-2 c = sym (uppermost-zero size _ (λ i l g. c .before .loop .inv .1 i l (omega arith)))
 
 pub fnd-spec : {M : Type 1} → statement M
 fnd-spec =

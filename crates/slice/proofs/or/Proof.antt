@@ -1,5 +1,5 @@
--- `slice::or` meets its contract. The loop's invariant: the words below `k` are joined, and the others are those of `x`. The measure is what is left of the words.
--- Assumes nothing.
+-- `slice::or` meets its contract, by the law of the loop that and, or and xor share. The loop's invariant: the words below `k` are joined, and the others are those of `x`.
+-- The measure is what is left of the words. Assumes nothing.
 use Prim.Native.Nat.{_-_}
 use mathlib.Core.Bool.{_||_}
 use mathlib.Core.Path.{refl}
@@ -18,54 +18,25 @@ Inv-loop y r₀ k₀ r k = Merged bitOr r₀ y r k
 abbrev μ-loop : tie.MeasureT-loop
 μ-loop y r₀ k₀ r k = 16 - k
 
-loop-holds : tie.Need-loop-holds Inv-loop μ-loop
-loop-holds c = merged-none bitOr _ _ (search needs)
-
-mul-r : tie.Need-mul-r Inv-loop μ-loop
-mul-r c = omega arith
-
-element-copy-out-r : tie.Need-element-copy-out-r Inv-loop μ-loop
-element-copy-out-r c = omega arith
-
-mul-r-2 : tie.Need-mul-r-2 Inv-loop μ-loop
-mul-r-2 c = omega arith
-
-element-copy-out-r-2 : tie.Need-element-copy-out-r-2 Inv-loop μ-loop
-element-copy-out-r-2 c = omega arith
-
-mul-r-3 : tie.Need-mul-r-3 Inv-loop μ-loop
-mul-r-3 c = omega arith
-
-element-write-r : tie.Need-element-write-r Inv-loop μ-loop
-element-write-r c = omega arith
-
-add-k : tie.Need-add-k Inv-loop μ-loop
-add-k c = omega arith
-
-loop-less : tie.Need-loop-less Inv-loop μ-loop
-loop-less c = omega arith
-
-loop-again : tie.Need-loop-again Inv-loop μ-loop
-loop-again c = merged-more bitOr _ _ _ _ (omega arith) (c .before .before .before .loop .inv)
-
 returns : tie.Need-returns Inv-loop μ-loop
 unfolding either
 returns c = merged-all bitOr _ _ _||_ or-bitwise refl _ _ (omega arith) (c .before .loop .inv)
 
+-- What `omega` answers: that each index is below sixteen, that no sum or product of it wraps, and that the measure falls.
 pub or-spec : {M : Type 1} → statement M
 or-spec =
     tie.close
     (tie.spec
     Inv-loop
     μ-loop
-    loop-holds
-    mul-r
-    element-copy-out-r
-    mul-r-2
-    element-copy-out-r-2
-    mul-r-3
-    element-write-r
-    add-k
-    loop-less
-    loop-again
+    (λ c. merged-none bitOr _ _ (search needs))
+    (λ c. omega arith)
+    (λ c. omega arith)
+    (λ c. omega arith)
+    (λ c. omega arith)
+    (λ c. omega arith)
+    (λ c. omega arith)
+    (λ c. omega arith)
+    (λ c. omega arith)
+    (λ c. merged-more bitOr _ _ _ _ (omega arith) (c .before .before .before .loop .inv))
     returns)

@@ -14,8 +14,6 @@ use Rattle.slice.proofs.Laws.{component-set, written-outside}
 use Rattle.slice.proofs.Sets.{upTo-inside, upTo-below, upTo-above}
 use Rattle.slice.proofs.put.Statement.{statement}
 use Rattle.slice.proofs.put.Tie as tie
-use Rattle.slice.proofs.put.Reads as reads
-use Rattle.slice.proofs.put.Lts as lts
 
 -- the mask: 1 shifted by less than 64 does not wrap
 mask : (k : ℕ) → k < 64 → (1 * 2 ^ k) % 2 ^ 64 ≡ 2 ^ k

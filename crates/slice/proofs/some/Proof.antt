@@ -4,7 +4,7 @@ use mathlib.Core.Bool.{not}
 use mathlib.Core.Path.{ap}
 use borrow.Author.Needs.{needs}
 use lib.Dec.{eqb}
-use Rattle.slice.proofs.Sets.{any-uppermost}
+use Rattle.rowset.proofs.Laws.{any-uppermost}
 use Rattle.slice.proofs.some.Statement.{statement}
 use Rattle.slice.proofs.some.Tie as tie
 
