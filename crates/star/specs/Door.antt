@@ -41,15 +41,15 @@ wellLent answer = eqb (length answer) 16
 unfoldable pub doorReturns : List ℕ → ℕ
 doorReturns answer = cond (wellLent answer) 1 0
 
--- the lent answer afterwards, for CST and for MST1
-unfoldable pub answerAfter : List ℕ → Answer → List ℕ
-answerAfter answer x = cond (wellLent answer) (fieldBytes (fields x)) answer
+-- the lent answer with these fields written, for CST and for MST1
+unfoldable pub written : List ℕ → Fields → List ℕ
+written answer f = cond (wellLent answer) (fieldBytes f) answer
 
 unfoldable pub cstDoor : Call → List ℕ → List ℕ
-cstDoor c answer = answerAfter answer (cst c)
+cstDoor c answer = written answer (fields (cst c))
 
 unfoldable pub mst1Door : Call → List ℕ → List ℕ
-mst1Door c answer = answerAfter answer (mst1 c)
+mst1Door c answer = written answer (fields (mst1 c))
 
 -- the mark column after MST1 was called through the door; CST writes no mark
 unfoldable pub mst1DoorMarks : Call → List ℕ → List ℕ

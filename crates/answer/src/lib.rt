@@ -1,0 +1,72 @@
+// The sixteen bytes of an answer, written in one place for every door.
+ghost use mathlib.Core.Path.{_≡_};
+ghost use Rattle.star.specs.Door.{fieldBytes, written};
+ghost use Rattle.answer.specs.Records.{fieldsOf};
+
+// What bytes 6 and 7 hold.
+const UNUSED: u8 = 0;
+
+// The fields of an answer; a field that a kind lacks is 0.
+pub struct Record {
+    // 0 refused, 1 passed or tree built, 2 lighter
+    pub kind: u32,
+    // the refusal's number
+    pub number: u32,
+    // the row that goes out, or the refusal's place
+    pub out: u32,
+    // the row that comes in
+    pub into: u32,
+    // the weight or the saving
+    pub amount: u64,
+}
+
+// The sixteen bytes, each field least significant byte first.
+pub fn bytes_of(x: Record) -> [u8; 16]
+    ensures { λ r. ⌜ r ≡ fieldBytes (fieldsOf x) ⌝ }
+{
+    let kind = x.kind;
+    let number = x.number;
+    let out = x.out;
+    let into = x.into;
+    let a0 = x.amount;
+    let a1 = a0 / 256;
+    let a2 = a1 / 256;
+    let a3 = a2 / 256;
+    let a4 = a3 / 256;
+    let a5 = a4 / 256;
+    let a6 = a5 / 256;
+    let a7 = a6 / 256;
+    [
+        (kind % 256) as u8,
+        (number % 256) as u8,
+        (out % 256) as u8,
+        (out / 256 % 256) as u8,
+        (into % 256) as u8,
+        (into / 256 % 256) as u8,
+        UNUSED,
+        UNUSED,
+        (a0 % 256) as u8,
+        (a1 % 256) as u8,
+        (a2 % 256) as u8,
+        (a3 % 256) as u8,
+        (a4 % 256) as u8,
+        (a5 % 256) as u8,
+        (a6 % 256) as u8,
+        (a7 % 256) as u8,
+    ]
+}
+
+// Writes the sixteen bytes where the lent answer has sixteen; else nothing.
+pub fn write_answer(answer: &mut [u8], x: Record)
+    ensures { λ _. ⌜ now (answer .exit) ≡ written (now (answer .entry)) (fieldsOf x) ⌝ }
+{
+    if answer.len() != 16 {
+        return;
+    }
+    let bytes = bytes_of(x);
+    let mut i = 0;
+    while i < 16 {
+        answer[i] = bytes[i];
+        i += 1;
+    }
+}
