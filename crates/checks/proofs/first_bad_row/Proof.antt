@@ -1,0 +1,55 @@
+-- `checks::first_bad_row` meets its contract. The loop's invariant: none of the rows above row i has a fault.
+-- The measure is what is left of the rows. Assumes nothing.
+use Prim.Native.Nat.{_+_, _-_, _≤_}
+use borrow.Author.Tests.{eq-eqb, ne-eqb}
+use lib.ListN.{length}
+use mathlib.Core.Bool.{not}
+use mathlib.Core.Path.{ap}
+use native.Mathlib.Omega.{arith}
+use Rattle.checks.specs.Checks.{faulty}
+use Rattle.checks.proofs.Laws.{Passed, passed-none, passed-more, passed-found, passed-all}
+use Rattle.checks.proofs.first_bad_row.Statement.{statement}
+use Rattle.checks.proofs.first_bad_row.Tie as tie
+
+abbrev Inv-loop : tie.InvT-loop
+Inv-loop n left right weight i₀ i = (1 ≤ i) × (i ≤ length left + 1) × Passed (faulty n left right weight) i
+
+abbrev μ-loop : tie.MeasureT-loop
+μ-loop n left right weight i₀ i = length left + 1 - i
+
+loop-holds : tie.Need-loop-holds Inv-loop μ-loop
+loop-holds c = (omega arith, omega arith, passed-none _)
+
+row-fault-requires : tie.Need-row-fault-requires Inv-loop μ-loop
+row-fault-requires c κs = tt
+
+returns : tie.Need-returns Inv-loop μ-loop
+unfolding faulty
+returns c = passed-found _ _ _ (omega arith) (omega arith) (c .before .before .before .loop .inv .2) (rw (c .before .row-fault .ensures) at (ap not (ne-eqb _ _ (c .if1 .taken))))
+
+add-i : tie.Need-add-i Inv-loop μ-loop
+add-i c = omega arith
+
+loop-less : tie.Need-loop-less Inv-loop μ-loop
+loop-less c = omega arith
+
+loop-again : tie.Need-loop-again Inv-loop μ-loop
+unfolding faulty
+loop-again c = (omega arith, omega arith, passed-more _ _ (c .before .before .before .loop .inv .2) (rw (c .before .row-fault .ensures) at (ap not (eq-eqb _ _ (c .if1 .left)))))
+
+returns-2 : tie.Need-returns-2 Inv-loop μ-loop
+returns-2 c = passed-all _ _ _ (omega arith) (c .before .loop .inv .2)
+
+pub first-bad-row-spec : {M : Type 1} → statement M
+first-bad-row-spec =
+    tie.close
+    (tie.spec
+    Inv-loop
+    μ-loop
+    loop-holds
+    row-fault-requires
+    returns
+    add-i
+    loop-less
+    loop-again
+    returns-2)
