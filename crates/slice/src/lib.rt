@@ -5,6 +5,7 @@ ghost use mathlib.Core.Bool.{not};
 ghost use Rattle.rowset.specs.Sets.{empty, upTo, both, either, oneOf, without, takeOut, any, uppermost};
 ghost use Rattle.slice.specs.Slices.{size, component, written};
 
+pub mod difference; // difference.rt: one slice without another
 pub mod matrix; // matrix.rt: columns of the path matrix
 
 // The number of components of a slice, of the words that hold them, and of the components in a word.

@@ -1,0 +1,194 @@
+-- The invariants of the loops over a table's columns, from column `first` + 1 on: j columns are read or left out.
+-- Assumes nothing.
+use Prim.Native.Nat.{ℕ, zero, suc, _+_, _-_, _*_, _/_, _%_, _^_, _≤_, _<_}
+use native.Mathlib.Omega.{arith}
+use native.Mathlib.Nat.{sub-self, div-one}
+use mathlib.Core.Bool.{Bool, true, false, cond, and-eq-true-iff}
+use mathlib.Core.Path.{_≡_, refl, sym, _∙_, fun-ext}
+use mathlib.Core.List.{List, [], _∷_}
+use lib.Dec.{eqb}
+use lib.ListN.{getD, replicate}
+use lib.Pow.{shr-shr}
+use borrow.Author.Tests.{eqb-true, eqb-false}
+use Rattle.rowset.specs.Columns.{number}
+use Rattle.rowset.specs.Sets.{empty, upTo}
+use Rattle.rowset.proofs.Laws.{upTo-in}
+use Rattle.rowset.specs.Searches.{equalTo, greaterThan}
+use Rattle.slice.specs.Slices.{size, component}
+use Rattle.slice.specs.declared.Slice.{Slice}
+use Rattle.table.specs.Tables.{column, blank}
+use Rattle.table.specs.declared.Table.{Table}
+use Rattle.search.specs.Steps.{kept, grown, preferred, extreme}
+use Rattle.search.proofs.Steps.{match-step, great-step, great-start}
+use Rattle.search.proofs.Extremes.{extreme-start, extreme-step}
+
+-- the last binary digit of n
+abbrev digit : ℕ → Bool
+digit n = eqb (n % 2) 1
+
+last-digit : (n : ℕ) → n ≡ 2 * (n / 2) + cond (digit n) 1 0
+last-digit n = go (digit n) refl
+  where
+    go : (b : Bool) → digit n ≡ b → n ≡ 2 * (n / 2) + cond b 1 0
+    go true e = omega (arith, eqb-true (n % 2) 1 e)
+    go false e = let h : n % 2 ≡ 1 → ⊥ = eqb-false (n % 2) 1 e in omega (arith, h)
+
+-- the number w in its upper digits, with one more of them
+one-more-digit : (w j : ℕ) → j < 32 → w / 2 ^ (32 - (j + 1)) ≡ 2 * (w / 2 ^ (32 - j)) + cond (digit (w / 2 ^ (32 - 1 - j))) 1 0
+one-more-digit w j h =
+    let e : 32 - (j + 1) ≡ 32 - 1 - j = omega arith in
+    let d : 32 - j ≡ 32 - 1 - j + 1 = omega arith in
+    rw (e, d, ← shr-shr w (32 - 1 - j) 1) (last-digit (w / 2 ^ (32 - 1 - j)))
+
+-- what stands past the end of a table's columns, as the code's reading of an element has it
+abbrev pub none : Slice
+none = record { words = [] }
+
+-- the word of a slice of zeros
+zero-word : (n k : ℕ) → _≡_ {A = ℕ} (getD (replicate n 0) k 0) 0
+zero-word zero k = refl
+zero-word (suc n) zero = refl
+zero-word (suc n) (suc k) = zero-word n k
+
+-- past the end a column is Θ either way
+past-end : component blank ≡ component none
+unfolding component
+past-end = fun-ext (λ i. rw zero-word)
+
+column-either : (l : List Slice) (j : ℕ) → component (getD l j blank) ≡ component (getD l j none)
+column-either [] j = past-end
+column-either (x ∷ l) zero = refl
+column-either (x ∷ l) (suc j) = column-either l j
+
+-- the column that the code reads at index j
+pub column-read : (t : Table) (j : ℕ) → column t (suc j) ≡ component (getD (t .columns) j none)
+unfolding column
+column-read t j = column-either (t .columns) j
+
+-- the columns read or left out, with one more of them
+next-count : (first j : ℕ) → first ≤ j → j + 1 - first ≡ suc (j - first)
+next-count first j h = omega arith
+
+next-column : (t : Table) (first j : ℕ) → first ≤ j → column t (first + suc (j - first)) ≡ component (getD (t .columns) j none)
+next-column t first j h =
+    let e : first + suc (j - first) ≡ suc j = omega arith in
+    rw e (column-read t j)
+
+-- what the rows in the running are after j columns: those that equal w in the columns read, where z₀ is what they were before the first column
+pub record Matched (t : Table) (first w : ℕ) (z₀ z : Slice) (j : ℕ) : Type 0 where
+  pub from : first ≤ j
+  pub upto : j - first ≤ 32 - first
+  pub equal : (X : ℕ → Bool)
+      → component z₀ ≡ equalTo (number (column t) first 0) (w / 2 ^ (32 - first)) X
+      → component z ≡ equalTo (number (column t) first (j - first)) (w / 2 ^ (32 - j)) X
+
+module _ (t : Table) (first w : ℕ) (z₀ : Slice) where
+  pub matched-start : Matched t first w z₀ z₀ first
+  matched-start = record { from = omega arith; upto = omega arith; equal = λ X h. rw sub-self h }
+
+  pub matched-more : (z z′ : Slice) (j : ℕ) → j < 32
+      → component z′ ≡ kept (digit (w / 2 ^ (32 - 1 - j))) (component z) (component (getD (t .columns) j none))
+      → Matched t first w z₀ z j
+      → Matched t first w z₀ z′ (j + 1)
+  matched-more z z′ j h e m =
+      record {
+        from = omega arith;
+        upto = omega arith;
+        equal = λ X s.
+            rw (
+              next-count first j (m .from),
+              one-more-digit w j h,
+              match-step (column t) first (j - first),
+              next-column t first j (m .from),
+              ← m .equal X s,
+            ) e;
+      }
+
+  pub matched-all : (z : Slice) (j : ℕ) (X : ℕ → Bool) → 32 ≤ j
+      → component z₀ ≡ equalTo (number (column t) first 0) (w / 2 ^ (32 - first)) X
+      → Matched t first w z₀ z j
+      → component z ≡ equalTo (number (column t) first (32 - first)) w X
+  matched-all z j X h s m =
+      let e : j - first ≡ 32 - first = omega arith in
+      let d : 32 - j ≡ 0 = omega arith in
+      rw (← e) (rw (d, div-one) at (m .equal X s))
+
+-- what the rows found greater are after j columns, beside the rows in the running
+pub record Compared (t : Table) (first w : ℕ) (z₀ g z : Slice) (j : ℕ) : Type 0 where
+  pub matched : Matched t first w z₀ z j
+  pub greater : (X : ℕ → Bool)
+      → component z₀ ≡ equalTo (number (column t) first 0) (w / 2 ^ (32 - first)) X
+      → component g ≡ greaterThan (number (column t) first (j - first)) (w / 2 ^ (32 - j)) X
+
+module _ (t : Table) (first w : ℕ) (z₀ : Slice) where
+  pub compared-start : (g : Slice) → component g ≡ empty → Compared t first w z₀ g z₀ first
+  unfolding number
+  compared-start g e = record { matched = matched-start t first w z₀; greater = λ X h. rw sub-self (e ∙ sym (great-start _ X)) }
+
+  pub compared-more : (g g′ z z′ : Slice) (j : ℕ) → j < 32
+      → component g′ ≡ grown (digit (w / 2 ^ (32 - 1 - j))) (component g) (component z) (component (getD (t .columns) j none))
+      → component z′ ≡ kept (digit (w / 2 ^ (32 - 1 - j))) (component z) (component (getD (t .columns) j none))
+      → Compared t first w z₀ g z j
+      → Compared t first w z₀ g′ z′ (j + 1)
+  compared-more g g′ z z′ j h e d m =
+      record {
+        matched = matched-more t first w z₀ z z′ j h d (m .matched);
+        greater = λ X s.
+            rw (
+              next-count first j (m .matched .from),
+              one-more-digit w j h,
+              great-step (column t) first (j - first),
+              next-column t first j (m .matched .from),
+              ← m .greater X s,
+              ← m .matched .equal X s,
+            ) e;
+      }
+
+  pub compared-all : (g z : Slice) (j : ℕ) (X : ℕ → Bool) → 32 ≤ j
+      → component z₀ ≡ equalTo (number (column t) first 0) (w / 2 ^ (32 - first)) X
+      → Compared t first w z₀ g z j
+      → component g ≡ greaterThan (number (column t) first (32 - first)) w X
+  compared-all g z j X h s m =
+      let e : j - first ≡ 32 - first = omega arith in
+      let d : 32 - j ≡ 0 = omega arith in
+      rw (← e) (rw (d, div-one) at (m .greater X s))
+
+-- what the rows in the running are after j columns of MIN or MAX: those that come first in the columns read, where z₀ is what they were before the first column
+pub record Sought (t : Table) (first : ℕ) (high : Bool) (z₀ z : Slice) (j : ℕ) : Type 0 where
+  pub from : first ≤ j
+  pub upto : j - first ≤ 32 - first
+  pub extremes : component z ≡ extreme high size (number (column t) first (j - first)) (component z₀)
+
+-- a slice selects only rows of 1 to 1,024
+pub component-in : (x : Slice) (i : ℕ) → component x i ≡ true → (1 ≤ i) × (i ≤ size)
+unfolding component
+component-in x i e = upTo-in size i (and-eq-true-iff (upTo size i) _ .0 e .0)
+
+module _ (t : Table) (first : ℕ) (high : Bool) (z₀ : Slice) where
+  pub sought-start : Sought t first high z₀ z₀ first
+  unfolding number
+  sought-start = record { from = omega arith; upto = omega arith; extremes = rw sub-self (sym (extreme-start high size (component z₀))) }
+
+  pub sought-more : (z z′ : Slice) (j : ℕ) → j < 32
+      → component z′ ≡ preferred size high (component z) (component (getD (t .columns) j none))
+      → Sought t first high z₀ z j
+      → Sought t first high z₀ z′ (j + 1)
+  sought-more z z′ j h e m =
+      record {
+        from = omega arith;
+        upto = omega arith;
+        extremes =
+            rw (
+              next-count first j (m .from),
+              extreme-step high size (component z₀) (component-in z₀) (column t) first (j - first),
+              next-column t first j (m .from),
+              ← m .extremes,
+            ) e;
+      }
+
+  pub sought-all : (z : Slice) (j : ℕ) → 32 ≤ j
+      → Sought t first high z₀ z j
+      → component z ≡ extreme high size (number (column t) first (32 - first)) (component z₀)
+  sought-all z j h m =
+      let e : j - first ≡ 32 - first = omega arith in
+      rw (← e) (m .extremes)
