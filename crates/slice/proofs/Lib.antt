@@ -3,3 +3,5 @@ pub mod Sets
 pub mod Laws
 pub mod Merge
 pub mod MatrixLaws
+pub mod Digits
+pub mod Stores

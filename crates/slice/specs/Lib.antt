@@ -1,2 +1,4 @@
 pub mod Slices
 pub mod Matrix
+pub mod Planes
+pub mod Blocks

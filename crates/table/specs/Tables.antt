@@ -2,20 +2,16 @@
 -- Assumes nothing.
 use Prim.Native.Nat.{ℕ, zero, suc}
 use mathlib.Core.Bool.{Bool}
-use lib.ListN.{getD, replicate}
+use lib.ListN.{getD}
 use Rattle.rowset.specs.Columns.{number}
 use Rattle.rowset.specs.Sets.{empty}
+pub use Rattle.slice.specs.Planes.{blank}
 use Rattle.slice.specs.Slices.{component}
-use Rattle.slice.specs.declared.Slice.{Slice}
 use Rattle.table.specs.declared.Table.{Table}
 
 -- the number of columns of a table
 abbrev pub width : ℕ
 width = 32
-
--- the slice whose components are all 0
-abbrev pub blank : Slice
-blank = record { words = replicate 16 0 }
 
 -- the rows whose bit in column j is 1: COL, empty outside 1 to 32
 unfoldable pub column : Table → ℕ → ℕ → Bool

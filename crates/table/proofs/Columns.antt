@@ -1,0 +1,70 @@
+-- Laws of the number in bit columns: its bound, columns in two parts, and that the columns are the number's bits.
+-- Assumes nothing.
+use Prim.Native.Nat.{ℕ, zero, suc, _+_, _-_, _*_, _/_, _%_, _^_, _≤_, _<_}
+use mathlib.Core.Bool.{Bool, true, false, cond}
+use mathlib.Core.Path.{_≡_, refl, sym, ap, _∙_}
+use native.Mathlib.Nat.{add-zero, add-suc, sub-zero, suc-sub-suc, mul-assoc, pow-suc, pow-zero}
+use native.Mathlib.Omega.{arith}
+use lib.Dec.{eqb}
+use borrow.Author.Tests.{eqb-true, eqb-false}
+use Rattle.rowset.specs.Columns.{number}
+use Rattle.slice.specs.Slices.{bit}
+use Rattle.slice.proofs.Bits.{bit-zero, bit-suc}
+
+-- a bit as a number is below 2, and it is the bit of that number
+bit-small : (b : Bool) → cond b 1 0 < 2
+bit-small true = omega arith
+bit-small false = omega arith
+
+bit-back : (b : Bool) → eqb (cond b 1 0) 1 ≡ b
+bit-back true = refl
+bit-back false = refl
+
+digit-back : (d : ℕ) → d < 2 → cond (eqb d 1) 1 0 ≡ d
+digit-back d h = go (eqb d 1) refl
+  where
+    go : (b : Bool) → eqb d 1 ≡ b → cond b 1 0 ≡ d
+    go true e = sym (eqb-true d 1 e)
+    go false e = omega (arith, eqb-false d 1 e)
+
+module _ (c : ℕ → ℕ → Bool) where
+  -- n columns hold a number below 2 ^ n
+  pub number-below : (s n i : ℕ) → number c s n i < 2 ^ n
+  unfolding number
+  number-below s zero i = omega (arith, pow-zero 2)
+  number-below s (suc n) i = omega (arith, number-below s n i, bit-small (c (s + suc n) i), pow-suc 2 n)
+
+  -- the number in m + n columns is made of the numbers in the first m and in the last n
+  pub number-split : (s m n i : ℕ) → number c s (m + n) i ≡ number c s m i * 2 ^ n + number c (s + m) n i
+  unfolding number
+  number-split s m zero i = rw add-zero (omega arith)
+  number-split s m (suc n) i =
+      let e : s + suc (m + n) ≡ s + m + suc n = omega arith in
+      rw (add-suc m n, e, pow-suc 2 n, ← mul-assoc (number c s m i) (2 ^ n) 2) (omega (arith, number-split s m n i))
+
+  -- columns that hold the bits of w hold w
+  pub number-bits : (s n w i : ℕ) → w < 2 ^ n → ((k : ℕ) → k < n → c (s + (n - k)) i ≡ bit w k) → number c s n i ≡ w
+  unfolding number
+  number-bits s zero w i h f = omega (arith, pow-zero 2)
+  number-bits s (suc n) w i h f =
+      let low : c (s + suc n) i ≡ eqb (w % 2) 1 = (rw sub-zero at (f 0 (omega arith))) ∙ bit-zero w in
+      let high : number c s n i ≡ w / 2 =
+      number-bits s n (w / 2) i (omega (arith, pow-suc 2 n)) (λ k l. (rw suc-sub-suc at (f (suc k) (omega arith))) ∙ bit-suc w k) in
+      rw (high, low, digit-back (w % 2) (omega arith)) (omega arith)
+
+  -- a column is a bit of the number
+  pub number-bit : (s n i k : ℕ) → k < n → bit (number c s n i) k ≡ c (s + (n - k)) i
+  unfolding number
+  number-bit s zero i k h = absurd (omega arith)
+  number-bit s (suc n) i zero h =
+      let e : (2 * number c s n i + cond (c (s + suc n) i) 1 0) % 2 ≡ cond (c (s + suc n) i) 1 0 = omega (arith, bit-small (c (s + suc n) i)) in
+      rw sub-zero (bit-zero (2 * number c s n i + cond (c (s + suc n) i) 1 0) ∙ ap (λ d. eqb d 1) e ∙ bit-back (c (s + suc n) i))
+  number-bit s (suc n) i (suc k) h =
+      let e : (2 * number c s n i + cond (c (s + suc n) i) 1 0) / 2 ≡ number c s n i = omega (arith, bit-small (c (s + suc n) i)) in
+      rw suc-sub-suc (bit-suc (2 * number c s n i + cond (c (s + suc n) i) 1 0) k ∙ ap (λ d. bit d k) e ∙ number-bit s n i k (omega arith))
+
+-- columns that agree hold the same number
+pub number-ext : (c d : ℕ → ℕ → Bool) (s t n i : ℕ) → ((k : ℕ) → 1 ≤ k → k ≤ n → c (s + k) i ≡ d (t + k) i) → number c s n i ≡ number d t n i
+unfolding number
+number-ext c d s t zero i f = refl
+number-ext c d s t (suc n) i f = rw (number-ext c d s t n i (λ k l u. f k l (omega arith)), f (suc n) (omega arith) (omega arith))

@@ -1,0 +1,86 @@
+-- Laws of tables for whoever uses them: what the columns and rows are outside their ranges, a row's bound, and that the columns are the rows' bits.
+-- Assumes nothing.
+use Prim.Native.Nat.{ℕ, zero, suc, _+_, _-_, _^_, _≤_, _<_}
+use mathlib.Core.Bool.{false}
+use mathlib.Core.Path.{_≡_, refl, sym, _∙_, fun-ext}
+use native.Mathlib.Nat.{zero-add, lt-of-lt-of-le}
+use native.Mathlib.Omega.{arith}
+use lib.ListN.{length, getD, replicate, List·getD-eq-default}
+use lib.Pow.{pow-mono}
+use Rattle.rowset.specs.Sets.{empty, upTo}
+use Rattle.slice.specs.Slices.{size, bit, component}
+use Rattle.slice.specs.declared.Slice.{Slice}
+use Rattle.slice.proofs.Bits.{bit-of-zero}
+use Rattle.slice.proofs.Digits.{bit-above}
+use Rattle.slice.proofs.Laws.{component-outside}
+use Rattle.slice.proofs.Stores.{getD-within}
+use Rattle.slice.proofs.planes.Words.{blank-empty}
+use Rattle.table.specs.Tables.{width, blank, column, row}
+use Rattle.table.specs.declared.Table.{Table}
+use Rattle.table.proofs.Columns.{number-below, number-bits, number-bit}
+
+-- column j + 1 stands at index j
+pub column-at : (t : Table) (j : ℕ) (d : Slice) → j < length (t .columns) → component (getD (t .columns) j d) ≡ column t (suc j)
+unfolding column
+column-at t j d h = rw (getD-within (t .columns) j d blank h)
+
+-- a column outside 1 to 32 is empty
+pub column-below : (t : Table) (j : ℕ) → j < 1 → column t j ≡ empty
+unfolding column
+column-below t zero h = refl
+column-below t (suc j) h = absurd (omega arith)
+
+pub column-above : (t : Table) (j : ℕ) → length (t .columns) < j → column t j ≡ empty
+unfolding column
+column-above t zero h = absurd (omega arith)
+column-above t (suc j) h =
+    let past : length (t .columns) ≤ j = omega arith in
+    rw (List·getD-eq-default (t .columns) blank past) blank-empty
+
+repeated : {A : Type 0} (n j : ℕ) (a : A) → getD (replicate n a) j a ≡ a
+repeated zero j a = refl
+repeated (suc n) zero a = refl
+repeated (suc n) (suc j) a = repeated n j a
+
+-- the columns of the table of zeros
+pub columns-of-zero : column (record { columns = replicate 32 blank }) ≡ (λ j. empty)
+columns-of-zero = fun-ext go
+  where
+    go : (j : ℕ) → column (record { columns = replicate 32 blank }) j ≡ empty
+    go zero = column-below _ 0 (omega arith)
+    go (suc j) = unfold column in rw (repeated 32 j blank) blank-empty
+
+-- a table whose columns are all empty has zeros alone
+pub rows-of-empty : (t : Table) → column t ≡ (λ j. empty) → row t ≡ (λ i. 0)
+unfolding row empty
+rows-of-empty t e = fun-ext (λ i. number-bits (column t) 0 width 0 i (omega arith) (λ k h. rw (e, bit-of-zero)))
+
+-- a row is below 2 ^ 32
+pub row-below : (t : Table) (i : ℕ) → row t i < 2 ^ 32
+unfolding row
+row-below t i = number-below (column t) 0 width i
+
+-- no column has a row outside 1 to 1,024
+pub column-outside : (t : Table) (j i : ℕ) → upTo size i ≡ false → column t j i ≡ false
+unfolding column empty
+column-outside t zero i h = refl
+column-outside t (suc j) i h = component-outside (getD (t .columns) j blank) i h
+
+-- a row outside 1 to 1,024 is 0
+pub row-outside : (t : Table) (i : ℕ) → upTo size i ≡ false → row t i ≡ 0
+unfolding row
+row-outside t i h = number-bits (column t) 0 width 0 i (omega arith) (λ k l. column-outside t (0 + (32 - k)) i h ∙ sym (bit-of-zero k))
+
+-- column 32 − k holds the bits k of the rows
+pub column-bits : (t : Table) (k : ℕ) → k < 32 → column t (32 - k) ≡ (λ i. bit (row t i) k)
+unfolding row
+column-bits t k h = fun-ext (λ i. (rw zero-add at (sym (number-bit (column t) 0 width i k h))))
+
+-- where every row is below 2 ^ k, the columns left of the last k are empty
+pub columns-above : (t : Table) (k : ℕ) → ((i : ℕ) → row t i < 2 ^ k) → (j : ℕ) → j + k ≤ 32 → column t j ≡ empty
+unfolding empty
+columns-above t k small zero h = column-below t 0 (omega arith)
+columns-above t k small (suc j) h =
+    let e : 32 - (31 - j) ≡ suc j = omega arith in
+    (rw e at (column-bits t (31 - j) (omega arith)))
+    ∙ fun-ext (λ i. bit-above (row t i) (31 - j) (lt-of-lt-of-le (small i) (pow-mono (omega arith))))
