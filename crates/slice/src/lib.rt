@@ -8,6 +8,7 @@ ghost use Rattle.slice.specs.Slices.{size, component, written};
 pub mod difference; // difference.rt: one slice without another
 pub mod matrix; // matrix.rt: columns of the path matrix
 pub mod planes; // planes.rt: bytes split into bit planes
+pub mod rows; // rows.rt: the rows of a table
 
 // The number of components of a slice, of the words that hold them, and of the components in a word.
 pub const SIZE: usize = 1024;

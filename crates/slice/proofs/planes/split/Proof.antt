@@ -23,7 +23,7 @@ loop-holds : tie.Need-loop-holds Inv-loop μ-loop
 loop-holds c = filled-none refl
 
 plane-requires : tie.Need-plane-requires Inv-loop μ-loop
-plane-requires c κs = (c .before .before .before .before .before .gather .ensures .1, c .before .before .before .loop-test .taken)
+plane-requires c κs = (c .before .before .before .before .before .gather .ensures .1, omega arith)
 
 mul-t17 : tie.Need-mul-t17 Inv-loop μ-loop
 mul-t17 c = omega arith

@@ -1,0 +1,56 @@
+-- The rows of a claim: MATCH with 1 over a loaded claim gives them, and for a claim of at most 1,024 bytes they are the rows that it marks.
+-- Assumes nothing.
+use Prim.Native.Nat.{ℕ, _≤_}
+use borrow.Author.Tests.{leb-true, leb-false, le-leb}
+use lib.Dec.{leb}
+use lib.ListN.{length}
+use mathlib.Core.Bool.{Bool, true, false, cond, _&&_, and-false}
+use mathlib.Core.List.{List}
+use mathlib.Core.Path.{_≡_, refl, fun-ext}
+use native.Mathlib.Omega.{arith}
+use Rattle.claim.specs.Claims.{claimRows}
+use Rattle.rowset.proofs.Laws.{refuted, upTo-in, in-upTo, sum-cut}
+use Rattle.rowset.specs.Searches.{equalTo}
+use Rattle.rowset.specs.Sets.{empty, upTo, both, sum}
+use Rattle.slice.specs.Slices.{size}
+use Rattle.star.proofs.Claims.{marked-row}
+use Rattle.star.specs.Call.{marked}
+use Rattle.table.proofs.Loads.{load-long, load-taken, loaded-refused, loaded-taken}
+use Rattle.table.specs.Loads.{loadedRow}
+
+-- a set whose positions are rows 1 to 1,024 is not changed where it is cut to them
+cut-none : (p : ℕ → Bool) → ((i : ℕ) → p i ≡ true → (1 ≤ i) × (i ≤ size)) → (i : ℕ) → (upTo size i && p i) ≡ p i
+cut-none p h i = go (p i) refl
+  where
+    go : (b : Bool) → p i ≡ b → (upTo size i && b) ≡ b
+    go true e = rw (in-upTo size i (h i e .0) (h i e .1))
+    go false e = and-false (upTo size i)
+
+-- MATCH with 1 over all rows of a loaded claim
+pub match-claim : (l : List ℕ) → equalTo (loadedRow 1 l) 1 (upTo size) ≡ claimRows l
+unfolding equalTo claimRows marked empty
+match-claim l = go (leb (length l) size) refl
+  where
+    go : (b : Bool) → leb (length l) size ≡ b → equalTo (loadedRow 1 l) 1 (upTo size) ≡ cond b (marked l) empty
+    go true e =
+        let h = leb-true (length l) size e in
+        rw (loaded-taken 1 l (load-taken 1 l (omega arith) (omega arith))) (fun-ext (cut-none (marked l) (λ i m. let r = marked-row l i m in (r .0, omega arith))))
+    go false e =
+        let h = leb-false (length l) size e in
+        rw (loaded-refused 1 l 1 (load-long 1 l (omega arith))) (fun-ext λ i. and-false (upTo size i))
+
+-- ── Claims and tables that fit a slice ──
+
+-- the rows of a claim that fits a slice are those that it marks
+pub claimRows-marked : (l : List ℕ) → length l ≤ size → claimRows l ≡ marked l
+unfolding claimRows
+claimRows-marked l h = rw (le-leb (length l) size h)
+
+-- a sum over the rows of a claim that fits a slice
+pub claimRows-sum : (l : List ℕ) (w : ℕ → ℕ) → length l ≤ size → sum size w (claimRows l) ≡ sum (length l) w (marked l)
+claimRows-sum l w h = rw (claimRows-marked l h) (sum-cut size (length l) w (marked l) h (λ i q. refuted (marked l i) (λ m. omega (arith, marked-row l i m))))
+
+-- the rows of a table that fits a slice
+pub rows-fit : (m : ℕ) → m ≤ size → both (upTo size) (upTo m) ≡ upTo m
+unfolding both
+rows-fit m h = fun-ext (cut-none (upTo m) (λ i e. let r = upTo-in m i e in (r .0, omega arith)))

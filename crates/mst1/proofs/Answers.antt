@@ -1,0 +1,111 @@
+-- MST1's answer and marks in each of its three cases: the table is refused, there is no tree, or a tree is built.
+-- Assumes nothing.
+use Prim.Native.Nat.{ℕ, _≤_, _<_}
+use mathlib.Core.Bool.{Bool, true, false, not, _&&_, and-false}
+use mathlib.Core.List.{List, [], _∷_, _++_}
+use mathlib.Core.Option.{Option, none, some}
+use mathlib.Core.Path.{_≡_, refl, sym, _∙_, ap, fun-ext}
+use borrow.Author.Tests.{not-true, not-false}
+use lib.ListN.{length}
+use native.Mathlib.Nat.{mod-one, mul-mod-right}
+use native.Mathlib.Omega.{arith}
+use Rattle.graph.specs.Builder.{Fragment, tree}
+use Rattle.graph.proofs.Builder.{built-spanning}
+use Rattle.refusal.specs.declared.Refusal.{Refusal}
+use Rattle.rowset.specs.Bytes.{inRow}
+use Rattle.rowset.specs.Sets.{empty, upTo, both, sum}
+use Rattle.rowset.proofs.Laws.{refuted, upTo-in, in-upTo, sum-cut}
+use Rattle.slice.specs.Slices.{size}
+use Rattle.star.specs.Call.{Call, rowsOf, graphOf, weightOf, claimOf}
+use Rattle.star.specs.Cst.{Answer, refused, passed}
+use Rattle.star.specs.Mst1.{chosenRows, treeRows, built, builtMarks, mst1, mst1Marks}
+use Rattle.star.specs.Refusals.{cause, isNone, noTree, tableCauses, mst1Causes, refusal, orElse, Accepted}
+use Rattle.star.proofs.Accepted.{refusal-append, taken, sound}
+use Rattle.table.specs.Loads.{loadedRow}
+use Rattle.table.proofs.Loads.{load-taken, loaded-taken}
+use Rattle.mst1.specs.Growth.{loadedGraph, Grows}
+use Rattle.mst1.proofs.Cut.{tree-cut}
+
+-- causes of which one applies are not changed by causes after them
+refusal-first : (xs ys : List (Option Refusal)) (r : Refusal) → refusal xs ≡ some r → refusal (xs ++ ys) ≡ some r
+unfolding refusal orElse
+refusal-first [] ys r e = cc
+refusal-first (none ∷ xs) ys r e = refusal-first xs ys r e
+refusal-first (some q ∷ xs) ys r e = e
+
+-- the positions up to m, of those up to 1,024
+rows-within : (m : ℕ) → m ≤ size → both (upTo size) (upTo m) ≡ upTo m
+unfolding both
+rows-within m h = fun-ext (λ i. go i (upTo m i) refl)
+  where
+    go : (i : ℕ) (b : Bool) → upTo m i ≡ b → (upTo size i && b) ≡ b
+    go i true e =
+        let (l, u) = upTo-in m i e in
+        rw (in-upTo size i l (omega arith))
+    go i false e = and-false (upTo size i)
+
+-- MST1 gives this answer and leaves these marks
+abbrev pub Ends : Call → Answer → List ℕ → Type 0
+Ends c answer marks = (answer ≡ mst1 c) × (marks ≡ mst1Marks c)
+
+module _ (c : Call) where
+  -- a refusal leaves the marks
+  ends-refused : (r : Refusal) → refusal (mst1Causes c) ≡ some r → Ends c (refused r) (c .mark)
+  unfolding mst1 mst1Marks built builtMarks
+  ends-refused r e = (rw e, rw e)
+
+  pub table-refused : (r : Refusal) → refusal (tableCauses c) ≡ some r → Ends c (refused r) (c .mark)
+  unfolding mst1Causes
+  table-refused r e = ends-refused r (refusal-first (tableCauses c) (noTree c ∷ []) r e)
+
+  module _ (ok : Accepted c) where
+    -- the tree that grows on the loaded tables is the tree of the table
+    loaded-tree : tree (loadedGraph (c .n) (c .left) (c .right)) (loadedRow 4 (c .weight)) ≡ tree (graphOf c) (weightOf c)
+    unfolding graphOf weightOf
+    loaded-tree =
+        let t = taken c ok in
+        let few : rowsOf c ≤ size = t .few-rows in
+        rw (
+          loaded-taken 1 (c .left) (load-taken 1 (c .left) (omega arith) (mod-one (rowsOf c))),
+          loaded-taken 1 (c .right) (load-taken 1 (c .right) (omega (arith, t .right-length)) (mod-one (length (c .right)))),
+          loaded-taken 4 (c .weight) (load-taken 4 (c .weight) (omega (arith, t .weight-length)) (rw (t .weight-length) (mul-mod-right 4 (rowsOf c)))),
+          rows-within (rowsOf c) few,
+        )
+        (tree-cut (graphOf c) (weightOf c) size few (λ i u. refuted _ (λ h. omega (arith, upTo-in (rowsOf c) i h))))
+
+    -- the chosen rows are rows of the table
+    tree-inside : (i : ℕ) → rowsOf c < i → treeRows c i ≡ false
+    unfolding treeRows chosenRows graphOf empty
+    tree-inside i u = go (tree (graphOf c) (weightOf c)) refl
+      where
+        go : (o : Option Fragment) → tree (graphOf c) (weightOf c) ≡ o → chosenRows o i ≡ false
+        go none e = refl
+        go (some f) e = refuted _ (λ h. omega (arith, upTo-in (rowsOf c) i (built-spanning (graphOf c) (sound c (taken c ok)) (weightOf c) f e .inside i h)))
+
+    -- of the causes only the last is left
+    last-cause : (b : Bool) → isNone (tree (graphOf c) (weightOf c)) ≡ b → refusal (mst1Causes c) ≡ cause b 11 0
+    unfolding mst1Causes refusal orElse noTree cause
+    last-cause true e = refusal-append (tableCauses c) (noTree c ∷ []) ok ∙ rw e
+    last-cause false e = refusal-append (tableCauses c) (noTree c ∷ []) ok ∙ rw e
+
+    module _ {whole : Bool} {chosen : ℕ → Bool} (g : Grows (loadedGraph (c .n) (c .left) (c .right)) (loadedRow 4 (c .weight)) whole chosen) where
+      -- whether a tree was grown says whether there is one
+      whole-tree : not (isNone (tree (graphOf c) (weightOf c))) ≡ whole
+      whole-tree = rw (← loaded-tree) (sym (g .all))
+
+      chosen-tree : chosen ≡ treeRows c
+      unfolding treeRows
+      chosen-tree = rw (← loaded-tree) (g .rows)
+
+      pub tree-refused : whole ≡ false → Ends c (refused (record { number = 11; place = 0 })) (c .mark)
+      unfolding cause
+      tree-refused e = ends-refused _ (last-cause true (not-false _ (whole-tree ∙ e)))
+
+      pub tree-built : whole ≡ true → (weight : ℕ) → weight ≡ sum size (inRow 4 (c .weight)) chosen → Ends c (passed weight) (claimOf (length (c .mark)) chosen)
+      unfolding mst1 mst1Marks built builtMarks cause weightOf
+      tree-built e weight h =
+          let t = taken c ok in
+          let none-left = last-cause false (not-true _ (whole-tree ∙ e)) in (
+            rw (none-left, h, chosen-tree) (ap passed (sum-cut size (rowsOf c) (weightOf c) (treeRows c) (t .few-rows) tree-inside)),
+            rw (none-left, t .mark-length, chosen-tree),
+          )

@@ -1,0 +1,4 @@
+pub mod Steps
+pub mod Cut
+pub mod Answers
+pub mod Growth

@@ -1,0 +1,9 @@
+-- What MST1's answer says, by its cases: a tree is passed with its weight, and refused carries the refusal.
+-- Assumes nothing.
+use Rattle.mst1.specs.declared.Built.{Built}
+use Rattle.mst1.specs.declared.Built.the-variants.{Tree, Refused}
+use Rattle.star.specs.Cst.{Answer, refused, passed}
+
+unfoldable pub answerOf : Built → Answer
+answerOf (Tree weight) = passed weight
+answerOf (Refused r) = refused r

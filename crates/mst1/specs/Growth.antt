@@ -1,0 +1,49 @@
+-- The graph that three tables and a slice of rows describe, the tree that grows on it, and the rows by which its fragment is known.
+-- Assumes nothing.
+use Prim.Native.Nat.{ℕ, _≤_}
+use mathlib.Core.Bool.{Bool, not, _&&_}
+use mathlib.Core.List.{List}
+use mathlib.Core.Option.{some}
+use mathlib.Core.Path.{_≡_}
+use lib.ListN.{length}
+use Rattle.graph.specs.Builder.{treeOf, tree}
+use Rattle.graph.specs.Graph.{Graph}
+use Rattle.rowset.specs.Searches.{equalTo}
+use Rattle.rowset.specs.Sets.{upTo, both, either}
+use Rattle.slice.specs.Slices.{size, component}
+use Rattle.slice.specs.declared.Slice.{Slice}
+use Rattle.star.specs.Mst1.{chosenRows}
+use Rattle.star.specs.Refusals.{isNone}
+use Rattle.table.specs.Loads.{loadedRow}
+use Rattle.table.specs.Tables.{row}
+use Rattle.table.specs.declared.Table.{Table}
+
+-- n vertices, and of the positions 1 to 1,024 the rows that a slice selects; the left and the right table hold their ends
+abbrev pub graphOn : Table → Table → Slice → ℕ → Graph
+graphOn left right rows n = record { n = n; m = size; a = row left; b = row right; rows = component rows }
+
+-- the graph that the tables hold after the left and the right column are loaded
+abbrev pub loadedGraph : ℕ → List ℕ → List ℕ → Graph
+loadedGraph n left right =
+    record { n = n; m = size; a = loadedRow 1 left; b = loadedRow 1 right; rows = both (upTo size) (upTo (length left)) }
+
+-- what is grown: whether there is a tree, and its rows, none where there is no tree
+pub record Grows (g : Graph) (w : ℕ → ℕ) (whole : Bool) (chosen : ℕ → Bool) : Type 0 where
+  pub all : whole ≡ not (isNone (tree g w))
+  pub rows : chosen ≡ chosenRows (tree g w)
+
+-- the rows of a set whose end on one side is in the vertex set Q
+unfoldable pub touching : (ℕ → ℕ) → (ℕ → Bool) → (ℕ → Bool) → ℕ → Bool
+touching side rows Q i = rows i && Q (side i)
+
+-- the fragment of k vertices: the rows chosen, and the rows whose left and whose right end is in it
+pub record Reached (g : Graph) (w : ℕ → ℕ) (k : ℕ) (lefts rights chosen : ℕ → Bool) : Type 0 where
+  pub vertices : ℕ → Bool
+  pub more : 2 ≤ k
+  pub grown : treeOf k g w ≡ some (record { vertices = vertices; chosen = chosen })
+  pub left : lefts ≡ touching (g .a) (g .rows) vertices
+  pub right : rights ≡ touching (g .b) (g .rows) vertices
+
+-- the rows of a set whose end on one side is u or v
+abbrev pub meeting : (ℕ → ℕ) → ℕ → ℕ → (ℕ → Bool) → ℕ → Bool
+meeting side u v rows = either (equalTo side u rows) (equalTo side v rows)

@@ -1,0 +1,173 @@
+// MST1, the tree builder: it grows a tree from the uppermost row of least weight, by the uppermost row of least weight among those with exactly one end in the fragment.
+ghost use mathlib.Core.Path.{_≡_};
+ghost use mathlib.Core.Bool.{true};
+ghost use Prim.Native.Nat.{_-_, _≤_};
+ghost use Rattle.rowset.specs.Columns.{number};
+ghost use Rattle.rowset.specs.Searches.{equalTo, smallest};
+ghost use Rattle.rowset.specs.Sets.{empty, either, uppermost};
+ghost use Rattle.slice.specs.Slices.{size, component, written};
+ghost use Rattle.star.specs.Mst1.{mst1, mst1Marks};
+ghost use Rattle.checks.specs.Checks.{given};
+ghost use Rattle.table.specs.Loads.{loadedRow};
+ghost use Rattle.table.specs.Tables.{width, column, row};
+ghost use Rattle.mst1.specs.Growth.{graphOn, loadedGraph, Grows, Reached, meeting};
+ghost use Rattle.mst1.specs.Answers.{answerOf};
+use refusal::Outcome;
+use refusal::Refusal;
+use slice::Slice;
+use table::Table;
+
+// What MST1 answers: the tree's weight, or the refusal.
+pub enum Built {
+    Tree(u64),
+    Refused(Refusal),
+}
+
+// What was grown: whether it is a whole tree, and the chosen rows, none where it is not.
+pub struct Grown {
+    pub whole: bool,
+    pub chosen: Slice,
+}
+
+// A fragment: the rows whose left end is in it, the rows whose right end is, and the chosen rows.
+struct Fragment {
+    lefts: Slice,
+    rights: Slice,
+    chosen: Slice,
+}
+
+// The uppermost row of x that is least in the columns after the first ones, 0 where x has no row.
+fn cheapest(weight: Table, first: usize, x: Slice) -> usize
+    ensures { λ r. ⌜ r ≡ uppermost size (smallest size (number (column weight) first (width - first)) (component x)) ⌝ }
+{
+    slice::fnd(search::min_from(weight, first, x))
+}
+
+// x, and with it the rows that hold v in the columns after the first ones.
+fn reach(x: Slice, ends: Table, first: usize, v: u32, rows: Slice) -> Slice
+    ensures { λ r. ⌜ component r ≡ either (component x) (equalTo (number (column ends) first (width - first)) v (component rows)) ⌝ }
+{
+    slice::or(x, search::match_from(ends, first, v, rows))
+}
+
+// The fragment of row i: both its ends.
+fn begin(left: Table, right: Table, rows: Slice, i: usize) -> Fragment
+    ensures lefts { λ r. ⌜ component (r .lefts) ≡ meeting (row left) (row left i) (row right i) (component rows) ⌝ }
+    ensures rights { λ r. ⌜ component (r .rights) ≡ meeting (row right) (row left i) (row right i) (component rows) ⌝ }
+    ensures chosen { λ r. ⌜ component (r .chosen) ≡ written empty i true ⌝ }
+{
+    let u = table::row_of(left, i);
+    let v = table::row_of(right, i);
+    Fragment {
+        lefts: slice::or(
+            search::match_rows(left, u, rows),
+            search::match_rows(left, v, rows),
+        ),
+        rights: slice::or(
+            search::match_rows(right, u, rows),
+            search::match_rows(right, v, rows),
+        ),
+        chosen: slice::put(Slice::empty(), i, true),
+    }
+}
+
+// No rows: the whole tree of one vertex, or what is left where there is no tree.
+fn nothing(whole: bool) -> Grown
+    ensures whole { λ r. ⌜ r .whole ≡ whole ⌝ }
+    ensures chosen { λ r. ⌜ component (r .chosen) ≡ empty ⌝ }
+{
+    Grown {
+        whole: whole,
+        chosen: Slice::empty(),
+    }
+}
+
+// The tree of n vertices that grows from a fragment of two. The rows with exactly one end in the fragment are those that only one of `lefts` and `rights` has.
+fn grow_from(
+    left: Table,
+    right: Table,
+    weight: Table,
+    rows: Slice,
+    n: usize,
+    start: Fragment,
+) -> Grown
+    requires { ⌜ (2 ≤ n) × Reached (graphOn left right rows n) (row weight) 2 (component (start .lefts)) (component (start .rights)) (component (start .chosen)) ⌝ }
+    ensures { λ r. ⌜ Grows (graphOn left right rows n) (row weight) (r .whole) (component (r .chosen)) ⌝ }
+{
+    let l = search::empty_columns(left);
+    let r = search::empty_columns(right);
+    let w = search::empty_columns(weight);
+    let mut lefts = start.lefts;
+    let mut rights = start.rights;
+    let mut chosen = start.chosen;
+    let mut k = 2;
+    while k < n {
+        let i = cheapest(weight, w, slice::xor(lefts, rights));
+        if i == 0 {
+            return nothing(false);
+        }
+        let far = if slice::get(lefts, i) {
+            table::row_of(right, i)
+        } else {
+            table::row_of(left, i)
+        };
+        lefts = reach(lefts, left, l, far, rows);
+        rights = reach(rights, right, r, far, rows);
+        chosen = slice::put(chosen, i, true);
+        k += 1;
+    }
+    Grown {
+        whole: true,
+        chosen: chosen,
+    }
+}
+
+// The tree of n vertices over the rows of a slice, whose ends and weights the tables hold.
+pub fn grow_tree(left: Table, right: Table, weight: Table, rows: Slice, n: usize) -> Grown
+    ensures { λ r. ⌜ Grows (graphOn left right rows n) (row weight) (r .whole) (component (r .chosen)) ⌝ }
+{
+    if n < 2 {
+        return nothing(n == 1);
+    }
+    let first = cheapest(weight, 0, rows);
+    if first == 0 {
+        return nothing(false);
+    }
+    let start = begin(left, right, rows, first);
+    grow_from(left, right, weight, rows, n, start)
+}
+
+// The tree of n vertices over the rows of the left column, grown on the columns as tables.
+fn tree_of(n: u32, left: &[u8], right: &[u8], weight: &[u8]) -> Grown
+    ensures { λ r. ⌜ Grows (loadedGraph n (now (left .entry)) (now (right .entry))) (loadedRow 4 (now (weight .entry))) (r .whole) (component (r .chosen)) ⌝ }
+{
+    let lefts = table::load_bytes(left);
+    let rights = table::load_bytes(right);
+    let weights = table::load_quads(weight);
+    grow_tree(
+        lefts.table,
+        rights.table,
+        weights.table,
+        claim::rows_to(left.len()),
+        n as usize,
+    )
+}
+
+// MST1: the refusal, and the marks stay as they were; or the tree's weight, and the marks are 1 for each chosen row and 0 for every other.
+pub fn mst1(n: u32, left: &[u8], right: &[u8], weight: &[u8], mark: &mut [u8]) -> Built
+    ensures answer { λ r. ⌜ answerOf r ≡ mst1 (given n (now (left .entry)) (now (right .entry)) (now (weight .entry)) (now (mark .entry))) ⌝ }
+    ensures marks { λ r. ⌜ now (mark .exit) ≡ mst1Marks (given n (now (left .entry)) (now (right .entry)) (now (weight .entry)) (now (mark .entry))) ⌝ }
+{
+    if let Outcome::Refused(refusal) = checks::table_check(n, left, right, weight, mark) {
+        return Built::Refused(refusal);
+    }
+    let tree = tree_of(n, left, right, weight);
+    if !tree.whole {
+        return Built::Refused(Refusal {
+            number: 11,
+            place: 0,
+        });
+    }
+    claim::write_claim(mark, tree.chosen);
+    Built::Tree(claim::weigh(weight, tree.chosen))
+}
