@@ -41,7 +41,7 @@ fn weight_in(weight: &[u8], rows: Slice, i: usize) -> u32
     }
 }
 
-// The sum of the weights of the slice's rows.
+// The sum of the weights of the slice's rows; a byte past the column's end counts 0.
 pub fn weigh(weight: &[u8], rows: Slice) -> u64
     ensures { λ r. ⌜ r ≡ sum size (inRow 4 (now (weight .entry))) (component rows) ⌝ }
 {
