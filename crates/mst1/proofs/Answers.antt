@@ -11,6 +11,9 @@ use native.Mathlib.Nat.{mod-one, mul-mod-right}
 use native.Mathlib.Omega.{arith}
 use Rattle.graph.specs.Builder.{Fragment, tree}
 use Rattle.graph.proofs.Builder.{built-spanning}
+use Rattle.refusal.specs.Outcomes.{refusalOf}
+use Rattle.refusal.specs.declared.Outcome.{Outcome}
+use Rattle.refusal.specs.declared.Outcome.the-variants.{Done, Refused}
 use Rattle.refusal.specs.declared.Refusal.{Refusal}
 use Rattle.rowset.specs.Bytes.{inRow}
 use Rattle.rowset.specs.Sets.{empty, upTo, both, sum}
@@ -54,16 +57,22 @@ module _ (c : Call) where
   unfolding mst1 mst1Marks built builtMarks
   ends-refused r e = (rw e, rw e)
 
-  pub table-refused : (r : Refusal) → refusal (tableCauses c) ≡ some r → Ends c (refused r) (c .mark)
-  unfolding mst1Causes
-  table-refused r e = ends-refused r (refusal-first (tableCauses c) (noTree c ∷ []) r e)
+  -- a table that the checks refuse
+  pub table-refused : {o : Outcome} {r : Refusal} → refusalOf o ≡ refusal (tableCauses c) → o ≡ Refused r → Ends c (refused r) (c .mark)
+  unfolding mst1Causes refusalOf
+  table-refused {r = r} e q = ends-refused r (refusal-first (tableCauses c) (noTree c ∷ []) r (sym e ∙ ap refusalOf q))
 
-  module _ (ok : Accepted c) where
+  -- a table that the checks accept
+  module _ {o : Outcome} (checked : refusalOf o ≡ refusal (tableCauses c)) (done : o ≡ Done) where
+    accepted : Accepted c
+    unfolding refusalOf
+    accepted = sym checked ∙ ap refusalOf done
+
     -- the tree that grows on the loaded tables is the tree of the table
     loaded-tree : tree (loadedGraph (c .n) (c .left) (c .right)) (loadedRow 4 (c .weight)) ≡ tree (graphOf c) (weightOf c)
     unfolding graphOf weightOf
     loaded-tree =
-        let t = taken c ok in
+        let t = taken c accepted in
         let few : rowsOf c ≤ size = t .few-rows in
         rw (
           loaded-taken 1 (c .left) (load-taken 1 (c .left) (omega arith) (mod-one (rowsOf c))),
@@ -80,31 +89,34 @@ module _ (c : Call) where
       where
         go : (o : Option Fragment) → tree (graphOf c) (weightOf c) ≡ o → chosenRows o i ≡ false
         go none e = refl
-        go (some f) e = refuted _ (λ h. omega (arith, upTo-in (rowsOf c) i (built-spanning (graphOf c) (sound c (taken c ok)) (weightOf c) f e .inside i h)))
+        go (some f) e = refuted _ (λ h. omega (arith, upTo-in (rowsOf c) i (built-spanning (graphOf c) (sound c (taken c accepted)) (weightOf c) f e .inside i h)))
 
     -- of the causes only the last is left
     last-cause : (b : Bool) → isNone (tree (graphOf c) (weightOf c)) ≡ b → refusal (mst1Causes c) ≡ cause b 11 0
     unfolding mst1Causes refusal orElse noTree cause
-    last-cause true e = refusal-append (tableCauses c) (noTree c ∷ []) ok ∙ rw e
-    last-cause false e = refusal-append (tableCauses c) (noTree c ∷ []) ok ∙ rw e
+    last-cause true e = refusal-append (tableCauses c) (noTree c ∷ []) accepted ∙ rw e
+    last-cause false e = refusal-append (tableCauses c) (noTree c ∷ []) accepted ∙ rw e
 
     module _ {whole : Bool} {chosen : ℕ → Bool} (g : Grows (loadedGraph (c .n) (c .left) (c .right)) (loadedRow 4 (c .weight)) whole chosen) where
       -- whether a tree was grown says whether there is one
       whole-tree : not (isNone (tree (graphOf c) (weightOf c))) ≡ whole
       whole-tree = rw (← loaded-tree) (sym (g .all))
 
+      -- the rows that were chosen are its rows
       chosen-tree : chosen ≡ treeRows c
       unfolding treeRows
       chosen-tree = rw (← loaded-tree) (g .rows)
 
+      -- where there is no tree
       pub tree-refused : whole ≡ false → Ends c (refused (record { number = 11; place = 0 })) (c .mark)
       unfolding cause
       tree-refused e = ends-refused _ (last-cause true (not-false _ (whole-tree ∙ e)))
 
+      -- where there is one, it is marked and weighed
       pub tree-built : whole ≡ true → (weight : ℕ) → weight ≡ sum size (inRow 4 (c .weight)) chosen → Ends c (passed weight) (claimOf (length (c .mark)) chosen)
       unfolding mst1 mst1Marks built builtMarks cause weightOf
       tree-built e weight h =
-          let t = taken c ok in
+          let t = taken c accepted in
           let none-left = last-cause false (not-true _ (whole-tree ∙ e)) in (
             rw (none-left, h, chosen-tree) (ap passed (sum-cut size (rowsOf c) (weightOf c) (treeRows c) (t .few-rows) tree-inside)),
             rw (none-left, t .mark-length, chosen-tree),

@@ -50,7 +50,7 @@ abbrev pub farBy : Graph → (ℕ → Bool) → ℕ → ℕ
 farBy g lefts i = cond (lefts i) (g .b i) (g .a i)
 
 module _ (g : Graph) (w : ℕ → ℕ) where
-  -- the tree of k vertices more grows by one row
+  -- the tree of one vertex more has one row more
   treeOf-next : (k : ℕ) → 2 ≤ k → treeOf (suc k) g w ≡ next g w (treeOf k g w)
   unfolding treeOf fragment
   treeOf-next zero l = absurd (omega arith)
@@ -62,7 +62,7 @@ module _ (g : Graph) (w : ℕ → ℕ) where
   unfolding next
   none-above k l e n h = upwards (λ i. treeOf i g w ≡ none) k n h e (λ i m u q. rw (treeOf-next i (omega arith), q))
 
-  -- a chosen row is a row of the set
+  -- the cheapest row of a set is in the set
   cheapest-in : (X : ℕ → Bool) (j : ℕ) → cheapest g w X ≡ suc j → X (suc j) ≡ true
   unfolding cheapest
   cheapest-in X j e = smallest-in (g .m) w X (suc j) (uppermost-some (g .m) j (smallest (g .m) w X) e .0)

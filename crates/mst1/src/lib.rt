@@ -36,14 +36,14 @@ struct Fragment {
     chosen: Slice,
 }
 
-// The uppermost row of x that is least in the columns after the first ones, 0 where x has no row.
+// FND of MIN over the columns after the first ones: the uppermost row of x of least weight, 0 where x has no row.
 fn cheapest(weight: Table, first: usize, x: Slice) -> usize
     ensures { λ r. ⌜ r ≡ uppermost size (smallest size (number (column weight) first (width - first)) (component x)) ⌝ }
 {
     slice::fnd(search::min_from(weight, first, x))
 }
 
-// x, and with it the rows that hold v in the columns after the first ones.
+// x, and with it the rows that hold v, by MATCH over the columns after the first ones.
 fn reach(x: Slice, ends: Table, first: usize, v: u32, rows: Slice) -> Slice
     ensures { λ r. ⌜ component r ≡ either (component x) (equalTo (number (column ends) first (width - first)) v (component rows)) ⌝ }
 {
@@ -83,6 +83,7 @@ fn nothing(whole: bool) -> Grown
 }
 
 // The tree of n vertices that grows from a fragment of two. The rows with exactly one end in the fragment are those that only one of `lefts` and `rights` has.
+// The searches leave out the columns on the left that are empty.
 fn grow_from(
     left: Table,
     right: Table,
@@ -122,7 +123,7 @@ fn grow_from(
     }
 }
 
-// The tree of n vertices over the rows of a slice, whose ends and weights the tables hold.
+// The tree of n vertices over the rows of a slice, whose ends and weights the tables hold. For one vertex no row is chosen.
 pub fn grow_tree(left: Table, right: Table, weight: Table, rows: Slice, n: usize) -> Grown
     ensures { λ r. ⌜ Grows (graphOn left right rows n) (row weight) (r .whole) (component (r .chosen)) ⌝ }
 {

@@ -1,9 +1,8 @@
 -- `mst1::mst1` meets its contract in each of its three cases: the table is refused, there is no tree, or a tree is built.
 -- Assumes nothing.
-use mathlib.Core.Path.{sym, _∙_, ap}
+use mathlib.Core.Path.{_∙_}
 use borrow.Author.Needs.{needs}
 use borrow.Author.Tests.{not-true, not-false}
-use Rattle.refusal.specs.Outcomes.{refusalOf}
 use Rattle.mst1.proofs.Answers.{table-refused, tree-refused, tree-built}
 use Rattle.mst1.specs.Answers.{answerOf}
 use Rattle.mst1.proofs.mst1.Statement.{statement}
@@ -19,9 +18,8 @@ same-length : tie.Need-same-length
 same-length c = search needs
 
 returns : tie.Need-returns
-unfolding answerOf refusalOf
-returns c =
-    table-refused _ _ (sym (c .before .before .before .table-check .ensures) ∙ ap refusalOf (c .before .refusal .given .1))
+unfolding answerOf
+returns c = table-refused _ (c .before .before .before .table-check .ensures) (c .before .refusal .given .1)
 
 enum-told : tie.Need-enum-told
 enum-told c = search needs
@@ -33,11 +31,11 @@ same-length-2 : tie.Need-same-length-2
 same-length-2 c = search needs
 
 returns-2 : tie.Need-returns-2
-unfolding answerOf refusalOf
+unfolding answerOf
 returns-2 c =
     let a = c .before .before .before in
-    let ok = sym (a .before .before .table-check .ensures) ∙ ap refusalOf (a .enum-told .given .1) in
-    tree-refused _ ok (c .before .before .tree-of .ensures) (not-true _ (c .if1 .taken))
+    tree-refused _ (a .before .before .table-check .ensures) (a .enum-told .given .1) (c .before .before .tree-of .ensures)
+    (not-true _ (c .if1 .taken))
 
 write-claim-requires : tie.Need-write-claim-requires
 write-claim-requires c κs = search needs
@@ -49,12 +47,11 @@ same-length-3 : tie.Need-same-length-3
 same-length-3 c = search needs
 
 returns-3 : tie.Need-returns-3
-unfolding answerOf refusalOf
+unfolding answerOf
 returns-3 c =
     let s = c .before .before .before .before .before in
     let a = s .before .before .before in
-    let ok = sym (a .before .before .table-check .ensures) ∙ ap refusalOf (a .enum-told .given .1) in
-    let (answer, marks) = tree-built _ ok (s .before .before .tree-of .ensures) (not-false _ (s .if1 .left)) _ (c .weigh .ensures) in
+    let (answer, marks) = tree-built _ (a .before .before .table-check .ensures) (a .enum-told .given .1) (s .before .before .tree-of .ensures) (not-false _ (s .if1 .left)) _ (c .weigh .ensures) in
     (answer, c .before .before .before .write-claim .ensures ∙ marks)
 
 pub mst1-spec : {M : Type 1} → statement M
