@@ -1,0 +1,4 @@
+pub mod Walks
+pub mod Paths
+pub mod Answer
+pub mod Result

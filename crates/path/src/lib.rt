@@ -1,0 +1,237 @@
+// MatrixPath on the machine: a walk over the marked rows from the source vertex, which fills a path matrix of its own; the caller's matrix is written once nothing can be refused any more.
+ghost use mathlib.Core.Path.{_≡_};
+ghost use mathlib.Core.List.{_++_, [], _∷_};
+ghost use Prim.Native.Nat.{_≤_};
+ghost use lib.ListN.{length, take, drop};
+ghost use Rattle.refusal.specs.Outcomes.{refusalOf};
+ghost use Rattle.slice.specs.Slices.{size, component};
+ghost use Rattle.star.specs.MatrixPath.{matrixPath, matrixAfter};
+ghost use Rattle.star.specs.Refusals.{orElse, refusal};
+ghost use Rattle.table.specs.Tables.{row};
+ghost use Rattle.checks.specs.Checks.{given};
+ghost use Rattle.path.specs.Causes.{sourceCause, roomCause, checkCauses, unreachedCause};
+ghost use Rattle.path.specs.Walks.{stateOf, arrive, pass, along, step, walk, claimWalk};
+use refusal::Outcome;
+use refusal::Refusal;
+use slice::Slice;
+use slice::matrix;
+use table::Table;
+
+// The words of a column of a path matrix, and of a matrix with as many columns as there can be vertices.
+const WORDS: usize = 16;
+
+pub const ALL_WORDS: usize = 4080;
+
+// How far the walk has come: the rows whose left end is reached, those whose right end is, and the vertices reached.
+struct Front {
+    lefts: Slice,
+    rights: Slice,
+    reached: Slice,
+}
+
+// Vertex v is reached along the rows of path.
+fn arrive(
+    left: Table,
+    right: Table,
+    rows: Slice,
+    at: Front,
+    v: u32,
+    path: Slice,
+    own: &mut [u64],
+) -> Front
+    ensures { λ r. ⌜ stateOf r (now (own .exit)) ≡ arrive (row left) (row right) (component rows) (stateOf at (now (own .entry))) v (component path) ⌝ }
+{
+    matrix::write_column(own, v as usize, path);
+    Front {
+        lefts: slice::or(at.lefts, search::match_rows(left, v, rows)),
+        rights: slice::or(at.rights, search::match_rows(right, v, rows)),
+        reached: slice::put(at.reached, v as usize, true),
+    }
+}
+
+// Row i is taken from vertex u to vertex v.
+fn pass(
+    left: Table,
+    right: Table,
+    rows: Slice,
+    at: Front,
+    i: usize,
+    u: u32,
+    v: u32,
+    own: &mut [u64],
+) -> Front
+    ensures { λ r. ⌜ stateOf r (now (own .exit)) ≡ pass (row left) (row right) (component rows) (stateOf at (now (own .entry))) i u v ⌝ }
+{
+    let path = slice::put(matrix::read_column(own, u as usize), i, true);
+    arrive(left, right, rows, at, v, path, own)
+}
+
+// Row i is taken from its end that is reached to the other.
+fn along(left: Table, right: Table, rows: Slice, at: Front, i: usize, own: &mut [u64]) -> Front
+    ensures { λ r. ⌜ stateOf r (now (own .exit)) ≡ along (row left) (row right) (component rows) (stateOf at (now (own .entry))) i ⌝ }
+{
+    if i == 0 {
+        return at;
+    }
+    let a = table::row_of(left, i);
+    let b = table::row_of(right, i);
+    if slice::get(at.lefts, i) {
+        return pass(left, right, rows, at, i, a, b, own);
+    }
+    pass(left, right, rows, at, i, b, a, own)
+}
+
+// One step of the walk: the uppermost row with exactly one end reached is taken.
+fn step(left: Table, right: Table, rows: Slice, at: Front, own: &mut [u64]) -> Front
+    ensures { λ r. ⌜ stateOf r (now (own .exit)) ≡ step (row left) (row right) (component rows) (stateOf at (now (own .entry))) ⌝ }
+{
+    let i = slice::fnd(slice::xor(at.lefts, at.rights));
+    along(left, right, rows, at, i, own)
+}
+
+// The walk of n steps from vertex s: the vertices reached.
+fn walk(left: Table, right: Table, rows: Slice, s: u32, n: u32, own: &mut [u64]) -> Slice
+    ensures reached { λ r. ⌜ component r ≡ walk (row left) (row right) (component rows) s (now (own .entry)) n .reached ⌝ }
+    ensures words { λ r. ⌜ now (own .exit) ≡ walk (row left) (row right) (component rows) s (now (own .entry)) n .words ⌝ }
+{
+    let none = Slice::empty();
+    let start = Front {
+        lefts: none,
+        rights: none,
+        reached: none,
+    };
+    let mut at = arrive(left, right, rows, start, s, none, own);
+    let mut k = 0;
+    while k < n {
+        at = step(left, right, rows, at, own);
+        k += 1;
+    }
+    at.reached
+}
+
+// Cause 10: the smallest vertex of 1 to n that is not reached.
+fn joined_check(n: u32, reached: Slice) -> Outcome
+    requires { ⌜ n ≤ size ⌝ }
+    ensures { λ r. ⌜ refusalOf r ≡ unreachedCause n (component reached) ⌝ }
+{
+    let v = slice::fnd(slice::not(reached));
+    if v == 0 {
+        return Outcome::Done;
+    }
+    if (n as usize) < v {
+        return Outcome::Done;
+    }
+    Outcome::Refused(Refusal {
+        number: 10,
+        place: v as u32,
+    })
+}
+
+// The first `count` words of r become those of `own`.
+fn fill(r: &mut [u64], own: &[u64], count: usize)
+    requires { ⌜ (count ≤ length (now r)) × (count ≤ length (now own)) ⌝ }
+    ensures { λ u. ⌜ now (r .exit) ≡ take count (now (own .entry)) ++ drop count (now (r .entry)) ⌝ }
+{
+    let mut k = 0;
+    while k < count {
+        r[k] = own[k];
+        k += 1;
+    }
+}
+
+// A refusal with place 0.
+fn refused(number: u32) -> Outcome
+    ensures { λ r. ⌜ r ≡ Outcome.Refused (record { number = number; place = 0 }) ⌝ }
+{
+    Outcome::Refused(Refusal {
+        number: number,
+        place: 0,
+    })
+}
+
+// Causes 7 and 8: the source vertex, and the size of the matrix.
+fn call_check(n: u32, s: u32, words: usize) -> Outcome
+    ensures { λ r. ⌜ refusalOf r ≡ refusal (sourceCause n s ∷ roomCause n words ∷ []) ⌝ }
+{
+    if s == 0 {
+        return refused(7);
+    }
+    if n < s {
+        return refused(7);
+    }
+    if words < WORDS * n as usize {
+        return refused(8);
+    }
+    Outcome::Done
+}
+
+// The first of two answers that is a refusal.
+fn first(a: Outcome, b: Outcome) -> Outcome
+    ensures { λ r. ⌜ refusalOf r ≡ orElse (refusalOf a) (refusalOf b) ⌝ }
+{
+    let Outcome::Done = a else {
+        return a;
+    };
+    b
+}
+
+// Causes 1 to 9.
+fn path_check(
+    n: u32,
+    left: &[u8],
+    right: &[u8],
+    weight: &[u8],
+    mark: &[u8],
+    s: u32,
+    words: usize,
+) -> Outcome
+    ensures { λ r. ⌜ refusalOf r ≡ refusal (checkCauses (given n (now (left .entry)) (now (right .entry)) (now (weight .entry)) (now (mark .entry))) s words) ⌝ }
+{
+    let table = checks::table_check(n, left, right, weight, mark);
+    let Outcome::Done = table else {
+        return table;
+    };
+    let claim = checks::claim_check(mark);
+    let call = call_check(n, s, words);
+    let count = checks::count_check(n, mark);
+    first(claim, first(call, count))
+}
+
+// The walk over the rows that the claim marks, and cause 10.
+fn claim_walk(n: u32, left: &[u8], right: &[u8], mark: &[u8], s: u32, own: &mut [u64]) -> Outcome
+    requires { ⌜ n ≤ size ⌝ }
+    ensures answer { λ o. ⌜ refusalOf o ≡ unreachedCause n (claimWalk n (now (left .entry)) (now (right .entry)) (now (mark .entry)) s (now (own .entry)) .reached) ⌝ }
+    ensures words { λ o. ⌜ now (own .exit) ≡ claimWalk n (now (left .entry)) (now (right .entry)) (now (mark .entry)) s (now (own .entry)) .words ⌝ }
+{
+    let lefts = table::load_bytes(left);
+    let rights = table::load_bytes(right);
+    let rows = claim::claim_rows(mark);
+    let reached = walk(lefts.table, rights.table, rows, s, n, own);
+    joined_check(n, reached)
+}
+
+// MatrixPath: every refusal is settled, the walk's too, before the first 16 n words of r are written.
+pub fn matrix_path(
+    n: u32,
+    left: &[u8],
+    right: &[u8],
+    weight: &[u8],
+    mark: &[u8],
+    s: u32,
+    r: &mut [u64],
+) -> Outcome
+    ensures answer { λ o. ⌜ refusalOf o ≡ matrixPath (given n (now (left .entry)) (now (right .entry)) (now (weight .entry)) (now (mark .entry))) s (now (r .entry)) ⌝ }
+    ensures matrix { λ o. ⌜ now (r .exit) ≡ matrixAfter (given n (now (left .entry)) (now (right .entry)) (now (weight .entry)) (now (mark .entry))) s (now (r .entry)) ⌝ }
+{
+    let checked = path_check(n, left, right, weight, mark, s, r.len());
+    let Outcome::Done = checked else {
+        return checked;
+    };
+    let mut own = [0u64; ALL_WORDS];
+    let walked = claim_walk(n, left, right, mark, s, &mut own);
+    let Outcome::Done = walked else {
+        return walked;
+    };
+    fill(r, &own, WORDS * n as usize);
+    Outcome::Done
+}
