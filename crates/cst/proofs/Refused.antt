@@ -1,0 +1,35 @@
+-- CST declines exactly what MatrixPath from vertex 1 declines on a matrix of 4,080 words, with the same refusal: the source and the matrix are never at fault.
+-- Assumes nothing.
+use Prim.Native.Nat.{ℕ, _*_, _≤_}
+use mathlib.Core.Bool.{Bool, true, false, _||_}
+use mathlib.Core.List.{List}
+use mathlib.Core.Option.{none}
+use mathlib.Core.Path.{_≡_, refl}
+use borrow.Author.Tests.{le-ltb, ltb-false, eqb-false}
+use lib.Dec.{eqb, ltb}
+use lib.ListN.{length}
+use native.Mathlib.Omega.{arith}
+use Rattle.rowset.specs.Words.{columnWords}
+use Rattle.star.proofs.Accepted.{none-cause}
+use Rattle.star.specs.Call.{Call}
+use Rattle.star.specs.MatrixPath.{matrixPath}
+use Rattle.star.specs.Refusals.{maxVertices, cause, badVertices, badSource, shortMatrix, tableCauses, matrixPathCauses, cstCauses, orElse, refusal}
+
+-- vertex 1 is a source of every graph with a vertex
+good-source : (c : Call) → 1 ≤ c .n → badSource c 1 ≡ none
+unfolding badSource
+good-source c h = none-cause (eqb 1 0 || ltb (c .n) 1) 7 0 (le-ltb (c .n) 1 h)
+
+-- and 4,080 words are enough for 255 columns
+long-matrix : (c : Call) (size : ℕ) → size ≡ columnWords * maxVertices → c .n ≤ maxVertices → shortMatrix c size ≡ none
+unfolding shortMatrix
+long-matrix c size e h = none-cause (ltb size (columnWords * c .n)) 8 0 (le-ltb size (columnWords * c .n) (omega arith))
+
+pub path-refusal : (c : Call) (R : List ℕ) → length R ≡ columnWords * maxVertices → matrixPath c 1 R ≡ refusal (cstCauses c)
+unfolding matrixPath matrixPathCauses cstCauses tableCauses badVertices cause refusal orElse
+path-refusal c R l = go (eqb (c .n) 0) (ltb maxVertices (c .n)) refl refl
+  where
+    go : (p q : Bool) → eqb (c .n) 0 ≡ p → ltb maxVertices (c .n) ≡ q → refusal (matrixPathCauses c 1 (length R)) ≡ refusal (cstCauses c)
+    go true q e f = rw e
+    go false true e f = rw (e, f)
+    go false false e f = rw (good-source c (omega (arith, eqb-false (c .n) 0 e)), long-matrix c (length R) l (ltb-false maxVertices (c .n) f))

@@ -1,0 +1,52 @@
+-- What CST reads from a path matrix: the rows on the tree path between a row's ends that are heavier than that row, and the first exchange that they allow.
+-- Assumes nothing.
+use Prim.Native.Nat.{ℕ, _-_, _≤_}
+use mathlib.Core.Bool.{Bool}
+use mathlib.Core.List.{List}
+use mathlib.Core.Option.{none}
+use mathlib.Core.Path.{_≡_}
+use Rattle.rowset.specs.Bytes.{inRow}
+use Rattle.rowset.specs.Columns.{number}
+use Rattle.rowset.specs.Searches.{greaterThan}
+use Rattle.rowset.specs.Sets.{both, oneOf, any, uppermost}
+use Rattle.slice.specs.Matrix.{matrixColumn}
+use Rattle.slice.specs.Slices.{size}
+use Rattle.star.specs.Call.{Call}
+use Rattle.star.specs.MatrixPath.{pathColumn}
+use Rattle.star.specs.Refusals.{cstCauses, refusal}
+use Rattle.table.specs.Loads.{loadedRow}
+use Rattle.table.specs.Tables.{width, column}
+use Rattle.table.specs.declared.Table.{Table}
+use Rattle.cst.specs.declared.Exchange.{Exchange}
+
+-- the number in each row of a table, read from the columns after the first ones
+abbrev pub rowsAfter : Table → ℕ → ℕ → ℕ
+rowsAfter t first = number (column t) first (width - first)
+
+-- of the xor of the columns of row i's ends, the rows whose number in the table of weights f is greater than row i's weight
+unfoldable pub heavierIn : (f : ℕ → ℕ) → (matrix left right weight : List ℕ) → ℕ → ℕ → Bool
+heavierIn f matrix left right weight i =
+    greaterThan f (inRow 4 weight i)
+    (oneOf (matrixColumn matrix (inRow 1 left i)) (matrixColumn matrix (inRow 1 right i)))
+
+-- whether there is such a row, and the uppermost, for the weights that a load gives
+unfoldable pub someHeavier : (matrix left right weight : List ℕ) → ℕ → Bool
+someHeavier matrix left right weight i = any size (heavierIn (loadedRow 4 weight) matrix left right weight i)
+
+unfoldable pub firstHeavier : (matrix left right weight : List ℕ) → ℕ → ℕ
+firstHeavier matrix left right weight i = uppermost size (heavierIn (loadedRow 4 weight) matrix left right weight i)
+
+-- the exchange of row out for row into
+unfoldable pub exchangeOf : List ℕ → (out into : ℕ) → Exchange
+exchangeOf weight out into = record { out = out; into = into; saving = inRow 4 weight out - inRow 4 weight into }
+
+-- the uppermost of the rows that has a heavier row comes in, and its uppermost heavier row goes out; both are 0 where there is none
+unfoldable pub firstLighter : (matrix left right weight : List ℕ) → (ℕ → Bool) → Exchange
+firstLighter matrix left right weight rows =
+    let i = uppermost size (both rows (someHeavier matrix left right weight)) in
+    exchangeOf weight (firstHeavier matrix left right weight i) i
+
+-- a call that CST does not refuse, and a matrix with its path columns from vertex 1
+pub record Walked (c : Call) (matrix : List ℕ) : Type 0 where
+  pub unrefused : refusal (cstCauses c) ≡ none
+  pub columns : (j : ℕ) → 1 ≤ j → j ≤ c .n → matrixColumn matrix j ≡ pathColumn c 1 j

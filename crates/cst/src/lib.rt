@@ -1,0 +1,115 @@
+// CST, the tree checker: its verdict on the claim that a table's marked rows are a least spanning tree.
+ghost use mathlib.Core.Path.{_≡_};
+ghost use Prim.Native.Nat.{ℕ, _≤_};
+ghost use Rattle.rowset.specs.Bytes.{inRow};
+ghost use Rattle.slice.specs.Slices.{size, component};
+ghost use Rattle.star.specs.Cst.{cst};
+ghost use Rattle.checks.specs.Checks.{given};
+ghost use Rattle.cst.specs.Paths.{rowsAfter, heavierIn, exchangeOf, firstLighter, Walked};
+ghost use Rattle.cst.specs.Verdicts.{answerOf};
+use checks::row_byte;
+use checks::row_weight;
+use refusal::Outcome;
+use refusal::Refusal;
+use slice::Slice;
+use slice::difference;
+use slice::matrix;
+use table::Table;
+
+// The words of a path matrix with as many columns as there can be vertices.
+const ALL_WORDS: usize = 4080;
+
+// The exchange that makes a claim lighter: the marked row that goes out, the unmarked row that comes in, and how much less the claim then weighs.
+pub struct Exchange {
+    pub out: u32,
+    pub into: u32,
+    pub saving: u64,
+}
+
+// The verdict: passed, with the claim's weight; lighter, with the exchange; or refused, with the refusal.
+pub enum Verdict {
+    Passed(u64),
+    Lighter(Exchange),
+    Refused(Refusal),
+}
+
+// The rows on the tree path between row i's ends that are heavier than row i. The weights are read from the columns of the table after the first ones.
+fn heavier_rows(
+    matrix: &[u64],
+    weights: Table,
+    first: usize,
+    left: &[u8],
+    right: &[u8],
+    weight: &[u8],
+    i: usize,
+) -> Slice
+    ensures { λ r. ⌜ component r ≡ heavierIn (rowsAfter weights first) (now (matrix .entry)) (now (left .entry)) (now (right .entry)) (now (weight .entry)) i ⌝ }
+{
+    let node1 = row_byte(left, i) as usize;
+    let node2 = row_byte(right, i) as usize;
+    let w = row_weight(weight, i);
+    let x = slice::xor(
+        matrix::read_column(matrix, node1),
+        matrix::read_column(matrix, node2),
+    );
+    search::great_from(weights, first, w, x)
+}
+
+// The exchange of row out for row into, which is lighter.
+fn exchange_of(weight: &[u8], out: usize, into: usize) -> Exchange
+    requires { ⌜ (out ≤ size) × (into ≤ size) × (inRow 4 (now weight) into ≤ inRow 4 (now weight) out) ⌝ }
+    ensures { λ r. ⌜ r ≡ exchangeOf (now (weight .entry)) out into ⌝ }
+{
+    Exchange {
+        out: out as u32,
+        into: into as u32,
+        saving: (row_weight(weight, out) - row_weight(weight, into)) as u64,
+    }
+}
+
+// The rows are taken from the top. The first with a heavier row on the path between its ends comes in, and the uppermost such row goes out; all is 0 where there is none.
+fn first_lighter(matrix: &[u64], left: &[u8], right: &[u8], weight: &[u8], rows: Slice) -> Exchange
+    ensures { λ r. ⌜ r ≡ firstLighter (now (matrix .entry)) (now (left .entry)) (now (right .entry)) (now (weight .entry)) (component rows) ⌝ }
+{
+    let weights = table::load_quads(weight).table;
+    let first = search::empty_columns(weights);
+    let mut z = rows;
+    while slice::some(z) {
+        let s = slice::step_value(z);
+        z = s.slice;
+        let y = heavier_rows(matrix, weights, first, left, right, weight, s.at);
+        if slice::some(y) {
+            return exchange_of(weight, slice::fnd(y), s.at);
+        }
+    }
+    Exchange {
+        out: 0,
+        into: 0,
+        saving: 0,
+    }
+}
+
+// The verdict on a claim that is a spanning tree, by its path matrix from vertex 1.
+fn judge(matrix: &[u64], left: &[u8], right: &[u8], weight: &[u8], mark: &[u8]) -> Verdict
+    ensures { λ r. ⌜ ((n : ℕ) → Walked (given n (now (left .entry)) (now (right .entry)) (now (weight .entry)) (now (mark .entry))) (now (matrix .entry)) → answerOf r ≡ cst (given n (now (left .entry)) (now (right .entry)) (now (weight .entry)) (now (mark .entry)))) ⌝ }
+{
+    let marked = claim::claim_rows(mark);
+    let unmarked = difference::without(claim::rows_to(left.len()), marked);
+    let found = first_lighter(matrix, left, right, weight, unmarked);
+    if found.into == 0 {
+        return Verdict::Passed(claim::weigh(weight, marked));
+    }
+    Verdict::Lighter(found)
+}
+
+// CST: the verdict on the claim. The walk's refusal is handed on.
+pub fn cst(n: u32, left: &[u8], right: &[u8], weight: &[u8], mark: &[u8]) -> Verdict
+    ensures { λ r. ⌜ answerOf r ≡ cst (given n (now (left .entry)) (now (right .entry)) (now (weight .entry)) (now (mark .entry))) ⌝ }
+{
+    let mut own = [0u64; ALL_WORDS];
+    let answer = path::matrix_path(n, left, right, weight, mark, 1, &mut own);
+    let Outcome::Refused(refusal) = answer else {
+        return judge(&own, left, right, weight, mark);
+    };
+    Verdict::Refused(refusal)
+}
