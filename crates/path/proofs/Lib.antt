@@ -1,4 +1,4 @@
+pub mod Causes
 pub mod Walks
 pub mod Paths
-pub mod Answer
 pub mod Result

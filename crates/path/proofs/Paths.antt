@@ -1,14 +1,14 @@
 -- The walk over the marked rows of an accepted table: after n steps it has reached just the vertices joined to s, and over a spanning tree its words are the tree paths.
 -- Assumes nothing.
-use Prim.Native.Nat.{ℕ, suc, _*_, _≤_}
+use Prim.Native.Nat.{ℕ, _*_, _≤_}
 use borrow.Author.Tests.{eqb-true, not-false}
 use lib.ListN.{length, take}
 use mathlib.Core.Bool.{Bool, true}
 use mathlib.Core.List.{List}
 use mathlib.Core.Option.{none}
-use mathlib.Core.Path.{_≡_, sym, ap, _∙_, subst}
+use mathlib.Core.Path.{_≡_, sym, ap, _∙_}
 use native.Mathlib.Omega.{arith}
-use Rattle.graph.specs.Graph.{Sound, Inside, Walk, joined}
+use Rattle.graph.specs.Graph.{Inside, Walk, joined}
 use Rattle.graph.specs.Trail.{trail}
 use Rattle.graph.specs.Tree.{SpanningTree}
 use Rattle.graph.proofs.Joined.{unjoined-none}
@@ -42,12 +42,18 @@ module _ (c : Call) (t : Taken c) (s : ℕ) (low : 1 ≤ s) (high : s ≤ c .n) 
   -- a claim with n − 1 marks whose rows join every vertex to s is a spanning tree
   pub joined-tree : badCount c ≡ none → unjoined c s ≡ none → SpanningTree (graphOf c) (marked (c .mark))
   unfolding badCount unjoined graphOf
-  joined-tree marks joins = record { inside = inside; marks = eqb-true _ _ (not-false _ (cause-none _ 9 0 marks)); reached = λ v l h. walk-then (walk-back (from 1 (omega arith) (t .some-vertex))) (from v l h) }
+  joined-tree marks joins =
+      record {
+        inside = inside;
+        marks = eqb-true _ _ (not-false _ (cause-none _ 9 0 marks));
+        reached = λ v l h. walk-then (walk-back (from 1 (omega arith) (t .some-vertex))) (from v l h);
+      }
     where
       from : (v : ℕ) → 1 ≤ v → v ≤ c .n → Walk (graphOf c) (marked (c .mark)) s v
       from = unjoined-none (graphOf c) (sound c t) (marked (c .mark)) inside s low high (causeAt-none 10 _ joins)
 
   module _ (words : List ℕ) (room : columnWords * c .n ≤ length words) where
+    -- the walk shows the trail
     shown : Shows (graphOf c) (marked (c .mark)) (trail (graphOf c) (marked (c .mark)) s (c .n)) (walked c s words)
     unfolding graphOf
     shown = walk-shows (graphOf c) (sound c t) (marked (c .mark)) inside (omega (arith, t .few-vertices)) (t .few-rows) s low high words room (c .n)
@@ -62,7 +68,10 @@ module _ (c : Call) (t : Taken c) (s : ℕ) (low : 1 ≤ s) (high : s ≤ c .n) 
     unfolding pathColumn graphOf
     walked-paths tree =
         columns-whole (pathColumn c s) (c .n) (walked c s words .words)
-        (λ v l h. shown .columns v (reached v l h) ∙ ap (λ (p : ℕ → Bool). wordsFrom p 0 columnWords) (trail-columns (graphOf c) (sound c t) (marked (c .mark)) tree s low high (c .n) v (reached v l h)))
+        (λ v l h. shown .columns v (reached v l h)
+        ∙ ap (λ (p : ℕ → Bool). wordsFrom p 0 columnWords) (trail-columns (graphOf c) (sound c t) (marked (c .mark)) tree s low high (c .n) v (reached v l h)))
       where
         reached : (v : ℕ) → 1 ≤ v → v ≤ c .n → trail (graphOf c) (marked (c .mark)) s (c .n) .vertices v ≡ true
-        reached v l h = ap (λ (p : ℕ → Bool). p v) (sym (shown .reached) ∙ walked-joined) ∙ tree-joined (graphOf c) (sound c t) (marked (c .mark)) tree s v low high l h
+        reached v l h =
+            ap (λ (p : ℕ → Bool). p v) (sym (shown .reached) ∙ walked-joined)
+            ∙ tree-joined (graphOf c) (sound c t) (marked (c .mark)) tree s v low high l h

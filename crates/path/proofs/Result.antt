@@ -16,25 +16,24 @@ use Rattle.refusal.specs.declared.Refusal.{Refusal}
 use Rattle.rowset.specs.Bytes.{inRow}
 use Rattle.rowset.specs.Words.{columnWords, matrixWords}
 use Rattle.rowset.proofs.Laws.{clash}
-use Rattle.slice.specs.Slices.{size}
-use Rattle.star.specs.Call.{Call, rowsOf, marked}
+use Rattle.star.specs.Call.{Call, rowsOf}
 use Rattle.star.specs.MatrixPath.{matrixPath, matrixOr, matrixAfter, pathColumn}
-use Rattle.star.specs.Refusals.{maxVertices, tableCauses, badClaim, badSource, shortMatrix, badCount, unjoined, orElse, refusal, matrixPathCauses, Accepted}
+use Rattle.star.specs.Refusals.{maxVertices, tableCauses, badSource, shortMatrix, badCount, unjoined, orElse, refusal, matrixPathCauses}
 use Rattle.star.proofs.Accepted.{Taken, taken, none-head, none-tail, cause-none}
 use Rattle.table.specs.Loads.{loadedRow}
 use Rattle.table.proofs.Loads.{load-taken, loaded-taken}
 use Rattle.claim.proofs.Laws.{claimRows-marked}
-use Rattle.path.specs.Causes.{checkCauses, unreachedCause}
+use Rattle.path.specs.Causes.{claimCauses, checkCauses, unreachedCause}
 use Rattle.path.specs.Walks.{State, claimWalk}
-use Rattle.path.proofs.Answer.{refusal-both, refusal-one, refused-first, done-next}
+use Rattle.path.proofs.Causes.{refusal-both, refusal-one, refused-first, done-next}
 use Rattle.path.proofs.Paths.{walked, walked-joined, walked-paths, joined-tree}
 
 -- the answer is that of the checks, or else that of the walk
 answer-in-order : (c : Call) (s : ℕ) (R : List ℕ) → matrixPath c s R ≡ orElse (refusal (checkCauses c s (length R))) (unjoined c s)
 unfolding matrixPath matrixPathCauses checkCauses
 answer-in-order c s R =
-    ap refusal (sym (append-assoc (tableCauses c) (badClaim c ∷ badSource c s ∷ shortMatrix c (length R) ∷ badCount c ∷ []) (unjoined c s ∷ [])))
-    ∙ refusal-both (tableCauses c ++ (badClaim c ∷ badSource c s ∷ shortMatrix c (length R) ∷ badCount c ∷ [])) (unjoined c s ∷ [])
+    ap refusal (sym (append-assoc (tableCauses c) (claimCauses c s (length R)) (unjoined c s ∷ [])))
+    ∙ refusal-both (checkCauses c s (length R)) (unjoined c s ∷ [])
     ∙ ap (orElse _) (refusal-one (unjoined c s))
 
 -- a refusal leaves the matrix as it was
@@ -55,6 +54,7 @@ pub record Checked (c : Call) (s words : ℕ) : Type 0 where
   pub room : columnWords * c .n ≤ words
   pub marks : badCount c ≡ none
 
+-- a disjunction that fails, and causes of which none applies
 neither : (a b : Bool) → (a || b) ≡ false → (a ≡ false) × (b ≡ false)
 neither true b e = clash refl e
 neither false b e = (refl, e)
@@ -75,7 +75,7 @@ checked c s words e =
       marks = none-head _ _ (none-tail _ _ rest);
     }
   where
-    parts : (refusal (tableCauses c) ≡ none) × (refusal (badClaim c ∷ badSource c s ∷ shortMatrix c words ∷ badCount c ∷ []) ≡ none)
+    parts : (refusal (tableCauses c) ≡ none) × (refusal (claimCauses c s words) ≡ none)
     parts = none-first _ _ (sym (refusal-both (tableCauses c) _) ∙ e)
 
     rest : refusal (shortMatrix c words ∷ badCount c ∷ []) ≡ none
@@ -102,6 +102,7 @@ module _ (c : Call) (s : ℕ) (R : List ℕ) (o : Outcome) (done : o ≡ Done) (
   t = settled .table
 
   module _ (own : List ℕ) (all : length own ≡ columnWords * maxVertices) where
+    -- the walk on the loaded columns is that on the byte columns
     abbrev after : State
     after = claimWalk (c .n) (c .left) (c .right) (c .mark) s own
 
@@ -109,7 +110,9 @@ module _ (c : Call) (s : ℕ) (R : List ℕ) (o : Outcome) (done : o ≡ Done) (
     loaded l h = loaded-taken 1 l (load-taken 1 l (omega (arith, t .few-rows)) (omega arith))
 
     same-walk : after ≡ walked c s own
-    same-walk = rw (loaded (c .left) refl, loaded (c .right) (t .right-length), claimRows-marked (c .mark) (omega (arith, t .few-rows, t .mark-length)))
+    same-walk =
+        let rows = claimRows-marked (c .mark) (omega (arith, t .few-rows, t .mark-length)) in
+        rw (loaded (c .left) refl, loaded (c .right) (t .right-length), rows)
 
     room : columnWords * c .n ≤ length own
     room = omega (arith, t .few-vertices)
@@ -117,7 +120,9 @@ module _ (c : Call) (s : ℕ) (R : List ℕ) (o : Outcome) (done : o ≡ Done) (
     -- the vertices that the walk does not reach are cause 10
     unreached-unjoined : unreachedCause (c .n) (after .reached) ≡ unjoined c s
     unfolding unjoined unreachedCause
-    unreached-unjoined = ap (unreachedCause (c .n)) (ap (λ (x : State). x .reached) same-walk ∙ walked-joined c t s (settled .low) (settled .high) own room)
+    unreached-unjoined =
+        ap (λ (x : State). unreachedCause (c .n) (x .reached)) same-walk
+        ∙ ap (unreachedCause (c .n)) (walked-joined c t s (settled .low) (settled .high) own room)
 
     -- and where there is none, its words are the tree paths
     walk-fills : unjoined c s ≡ none → take (columnWords * c .n) (after .words) ≡ matrixWords (pathColumn c s) (c .n)
@@ -126,6 +131,7 @@ module _ (c : Call) (s : ℕ) (R : List ℕ) (o : Outcome) (done : o ≡ Done) (
         ∙ walked-paths c t s (settled .low) (settled .high) own room (joined-tree c t s (settled .low) (settled .high) (settled .marks) joins)
 
     module _ (w : Outcome) (answer : refusalOf w ≡ unreachedCause (c .n) (after .reached)) where
+      -- the walk decides where the checks do not
       decides : refusalOf w ≡ matrixPath c s R
       decides = done-next o _ _ _ done e (answer ∙ unreached-unjoined) ∙ sym (answer-in-order c s R)
 
@@ -139,4 +145,5 @@ module _ (c : Call) (s : ℕ) (R : List ℕ) (o : Outcome) (done : o ≡ Done) (
       walk-done told l W filled copied =
           let nothing : none ≡ matrixPath c s R = sym (ap refusalOf told) ∙ decides in
           let paths = walk-fills (sym (answer ∙ unreached-unjoined) ∙ ap refusalOf told) in
-          (nothing, copied ∙ ap (λ (k : List ℕ). k ++ drop (columnWords * c .n) R) (ap (take (columnWords * c .n)) filled ∙ paths) ∙ sym (done-fills c s R nothing))
+          let words = ap (take (columnWords * c .n)) filled ∙ paths in
+          (nothing, copied ∙ ap (λ (k : List ℕ). k ++ drop (columnWords * c .n) R) words ∙ sym (done-fills c s R nothing))

@@ -1,12 +1,12 @@
 -- The walk on the machine is the trail of the graph: its slices hold the trail's vertices and the rows at them, and its words the trail's columns.
 -- Assumes nothing.
-use Prim.Native.Nat.{ℕ, zero, suc, _+_, _*_, _≤_, _<_}
+use Prim.Native.Nat.{ℕ, zero, suc, _*_, _≤_, _<_}
 use borrow.Author.Tests.{eq-eqb, ne-eqb}
 use lib.Dec.{eqb}
 use lib.ListN.{length}
 use mathlib.Core.Bool.{Bool, true, false, cond, xor, _&&_, _||_, and-eq-true-iff, and-false}
 use mathlib.Core.List.{List}
-use mathlib.Core.Logic.{⊎-elim, _≢_}
+use mathlib.Core.Logic.{_≢_}
 use mathlib.Core.Path.{_≡_, refl, sym, ap, ap₂, _∙_, fun-ext, subst}
 use native.Mathlib.Decide.{ℕ-discrete}
 use native.Mathlib.Omega.{arith}
@@ -17,7 +17,7 @@ use Rattle.rowset.specs.Searches.{equalTo}
 use Rattle.rowset.specs.Sets.{empty, upTo, both, either, oneOf, put, uppermost}
 use Rattle.rowset.specs.Words.{columnWords, wordsFrom}
 use Rattle.rowset.proofs.Laws.{clash, put-other, in-upTo, uppermost-cut, uppermost-some}
-use Rattle.slice.specs.Matrix.{columnOf, matrixColumn, withColumn}
+use Rattle.slice.specs.Matrix.{columnOf, withColumn}
 use Rattle.slice.specs.Slices.{size, written}
 use Rattle.slice.proofs.MatrixLaws.{matrixColumn-words, columnOf-same, columnOf-other, length-withColumn}
 use Rattle.path.specs.Walks.{State, nowhere, arrive, pass, along, step, steps, walk}
@@ -143,7 +143,9 @@ module _ (g : Graph) (ok : Sound g) (T : ℕ → Bool) (inside : Inside g T) (fe
       let n = near-vertex g ok (t .vertices) (suc j) (inside (suc j) e) c in
       let f = far-vertex g ok (t .vertices) (suc j) (inside (suc j) e) c in
       let ahead : x .lefts (suc j) ≡ t .vertices (g .a (suc j)) = ap (λ (p : ℕ → Bool). p (suc j)) (h .lefts) ∙ rw e in
-      rw (along-pass, ahead, matrixColumn-words (x .words) (near g (t .vertices) (suc j)) (n .1) (omega (arith, h .room)) _ (h .columns _ (n .0)), both-inside _ (λ i q. row-bounds i (rows _ (n .0) i q)), written-put _ (suc j) (omega arith) (row-bounds (suc j) e .1))
+      let column = matrixColumn-words (x .words) (near g (t .vertices) (suc j)) (n .1) (omega (arith, h .room)) _ (h .columns _ (n .0)) in
+      let whole = both-inside _ (λ i q. row-bounds i (rows _ (n .0) i q)) in
+      rw (along-pass, ahead, column, whole, written-put _ (suc j) (omega arith) (row-bounds (suc j) e .1))
       (arrive-shows g T few t x h (λ u q. vertex u q .0) (far g (t .vertices) (suc j)) (f .1) (f .2) _)
 
   module _ (s : ℕ) (low : 1 ≤ s) (high : s ≤ g .n) where
@@ -167,7 +169,9 @@ module _ (g : Graph) (ok : Sound g) (T : ℕ → Bool) (inside : Inside g T) (fe
     -- the walk on the machine shows the trail after every step
     pub walk-shows : (words : List ℕ) → columnWords * g .n ≤ length words → (k : ℕ) → Shows g T (trail g T s k) (walk (g .a) (g .b) T s words k)
     unfolding walk steps trail nowhere ends empty
-    walk-shows words room zero = subst (λ (t : Trail). Shows g T t (arrive (g .a) (g .b) T (nowhere words) s empty)) begun (arrive-shows g T few none (nowhere words) shown (λ u e. clash e refl) s low high empty)
+    walk-shows words room zero =
+        subst (λ (t : Trail). Shows g T t (arrive (g .a) (g .b) T (nowhere words) s empty)) begun
+        (arrive-shows g T few none (nowhere words) shown (λ u e. clash e refl) s low high empty)
       where
         none : Trail
         none = record { vertices = empty; columns = λ v. empty }

@@ -11,17 +11,16 @@ use Rattle.rowset.specs.Words.{columnWords}
 use Rattle.star.specs.Call.{Call}
 use Rattle.star.specs.Refusals.{cause, causeAt, tableCauses, badClaim, badSource, shortMatrix, badCount}
 
--- 7, for n alone: s is 0 or above n
-abbrev pub sourceCause : ℕ → ℕ → Option Refusal
-sourceCause n s = cause (eqb s 0 || ltb n s) 7 0
+-- 7 and 8, for n alone: s is 0 or above n, and the matrix has fewer than 16 · n words
+abbrev pub callCauses : (n s words : ℕ) → List (Option Refusal)
+callCauses n s words = cause (eqb s 0 || ltb n s) 7 0 ∷ cause (ltb words (columnWords * n)) 8 0 ∷ []
 
--- 8, for n alone: the matrix has fewer than 16 · n words
-abbrev pub roomCause : ℕ → ℕ → Option Refusal
-roomCause n words = cause (ltb words (columnWords * n)) 8 0
+-- causes 6 to 9, and causes 1 to 9: all that are sought before the walk
+abbrev pub claimCauses : Call → (s words : ℕ) → List (Option Refusal)
+claimCauses c s words = badClaim c ∷ badSource c s ∷ shortMatrix c words ∷ badCount c ∷ []
 
--- causes 1 to 9, in their order: all that are sought before the walk
-unfoldable pub checkCauses : Call → ℕ → ℕ → List (Option Refusal)
-checkCauses c s words = tableCauses c ++ (badClaim c ∷ badSource c s ∷ shortMatrix c words ∷ badCount c ∷ [])
+unfoldable pub checkCauses : Call → (s words : ℕ) → List (Option Refusal)
+checkCauses c s words = tableCauses c ++ claimCauses c s words
 
 -- 10, for the vertices reached alone: the smallest vertex of 1 to n that is not among them
 unfoldable pub unreachedCause : ℕ → (ℕ → Bool) → Option Refusal

@@ -1,6 +1,6 @@
 // MatrixPath on the machine: a walk over the marked rows from the source vertex, which fills a path matrix of its own; the caller's matrix is written once nothing can be refused any more.
 ghost use mathlib.Core.Path.{_≡_};
-ghost use mathlib.Core.List.{_++_, [], _∷_};
+ghost use mathlib.Core.List.{_++_};
 ghost use Prim.Native.Nat.{_≤_};
 ghost use lib.ListN.{length, take, drop};
 ghost use Rattle.refusal.specs.Outcomes.{refusalOf};
@@ -9,7 +9,7 @@ ghost use Rattle.star.specs.MatrixPath.{matrixPath, matrixAfter};
 ghost use Rattle.star.specs.Refusals.{orElse, refusal};
 ghost use Rattle.table.specs.Tables.{row};
 ghost use Rattle.checks.specs.Checks.{given};
-ghost use Rattle.path.specs.Causes.{sourceCause, roomCause, checkCauses, unreachedCause};
+ghost use Rattle.path.specs.Causes.{callCauses, checkCauses, unreachedCause};
 ghost use Rattle.path.specs.Walks.{stateOf, arrive, pass, along, step, walk, claimWalk};
 use refusal::Outcome;
 use refusal::Refusal;
@@ -151,7 +151,7 @@ fn refused(number: u32) -> Outcome
 
 // Causes 7 and 8: the source vertex, and the size of the matrix.
 fn call_check(n: u32, s: u32, words: usize) -> Outcome
-    ensures { λ r. ⌜ refusalOf r ≡ refusal (sourceCause n s ∷ roomCause n words ∷ []) ⌝ }
+    ensures { λ r. ⌜ refusalOf r ≡ refusal (callCauses n s words) ⌝ }
 {
     if s == 0 {
         return refused(7);

@@ -1,6 +1,6 @@
 -- `path::path_check` meets its contract: the table's check refuses, or the other checks decide in their order.
 -- Assumes nothing.
-use Rattle.path.proofs.Answer.{refused-first, done-next, checks-in-order}
+use Rattle.path.proofs.Causes.{refused-first, done-next, checks-in-order}
 use borrow.Author.Needs.{needs}
 use mathlib.Core.Path.{sym, _∙_}
 use Rattle.path.proofs.path_check.Statement.{statement}

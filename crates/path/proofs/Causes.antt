@@ -1,4 +1,4 @@
--- MatrixPath's answer from its parts: the smallest vertex not reached.
+-- The causes of MatrixPath as its checks find them: the smallest vertex not reached, and causes 1 to 9 in their order.
 -- Assumes nothing.
 use Prim.Native.Nat.{ℕ, zero, suc, _≤_, _<_}
 use mathlib.Core.Bool.{Bool, not}
@@ -17,7 +17,7 @@ use Rattle.star.specs.Call.{Call}
 use Rattle.star.specs.Refusals.{tableCauses, badClaim, badSource, shortMatrix, badCount, orElse, refusal}
 use Rattle.checks.specs.Checks.{claimCause, countCause}
 use Rattle.checks.proofs.Laws.{claim-cause, count-cause}
-use Rattle.path.specs.Causes.{sourceCause, roomCause, checkCauses}
+use Rattle.path.specs.Causes.{callCauses, claimCauses, checkCauses}
 
 -- ── The uppermost of 1 to m, by the uppermost of 1 to k, for sets that agree on 1 to m ──
 
@@ -55,7 +55,7 @@ pub done-next : (o : Outcome) (x y z : Option Refusal) → o ≡ Done → refusa
 unfolding refusalOf orElse
 done-next o x y z told e h = rw (← e, told) h
 
--- the refusal of two lists of causes, one after the other
+-- the refusal of two lists of causes, one after the other, and of one cause
 pub refusal-both : (xs ys : List (Option Refusal)) → refusal (xs ++ ys) ≡ orElse (refusal xs) (refusal ys)
 unfolding refusal orElse
 refusal-both [] ys = refl
@@ -67,13 +67,13 @@ unfolding refusal orElse
 refusal-one none = refl
 refusal-one (some r) = refl
 
--- causes 1 to 9, as the checks of the table, the claim, the source and the matrix, and the count find them
-pub checks-in-order : (c : Call) (s words : ℕ) → refusal (checkCauses c s words) ≡ orElse (refusal (tableCauses c)) (orElse (claimCause (c .mark)) (orElse (refusal (sourceCause (c .n) s ∷ roomCause (c .n) words ∷ [])) (countCause (c .n) (c .mark))))
+-- causes 1 to 9 by the checks of the table, of the claim, of the source and the matrix, and of the count
+pub checks-in-order : (c : Call) (s words : ℕ) → refusal (checkCauses c s words) ≡ orElse (refusal (tableCauses c)) (orElse (claimCause (c .mark)) (orElse (refusal (callCauses (c .n) s words)) (countCause (c .n) (c .mark))))
 unfolding checkCauses badSource shortMatrix refusal orElse
 checks-in-order c s words = refusal-both (tableCauses c) _ ∙ go (refusal (tableCauses c)) refl
   where
-    go : (o : Option Refusal) → refusal (tableCauses c) ≡ o → orElse o (refusal (badClaim c ∷ badSource c s ∷ shortMatrix c words ∷ badCount c ∷ [])) ≡ orElse o (orElse (claimCause (c .mark)) (orElse (refusal (sourceCause (c .n) s ∷ roomCause (c .n) words ∷ [])) (countCause (c .n) (c .mark))))
+    go : (o : Option Refusal) → refusal (tableCauses c) ≡ o → orElse o (refusal (claimCauses c s words)) ≡ orElse o (orElse (claimCause (c .mark)) (orElse (refusal (callCauses (c .n) s words)) (countCause (c .n) (c .mark))))
     go none e =
         rw (claim-cause c e, count-cause c e)
-        (ap (orElse (badClaim c)) (refusal-both (sourceCause (c .n) s ∷ roomCause (c .n) words ∷ []) (badCount c ∷ []) ∙ ap (orElse (refusal (sourceCause (c .n) s ∷ roomCause (c .n) words ∷ []))) (refusal-one (badCount c))))
+        (ap (orElse (badClaim c)) (refusal-both (callCauses (c .n) s words) (badCount c ∷ []) ∙ ap (orElse (refusal (callCauses (c .n) s words))) (refusal-one (badCount c))))
     go (some r) e = refl

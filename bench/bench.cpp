@@ -1,0 +1,204 @@
+// MST1 and CST through the door against a plain implementation in C and, where they are installed, LEMON, Boost Graph and igraph.
+// Every solver starts from the same byte columns: it builds its graph and finds the tree's weight. One process, one table at a time; the
+// median of many rounds. The weights found are compared, so a solver that is wrong is told.
+#include <algorithm>
+#include <chrono>
+#include <cstdint>
+#include <cstdio>
+#include <cstdlib>
+#include <vector>
+
+#include "star.h"
+
+extern "C" {
+#include "plain.h"
+}
+
+#if __has_include(<lemon/list_graph.h>)
+#include <lemon/kruskal.h>
+#include <lemon/smart_graph.h>
+#define HAVE_LEMON 1
+#endif
+#if __has_include(<boost/graph/kruskal_min_spanning_tree.hpp>)
+#include <boost/graph/adjacency_list.hpp>
+#include <boost/graph/kruskal_min_spanning_tree.hpp>
+#define HAVE_BOOST 1
+#endif
+#if __has_include(<igraph/igraph.h>)
+#include <igraph/igraph.h>
+#define HAVE_IGRAPH 1
+#endif
+
+namespace {
+
+struct Table {
+    uint32_t n;
+    std::vector<uint8_t> left, right, weight, mark;
+    size_t rows() const { return left.size(); }
+    uint32_t price(size_t i) const {
+        const uint8_t *w = &weight[4 * i];
+        return uint32_t(w[0]) | uint32_t(w[1]) << 8 | uint32_t(w[2]) << 16 | uint32_t(w[3]) << 24;
+    }
+};
+
+uint64_t state = 88172645463325252u;
+
+uint32_t any(uint32_t below) {
+    state ^= state << 13;
+    state ^= state >> 7;
+    state ^= state << 17;
+    return uint32_t((state >> 11) % below);
+}
+
+// A connected table with prices below `spread`.
+Table make(uint32_t n, size_t m, uint32_t spread) {
+    Table t{n, {}, {}, {}, std::vector<uint8_t>(m)};
+    for (size_t i = 0; i < m; i++) {
+        uint32_t a = i + 1 < n ? uint32_t(i) + 2 : 1 + any(n), b = i + 1 < n ? 1 + any(uint32_t(i) + 1) : 1 + any(n);
+        while (a == b) b = 1 + any(n);
+        uint32_t w = any(spread);
+        t.left.push_back(uint8_t(a));
+        t.right.push_back(uint8_t(b));
+        for (int k = 0; k < 4; k++) t.weight.push_back(uint8_t(w >> (8 * k)));
+    }
+    return t;
+}
+
+uint64_t amount(const uint8_t *answer) { return star_read_answer(answer).amount; }
+
+uint64_t door_mst1(Table &t) {
+    uint8_t answer[16];
+    star_mst1(t.n, t.left.data(), t.rows(), t.right.data(), t.rows(), t.weight.data(), t.weight.size(), t.mark.data(), t.rows(), answer, 16);
+    return amount(answer);
+}
+
+// The claim is the least tree, so that every unmarked row is looked at.
+uint64_t door_cst(Table &t) {
+    uint8_t answer[16];
+    star_cst(t.n, t.left.data(), t.rows(), t.right.data(), t.rows(), t.weight.data(), t.weight.size(), t.mark.data(), t.rows(), answer, 16);
+    return amount(answer);
+}
+
+call call_of(Table &t) {
+    return {t.n, t.left.data(), t.right.data(), t.weight.data(), t.mark.data(), t.rows(), t.rows(), t.weight.size(), t.rows()};
+}
+
+uint64_t plain_build(Table &t) {
+    uint8_t answer[16];
+    call c = call_of(t);
+    plain_mst1(&c, answer, 16);
+    return amount(answer);
+}
+
+uint64_t plain_check(Table &t) {
+    uint8_t answer[16];
+    call c = call_of(t);
+    plain_cst(&c, answer, 16);
+    return amount(answer);
+}
+
+#ifdef HAVE_LEMON
+uint64_t lemon_tree(Table &t) {
+    lemon::SmartGraph g;
+    g.reserveNode(int(t.n));
+    g.reserveEdge(int(t.rows()));
+    std::vector<lemon::SmartGraph::Node> node(t.n + 1);
+    for (uint32_t v = 1; v <= t.n; v++) node[v] = g.addNode();
+    lemon::SmartGraph::EdgeMap<uint32_t> cost(g);
+    for (size_t i = 0; i < t.rows(); i++) cost[g.addEdge(node[t.left[i]], node[t.right[i]])] = t.price(i);
+    std::vector<lemon::SmartGraph::Edge> tree;
+    lemon::kruskal(g, cost, std::back_inserter(tree));
+    uint64_t total = 0;
+    for (auto e : tree) total += cost[e];
+    return total;
+}
+#endif
+
+#ifdef HAVE_BOOST
+uint64_t boost_tree(Table &t) {
+    using Graph = boost::adjacency_list<boost::vecS, boost::vecS, boost::undirectedS, boost::no_property, boost::property<boost::edge_weight_t, uint32_t>>;
+    Graph g(t.n);
+    for (size_t i = 0; i < t.rows(); i++) boost::add_edge(t.left[i] - 1u, t.right[i] - 1u, t.price(i), g);
+    std::vector<boost::graph_traits<Graph>::edge_descriptor> tree;
+    boost::kruskal_minimum_spanning_tree(g, std::back_inserter(tree));
+    auto cost = boost::get(boost::edge_weight, g);
+    uint64_t total = 0;
+    for (auto e : tree) total += cost[e];
+    return total;
+}
+#endif
+
+#ifdef HAVE_IGRAPH
+uint64_t igraph_tree(Table &t) {
+    igraph_t g;
+    igraph_vector_int_t ends, tree;
+    igraph_vector_t cost;
+    igraph_vector_int_init(&ends, igraph_integer_t(2 * t.rows()));
+    igraph_vector_init(&cost, igraph_integer_t(t.rows()));
+    igraph_vector_int_init(&tree, 0);
+    for (size_t i = 0; i < t.rows(); i++) {
+        VECTOR(ends)[2 * i] = t.left[i] - 1;
+        VECTOR(ends)[2 * i + 1] = t.right[i] - 1;
+        VECTOR(cost)[i] = t.price(i);
+    }
+    igraph_create(&g, &ends, igraph_integer_t(t.n), IGRAPH_UNDIRECTED);
+    igraph_minimum_spanning_tree(&g, &tree, &cost);
+    uint64_t total = 0;
+    for (igraph_integer_t i = 0; i < igraph_vector_int_size(&tree); i++) total += uint64_t(VECTOR(cost)[VECTOR(tree)[i]]);
+    igraph_destroy(&g);
+    igraph_vector_int_destroy(&ends);
+    igraph_vector_int_destroy(&tree);
+    igraph_vector_destroy(&cost);
+    return total;
+}
+#endif
+
+// The median time of one call, in microseconds.
+template <class F> double time_of(F solve, Table &t, uint64_t expected, const char *name) {
+    using clock = std::chrono::steady_clock;
+    std::vector<double> times;
+    auto end = clock::now() + std::chrono::milliseconds(300);
+    do {
+        auto from = clock::now();
+        uint64_t got = solve(t);
+        times.push_back(std::chrono::duration<double, std::micro>(clock::now() - from).count());
+        if (got != expected) {
+            std::printf("%s gives %llu, expected %llu\n", name, (unsigned long long)got, (unsigned long long)expected);
+            std::exit(1);
+        }
+    } while (clock::now() < end && times.size() < 20000);
+    std::nth_element(times.begin(), times.begin() + times.size() / 2, times.end());
+    return times[times.size() / 2];
+}
+
+void row(const char *name, double us, double build, double check) { std::printf("  %-14s %9.1f us   %6.2f of MST1  %6.2f of CST\n", name, us, us / build, us / check); }
+
+void measure(uint32_t n, size_t m, uint32_t spread) {
+    Table t = make(n, m, spread);
+    uint64_t expected = plain_build(t);
+    double build = time_of(door_mst1, t, expected, "star_mst1"), check = time_of(door_cst, t, expected, "star_cst");
+    std::printf("n %u, m %zu, prices below %u\n", n, m, spread);
+    row("star_mst1", build, build, check);
+    row("star_cst", check, build, check);
+    row("plain build", time_of(plain_build, t, expected, "plain"), build, check);
+    row("plain check", time_of(plain_check, t, expected, "plain"), build, check);
+#ifdef HAVE_LEMON
+    row("LEMON", time_of(lemon_tree, t, expected, "LEMON"), build, check);
+#endif
+#ifdef HAVE_BOOST
+    row("Boost Graph", time_of(boost_tree, t, expected, "Boost"), build, check);
+#endif
+#ifdef HAVE_IGRAPH
+    row("igraph", time_of(igraph_tree, t, expected, "igraph"), build, check);
+#endif
+}
+
+} // namespace
+
+int main() {
+    std::printf("Median of one call; the ratio is the time over that of star_mst1 and of star_cst (above 1: slower than ours).\n");
+    const uint32_t sizes[][2] = {{5, 16}, {17, 64}, {64, 256}, {255, 256}, {64, 1024}, {255, 1024}};
+    for (auto s : sizes) measure(s[0], s[1], 1u << 31);
+    measure(255, 1024, 5000);
+    return 0;
+}

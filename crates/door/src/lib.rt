@@ -1,0 +1,108 @@
+// The console's door: CST and MST1 for C, on byte columns and a lent answer of sixteen bytes.
+// If the lent answer has not sixteen bytes the call returns 0 and writes nothing anywhere; else it returns 1.
+use answer::Record;
+use answer::write_answer;
+use cst::Verdict;
+use mst1::Built;
+ghost use mathlib.Core.Path.{_≡_};
+ghost use Rattle.answer.specs.Records.{fieldsOf};
+ghost use Rattle.checks.specs.Checks.{given};
+ghost use Rattle.cst.specs.Verdicts.{answerOf as verdictAnswer};
+ghost use Rattle.mst1.specs.Answers.{answerOf as builtAnswer};
+ghost use Rattle.star.specs.Door.{fields, doorReturns, cstDoor, mst1Door, mst1DoorMarks};
+
+// The fields of CST's verdict.
+pub fn of_verdict(v: Verdict) -> Record
+    ensures { λ r. ⌜ fieldsOf r ≡ fields (verdictAnswer v) ⌝ }
+{
+    match v {
+        Verdict::Passed(weight) => Record {
+            kind: 1,
+            number: 0,
+            out: 0,
+            into: 0,
+            amount: weight,
+        },
+        Verdict::Lighter(x) => Record {
+            kind: 2,
+            number: 0,
+            out: x.out,
+            into: x.into,
+            amount: x.saving,
+        },
+        Verdict::Refused(r) => Record {
+            kind: 0,
+            number: r.number,
+            out: r.place,
+            into: 0,
+            amount: 0,
+        },
+    }
+}
+
+// The fields of what MST1 built.
+pub fn of_built(b: Built) -> Record
+    ensures { λ r. ⌜ fieldsOf r ≡ fields (builtAnswer b) ⌝ }
+{
+    match b {
+        Built::Tree(weight) => Record {
+            kind: 1,
+            number: 0,
+            out: 0,
+            into: 0,
+            amount: weight,
+        },
+        Built::Refused(r) => Record {
+            kind: 0,
+            number: r.number,
+            out: r.place,
+            into: 0,
+            amount: 0,
+        },
+    }
+}
+
+// CST through the door.
+#[no_mangle]
+pub extern "C" fn star_cst(
+    n: u32,
+    left: &[u8],
+    right: &[u8],
+    weight: &[u8],
+    mark: &[u8],
+    answer: &mut [u8],
+) -> u32
+    ensures returned { λ r. ⌜ r ≡ doorReturns (now (answer .entry)) ⌝ }
+    ensures answered { λ r. ⌜ now (answer .exit) ≡ cstDoor (given n (now (left .entry)) (now (right .entry)) (now (weight .entry)) (now (mark .entry))) (now (answer .entry)) ⌝ }
+{
+    if answer.len() != 16 {
+        return 0;
+    }
+    let v = cst::cst(n, left, right, weight, mark);
+    let x = of_verdict(v);
+    write_answer(answer, x);
+    1
+}
+
+// MST1 through the door: the marks are written where a tree is built, and stay as they are otherwise.
+#[no_mangle]
+pub extern "C" fn star_mst1(
+    n: u32,
+    left: &[u8],
+    right: &[u8],
+    weight: &[u8],
+    mark: &mut [u8],
+    answer: &mut [u8],
+) -> u32
+    ensures returned { λ r. ⌜ r ≡ doorReturns (now (answer .entry)) ⌝ }
+    ensures answered { λ r. ⌜ now (answer .exit) ≡ mst1Door (given n (now (left .entry)) (now (right .entry)) (now (weight .entry)) (now (mark .entry))) (now (answer .entry)) ⌝ }
+    ensures marks { λ r. ⌜ now (mark .exit) ≡ mst1DoorMarks (given n (now (left .entry)) (now (right .entry)) (now (weight .entry)) (now (mark .entry))) (now (answer .entry)) ⌝ }
+{
+    if answer.len() != 16 {
+        return 0;
+    }
+    let b = mst1::mst1(n, left, right, weight, mark);
+    let x = of_built(b);
+    write_answer(answer, x);
+    1
+}

@@ -1,0 +1,88 @@
+/* The console's door to the verified tree checker and tree builder.
+ *
+ * A table has n junctions, numbered 1 to n, and m rows. Row i joins two junctions at a price:
+ *   left, right   one byte a row, the two junctions
+ *   weight        four bytes a row, the price, least significant byte first
+ *   mark          one byte a row, 1 for a marked row and 0 for any other: the claim
+ * m is the length of the left column.
+ *
+ * star_cst  judges the claim and writes nothing but the answer.
+ * star_mst1 builds a least network and marks its rows; it does not read the marks it was lent.
+ *
+ * Both return 1 with the verdict in the sixteen bytes of the answer, or 0 if the lent answer has
+ * not sixteen bytes; then nothing is written anywhere. Every other input is taken, whatever its
+ * bytes and lengths: a fault is told as a refusal with its number and place, and a refused call
+ * leaves the marks as they were.
+ *
+ * The caller owes that each pointer has as many readable bytes behind it as its length says (writable
+ * ones behind answer, and behind mark in star_mst1), and that a column that is written overlaps no
+ * other. An empty column may be lent as a null pointer with length 0. Nothing else is asked.
+ */
+#ifndef STAR_H
+#define STAR_H
+
+#include <stddef.h>
+#include <stdint.h>
+
+#ifdef __cplusplus
+extern "C" {
+#endif
+
+/* The largest table that is taken. */
+enum { STAR_MAX_JUNCTIONS = 255, STAR_MAX_ROWS = 1024, STAR_ANSWER_BYTES = 16 };
+#define STAR_MAX_PRICE UINT32_C(2147483647)
+
+/* Byte 0 of an answer. */
+enum star_kind {
+    STAR_REFUSED = 0,
+    STAR_PASSED = 1, /* star_cst: no cheaper set exists; star_mst1: the network is built */
+    STAR_LIGHTER = 2 /* a cheaper set exists: the exchange of two rows is one */
+};
+
+/* Byte 1 of a refused answer, and what its place is. */
+enum star_refusal {
+    STAR_BAD_JUNCTION_COUNT = 1, /* n is 0 or above 255 */
+    STAR_TOO_MANY_ROWS = 2,      /* m is above 1,024 */
+    STAR_BAD_LENGTHS = 3,        /* right or mark is not m bytes, or weight not 4 m */
+    STAR_BAD_END = 4,            /* place: the uppermost row with an end that is 0 or above n, or with equal ends */
+    STAR_BAD_PRICE = 5,          /* place: the uppermost row with a price above 2,147,483,647 */
+    STAR_BAD_MARK = 6,           /* place: the uppermost row marked with another byte than 0 and 1 (star_cst) */
+    STAR_BAD_MARK_COUNT = 9,     /* the marks are not n - 1 (star_cst) */
+    STAR_NOT_JOINED = 10,        /* place: the smallest junction that marked rows do not join to 1 (star_cst) */
+    STAR_NO_NETWORK = 11         /* no set of rows joins every junction (star_mst1) */
+};
+
+uint32_t star_cst(uint32_t n, const uint8_t *left, size_t left_len, const uint8_t *right, size_t right_len,
+                  const uint8_t *weight, size_t weight_len, const uint8_t *mark, size_t mark_len, uint8_t *answer,
+                  size_t answer_len);
+
+uint32_t star_mst1(uint32_t n, const uint8_t *left, size_t left_len, const uint8_t *right, size_t right_len,
+                   const uint8_t *weight, size_t weight_len, uint8_t *mark, size_t mark_len, uint8_t *answer,
+                   size_t answer_len);
+
+/* The sixteen bytes as fields; those that a kind lacks are 0. */
+struct star_answer {
+    unsigned kind;    /* byte 0: enum star_kind */
+    unsigned number;  /* byte 1: enum star_refusal, 0 unless refused */
+    unsigned out;     /* bytes 2 and 3: lighter: the row to take out; refused: the place */
+    unsigned in;      /* bytes 4 and 5: lighter: the row to put in */
+    uint64_t amount;  /* bytes 8 to 15: passed: the total; lighter: the saving */
+};
+
+static inline struct star_answer star_read_answer(const uint8_t bytes[16]) {
+    struct star_answer a;
+    int i;
+    a.kind = bytes[0];
+    a.number = bytes[1];
+    a.out = (unsigned)bytes[2] | (unsigned)bytes[3] << 8;
+    a.in = (unsigned)bytes[4] | (unsigned)bytes[5] << 8;
+    a.amount = 0;
+    for (i = 7; i >= 0; i--) a.amount = a.amount << 8 | bytes[8 + i];
+    return a;
+}
+
+#ifdef __cplusplus
+}
+#endif
+
+#endif

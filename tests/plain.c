@@ -1,0 +1,161 @@
+#include "plain.h"
+
+#include <stdlib.h>
+#include <string.h>
+
+enum { MAX_N = 255, MAX_M = 1024 };
+
+static uint32_t price_of(const struct call *c, size_t i) {
+    const uint8_t *w = c->weight + 4 * i;
+    return (uint32_t)w[0] | (uint32_t)w[1] << 8 | (uint32_t)w[2] << 16 | (uint32_t)w[3] << 24;
+}
+
+static void put(uint8_t *answer, unsigned kind, unsigned number, unsigned out, unsigned in, uint64_t amount) {
+    int i;
+    memset(answer, 0, 16);
+    answer[0] = (uint8_t)kind;
+    answer[1] = (uint8_t)number;
+    answer[2] = (uint8_t)out;
+    answer[3] = (uint8_t)(out >> 8);
+    answer[4] = (uint8_t)in;
+    answer[5] = (uint8_t)(in >> 8);
+    for (i = 0; i < 8; i++) answer[8 + i] = (uint8_t)(amount >> (8 * i));
+}
+
+static int refuse(uint8_t *answer, unsigned number, size_t place) {
+    put(answer, 0, number, (unsigned)place, 0, 0);
+    return 1;
+}
+
+/* Causes 1 to 5. */
+static int bad_table(const struct call *c, uint8_t *answer) {
+    size_t m = c->left_len, i;
+    if (c->n == 0 || c->n > MAX_N) return refuse(answer, 1, 0);
+    if (m > MAX_M) return refuse(answer, 2, 0);
+    if (c->right_len != m || c->mark_len != m || c->weight_len != 4 * m) return refuse(answer, 3, 0);
+    for (i = 0; i < m; i++) {
+        unsigned a = c->left[i], b = c->right[i];
+        if (a == 0 || b == 0 || a > c->n || b > c->n || a == b) return refuse(answer, 4, i + 1);
+        if (price_of(c, i) > 2147483647u) return refuse(answer, 5, i + 1);
+    }
+    return 0;
+}
+
+static int root(int *up, int v) {
+    while (up[v] != v) v = up[v] = up[up[v]];
+    return v;
+}
+
+static const uint32_t *sort_price;
+
+static int by_price(const void *x, const void *y) {
+    size_t a = *(const uint16_t *)x, b = *(const uint16_t *)y;
+    if (sort_price[a] != sort_price[b]) return sort_price[a] < sort_price[b] ? -1 : 1;
+    return a < b ? -1 : a > b;
+}
+
+size_t plain_tree(uint32_t n, const uint8_t *left, const uint8_t *right, const uint32_t *price, size_t m, uint8_t *mark) {
+    uint16_t order[MAX_M];
+    int up[MAX_N + 1];
+    size_t i, chosen = 0;
+    for (i = 0; i < m; i++) order[i] = (uint16_t)i;
+    for (i = 0; i <= n; i++) up[i] = (int)i;
+    sort_price = price;
+    qsort(order, m, sizeof order[0], by_price);
+    memset(mark, 0, m);
+    for (i = 0; i < m; i++) {
+        size_t r = order[i];
+        int a = root(up, left[r]), b = root(up, right[r]);
+        if (a == b) continue;
+        up[a] = b;
+        mark[r] = 1;
+        chosen++;
+    }
+    return chosen;
+}
+
+uint32_t plain_mst1(const struct call *c, uint8_t *answer, size_t answer_len) {
+    uint8_t mark[MAX_M];
+    uint32_t price[MAX_M] = {0};
+    uint64_t total = 0;
+    size_t m = c->left_len, i;
+    if (answer_len != 16) return 0;
+    if (bad_table(c, answer)) return 1;
+    for (i = 0; i < m; i++) price[i] = price_of(c, i);
+    if (plain_tree(c->n, c->left, c->right, price, m, mark) != c->n - 1) {
+        refuse(answer, 11, 0);
+        return 1;
+    }
+    for (i = 0; i < m; i++) total += mark[i] ? price[i] : 0;
+    if (m) memcpy(c->mark, mark, m);
+    put(answer, 1, 0, 0, 0, total);
+    return 1;
+}
+
+/* Hangs the marked rows below vertex 1: each vertex's parent, the row to it, and its depth (0: not reached). */
+struct hung {
+    int parent[MAX_N + 1], row[MAX_N + 1], depth[MAX_N + 1];
+};
+
+static void hang(const struct call *c, struct hung *h) {
+    int changed = 1;
+    size_t i;
+    memset(h, 0, sizeof *h);
+    h->depth[1] = 1;
+    while (changed) {
+        changed = 0;
+        for (i = 0; i < c->left_len; i++) {
+            int a = c->left[i], b = c->right[i], t;
+            if (c->mark[i] != 1) continue;
+            if (!h->depth[a] == !h->depth[b]) continue;
+            if (!h->depth[a]) t = a, a = b, b = t;
+            h->parent[b] = a;
+            h->row[b] = (int)i + 1;
+            h->depth[b] = h->depth[a] + 1;
+            changed = 1;
+        }
+    }
+}
+
+/* The uppermost row heavier than w on the path between a and b, 0 if there is none. */
+static int heavier(const struct call *c, const struct hung *h, int a, int b, uint32_t w) {
+    int best = 0;
+    while (a != b) {
+        int t, r;
+        if (h->depth[a] < h->depth[b]) t = a, a = b, b = t;
+        r = h->row[a];
+        if (price_of(c, (size_t)r - 1) > w && (!best || r < best)) best = r;
+        a = h->parent[a];
+    }
+    return best;
+}
+
+uint32_t plain_cst(const struct call *c, uint8_t *answer, size_t answer_len) {
+    struct hung h;
+    uint64_t total = 0;
+    size_t m = c->left_len, marks = 0, i;
+    uint32_t v;
+    if (answer_len != 16) return 0;
+    if (bad_table(c, answer)) return 1;
+    for (i = 0; i < m; i++)
+        if (c->mark[i] > 1) return (uint32_t)refuse(answer, 6, i + 1);
+    for (i = 0; i < m; i++) marks += c->mark[i];
+    if (marks + 1 != c->n) return (uint32_t)refuse(answer, 9, 0);
+    hang(c, &h);
+    for (v = 1; v <= c->n; v++)
+        if (!h.depth[v]) return (uint32_t)refuse(answer, 10, v);
+    for (i = 0; i < m; i++) {
+        int out;
+        if (c->mark[i]) {
+            total += price_of(c, i);
+            continue;
+        }
+        out = heavier(c, &h, c->left[i], c->right[i], price_of(c, i));
+        if (out) {
+            put(answer, 2, 0, (unsigned)out, (unsigned)i + 1, price_of(c, (size_t)out - 1) - price_of(c, i));
+            return 1;
+        }
+    }
+    put(answer, 1, 0, 0, 0, total);
+    return 1;
+}
