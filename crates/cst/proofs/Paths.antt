@@ -1,19 +1,17 @@
--- What CST reads of a call that it does not refuse: the heavier rows, the two rows of the exchange and the claim's weight are those of the definition.
--- Assumes nothing.
-use Prim.Native.Nat.{ℕ, zero, suc, _*_, _-_, _%_, _≤_, _<_}
-use borrow.Author.Tests.{eq-eqb, le-ltb}
-use mathlib.Core.Bool.{Bool, true, false, not, cond, _&&_, xor, and-false, and-eq-true-iff}
+-- What CST reads from a path matrix, and that for a call that it does not refuse the heavier rows, the two rows of the exchange and the claim's weight
+-- are those of the definition. Assumes nothing.
+use Prim.Native.Nat.{ℕ, zero, suc, _*_, _-_, _≤_, _<_}
+use mathlib.Core.Bool.{Bool, true, false, cond, _&&_, xor, and-false, and-eq-true-iff}
 use mathlib.Core.List.{List, [], _∷_, _++_}
 use mathlib.Core.Option.{Option, none, some}
-use mathlib.Core.Path.{_≡_, refl, sym, ap, _∙_, fun-ext}
+use mathlib.Core.Path.{_≡_, refl, sym, _∙_, fun-ext}
 use lib.Dec.{eqb}
 use lib.ListN.{length, drop}
 use native.Mathlib.Omega.{arith}
-use Rattle.graph.specs.Graph.{Sound}
 use Rattle.graph.specs.Tree.{onPath}
 use Rattle.refusal.specs.declared.Refusal.{Refusal}
-use Rattle.rowset.proofs.Laws.{refuted, clash, upTo-in, in-upTo, any-cut, any-found, uppermost-cut, uppermost-ext, uppermost-some, uppermost-zero, sum-cut, xor-self}
-use Rattle.rowset.proofs.Members.{both-in, without-in}
+use Rattle.rowset.proofs.Laws.{refuted, clash, upTo-in, in-upTo, any-cut, any-found, uppermost-cut, uppermost-ext, uppermost-some, uppermost-zero, xor-self}
+use Rattle.rowset.proofs.Members.{without-in}
 use Rattle.rowset.proofs.Searches.{greaterThan-in}
 use Rattle.rowset.specs.Bytes.{inRow}
 use Rattle.rowset.specs.Searches.{greaterThan}
@@ -22,14 +20,14 @@ use Rattle.rowset.specs.Words.{columnWords}
 use Rattle.slice.proofs.MatrixLaws.{matrix-column}
 use Rattle.slice.specs.Matrix.{matrixColumn}
 use Rattle.slice.specs.Slices.{size}
+use Rattle.table.proofs.Loads.{load-taken, loaded-taken}
+use Rattle.table.specs.Loads.{loadRefusal, loadedRow}
 use Rattle.star.proofs.Accepted.{none-head, none-tail, none-both, none-nil, Taken, taken, sound}
 use Rattle.star.proofs.Claims.{marked-row}
 use Rattle.star.specs.Call.{Call, rowsOf, graphOf, weightOf, marked, claimWeight}
-use Rattle.star.specs.Cst.{between, heavier, improves, rowIn, rowOut, Answer, refused, passed, lighter, judged, verdict, cst}
+use Rattle.star.specs.Cst.{refused, passed, lighter, between, heavier, improves, rowIn, rowOut, judged, verdict, cst}
 use Rattle.star.specs.MatrixPath.{pathColumn, matrixPath, matrixOr, matrixAfter}
 use Rattle.star.specs.Refusals.{maxVertices, cstCauses, tableCauses, refusal}
-use Rattle.table.proofs.Loads.{load-taken, loaded-taken}
-use Rattle.table.specs.Loads.{loadRefusal, loadedRow}
 use Rattle.claim.proofs.Laws.{claimRows-marked, claimRows-sum, rows-fit}
 use Rattle.claim.specs.Claims.{claimRows}
 use Rattle.cst.proofs.Refused.{path-refusal}
@@ -68,14 +66,6 @@ module _ (matrix left right weight : List ℕ) where
     unfolding firstLighter exchangeOf inRow
     none-found e = rw (← same, exhausted size Z (someHeavier matrix left right weight) e, none-heavier)
 
--- an uppermost position is at most m
-pub uppermost-bound : (m : ℕ) (p : ℕ → Bool) → uppermost m p ≤ m
-uppermost-bound m p = go (uppermost m p) refl
-  where
-    go : (i : ℕ) → uppermost m p ≡ i → i ≤ m
-    go zero e = omega arith
-    go (suc j) e = uppermost-some m j p e .1
-
 -- ── A call that CST does not refuse ──
 
 -- where no cause of a list applies, none of its first part does
@@ -111,7 +101,7 @@ module _ (c : Call) (e : refusal (cstCauses c) ≡ none) where
           rw (in-upTo size k l (omega (arith, accepted .few-rows)))
       held j k false h = and-false (upTo size k)
 
-  -- so are the rows heavier than row i on the path between its ends
+  -- so are the rows that are heavier than row i on the path between its ends: none is above m
   heavier-above : (i k : ℕ) → rowsOf c < k → heavier c i k ≡ false
   unfolding heavier between oneOf
   heavier-above i k u = refuted _ (λ h. go (pathColumn c 1 a k) (pathColumn c 1 b k) refl refl (greaterThan-in (weightOf c) (weightOf c i) (between c i) k h .0))
@@ -127,7 +117,7 @@ module _ (c : Call) (e : refusal (cstCauses c) ≡ none) where
       go false true f g t = omega (arith, column-row b k g .1)
       go false false f g t = clash t (xor-self false)
 
-  -- the loaded weights are the rows', the rows of the claim are the marked ones, and their weight is the claim's
+  -- the loaded weights are those of the rows, the rows that are left are the unmarked ones, and the weight of the claim's rows is the claim's
   loaded-weight : loadedRow 4 (c .weight) ≡ weightOf c
   unfolding weightOf
   loaded-weight =

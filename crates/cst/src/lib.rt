@@ -16,9 +16,6 @@ use slice::difference;
 use slice::matrix;
 use table::Table;
 
-// The words of a path matrix with as many columns as there can be vertices.
-const ALL_WORDS: usize = 4080;
-
 // The exchange that makes a claim lighter: the marked row that goes out, the unmarked row that comes in, and how much less the claim then weighs.
 pub struct Exchange {
     pub out: u32,
@@ -33,7 +30,7 @@ pub enum Verdict {
     Refused(Refusal),
 }
 
-// The rows on the tree path between row i's ends that are heavier than row i. The weights are read from the columns of the table after the first ones.
+// The rows on the tree path between row i's ends that are heavier than row i. `weights` is the weight column as a table, of which the first columns are left out.
 fn heavier_rows(
     matrix: &[u64],
     weights: Table,
@@ -55,7 +52,7 @@ fn heavier_rows(
     search::great_from(weights, first, w, x)
 }
 
-// The exchange of row out for row into, which is lighter.
+// The exchange of row out for row into, which is not heavier.
 fn exchange_of(weight: &[u8], out: usize, into: usize) -> Exchange
     requires { ⌜ (out ≤ size) × (into ≤ size) × (inRow 4 (now weight) into ≤ inRow 4 (now weight) out) ⌝ }
     ensures { λ r. ⌜ r ≡ exchangeOf (now (weight .entry)) out into ⌝ }
@@ -67,7 +64,7 @@ fn exchange_of(weight: &[u8], out: usize, into: usize) -> Exchange
     }
 }
 
-// The rows are taken from the top. The first with a heavier row on the path between its ends comes in, and the uppermost such row goes out; all is 0 where there is none.
+// The rows are taken from the top: the first that has a heavier row on the path between its ends comes in, and the uppermost such row goes out. All is 0 where none has.
 fn first_lighter(matrix: &[u64], left: &[u8], right: &[u8], weight: &[u8], rows: Slice) -> Exchange
     ensures { λ r. ⌜ r ≡ firstLighter (now (matrix .entry)) (now (left .entry)) (now (right .entry)) (now (weight .entry)) (component rows) ⌝ }
 {
@@ -102,11 +99,11 @@ fn judge(matrix: &[u64], left: &[u8], right: &[u8], weight: &[u8], mark: &[u8]) 
     Verdict::Lighter(found)
 }
 
-// CST: the verdict on the claim. The walk's refusal is handed on.
+// CST: the verdict on the claim. Where MatrixPath refuses, its refusal is handed on unread.
 pub fn cst(n: u32, left: &[u8], right: &[u8], weight: &[u8], mark: &[u8]) -> Verdict
     ensures { λ r. ⌜ answerOf r ≡ cst (given n (now (left .entry)) (now (right .entry)) (now (weight .entry)) (now (mark .entry))) ⌝ }
 {
-    let mut own = [0u64; ALL_WORDS];
+    let mut own = [0u64; path::ALL_WORDS];
     let answer = path::matrix_path(n, left, right, weight, mark, 1, &mut own);
     let Outcome::Refused(refusal) = answer else {
         return judge(&own, left, right, weight, mark);

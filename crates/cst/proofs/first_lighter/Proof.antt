@@ -1,24 +1,17 @@
-use mathlib.Core.Bool.{true, false}
-use mathlib.Core.Path.{_≡_, refl, sym, ap, _∙_}
+-- `cst::first_lighter` meets its contract. The loop's invariant: the columns read hold the loaded weights, and the row sought among the rows still to be looked at
+-- is the one sought among all. The measure is how many rows are still to be looked at. Assumes nothing.
+use mathlib.Core.Path.{_≡_, refl, ap, _∙_}
 use borrow.Author.Needs.{needs}
-use Rattle.rowset.specs.Sets.{both, any, uppermost, count}
+use Rattle.checks.proofs.Laws.{uppermost-bound}
+use Rattle.rowset.specs.Sets.{both, uppermost, count}
 use Rattle.search.proofs.Blanks.{empty-row}
 use Rattle.slice.specs.Slices.{size, component}
 use Rattle.table.specs.Loads.{loadedRow}
-use Rattle.cst.proofs.Paths.{heavier-out, exchange-found, none-found, uppermost-bound}
+use Rattle.cst.proofs.Paths.{heavier-out, exchange-found, none-found}
 use Rattle.cst.proofs.Sets.{passed-over, fewer}
 use Rattle.cst.specs.Paths.{rowsAfter, someHeavier, firstHeavier}
 use Rattle.cst.proofs.first_lighter.Statement.{statement}
 use Rattle.cst.proofs.first_lighter.Tie as tie
-use Rattle.cst.proofs.first_lighter.Reads as reads
-use Rattle.cst.proofs.first_lighter.Lts as lts
-use Rattle.cst.proofs.exchange_of.Reads as exchange-of-reads
-use Rattle.cst.proofs.heavier_rows.Reads as heavier-rows-reads
-use Rattle.search.proofs.empty_columns.Reads as empty-columns-reads
-use Rattle.slice.proofs.fnd.Reads as fnd-reads
-use Rattle.slice.proofs.some.Reads as some-reads
-use Rattle.slice.proofs.step_value.Reads as step-value-reads
-use Rattle.table.proofs.load_quads.Reads as load-quads-reads
 
 abbrev Inv-loop : tie.InvT-loop
 Inv-loop matrix left right weight weights first z₀ z =
@@ -29,53 +22,20 @@ Inv-loop matrix left right weight weights first z₀ z =
 abbrev μ-loop : tie.MeasureT-loop
 μ-loop matrix left right weight weights first z₀ z = count size (component z)
 
--- src/lib.rt:65:19
-load-quads-requires : tie.Need-load-quads-requires Inv-loop μ-loop
-load-quads-requires c κs = search needs
-
--- src/lib.rt:66:9
-empty-columns-requires : tie.Need-empty-columns-requires Inv-loop μ-loop
-empty-columns-requires c κs = search needs
-
--- src/lib.rt:68:5
 loop-holds : tie.Need-loop-holds Inv-loop μ-loop
-loop-holds c =
-    let loaded = c .before .before .load-quads .ensures .1 in
-    (rw (c .empty-columns .ensures) (empty-row _ ∙ loaded), refl)
+loop-holds c = (rw (c .empty-columns .ensures) (empty-row _ ∙ c .before .before .load-quads .ensures .1), refl)
 
--- src/lib.rt:68:11
-some-requires : tie.Need-some-requires Inv-loop μ-loop
-some-requires c κs = search needs
-
--- src/lib.rt:69:13
-step-value-requires : tie.Need-step-value-requires Inv-loop μ-loop
-step-value-requires c κs = search needs
-
--- src/lib.rt:71:13
-heavier-rows-requires : tie.Need-heavier-rows-requires Inv-loop μ-loop
-heavier-rows-requires c κs = search needs
-
--- src/lib.rt:72:12
-some-requires-2 : tie.Need-some-requires-2 Inv-loop μ-loop
-some-requires-2 c κs = search needs
-
--- src/lib.rt:73:40
-fnd-requires : tie.Need-fnd-requires Inv-loop μ-loop
-fnd-requires c κs = search needs
-
--- src/lib.rt:73:13
 exchange-of-requires : tie.Need-exchange-of-requires Inv-loop μ-loop
 unfolding someHeavier firstHeavier
 exchange-of-requires c κs =
     let y = c .before .before .before .heavier-rows in
     let s = c .before .before .before .before .before .step-value in
     let l = c .before .before .before .before .before .before .before .before .loop in (
-      rw (c .fnd .ensures) (uppermost-bound size _),
-      rw (s .ensures .0) (uppermost-bound size _),
+      uppermost-bound size _ _ (c .fnd .ensures),
+      uppermost-bound size _ _ (s .ensures .0),
       rw (c .fnd .ensures, y .ensures, l .inv .0) (heavier-out _ _ _ _ _ (cc)),
     )
 
--- src/lib.rt:73:13
 returns : tie.Need-returns Inv-loop μ-loop
 unfolding someHeavier firstHeavier
 returns c =
@@ -86,7 +46,6 @@ returns c =
 loop-less : tie.Need-loop-less Inv-loop μ-loop
 loop-less c = rw (c .before .before .before .before .step-value .ensures .1) (fewer size _ (cc))
 
--- src/lib.rt:68:5
 loop-again : tie.Need-loop-again Inv-loop μ-loop
 unfolding someHeavier
 loop-again c =
@@ -94,7 +53,6 @@ loop-again c =
     let l = c .before .before .before .before .before .before .before .loop in
     (l .inv .0, rw (s .ensures .1) (ap (uppermost size) (passed-over _ _ _ (cc)) ∙ l .inv .1))
 
--- src/lib.rt:60:1
 returns-2 : tie.Need-returns-2 Inv-loop μ-loop
 returns-2 c = none-found _ _ _ _ _ _ (c .before .before .loop .inv .1) (cc)
 
@@ -104,14 +62,14 @@ first-lighter-spec =
     (tie.spec
     Inv-loop
     μ-loop
-    load-quads-requires
-    empty-columns-requires
+    (λ c κs. search needs)
+    (λ c κs. search needs)
     loop-holds
-    some-requires
-    step-value-requires
-    heavier-rows-requires
-    some-requires-2
-    fnd-requires
+    (λ c κs. search needs)
+    (λ c κs. search needs)
+    (λ c κs. search needs)
+    (λ c κs. search needs)
+    (λ c κs. search needs)
     exchange-of-requires
     returns
     loop-less
