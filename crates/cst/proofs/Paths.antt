@@ -17,8 +17,8 @@ use Rattle.rowset.specs.Bytes.{inRow}
 use Rattle.rowset.specs.Searches.{greaterThan}
 use Rattle.rowset.specs.Sets.{upTo, both, oneOf, without, any, uppermost, sum}
 use Rattle.rowset.specs.Words.{columnWords}
-use Rattle.slice.proofs.MatrixLaws.{matrix-column}
-use Rattle.slice.specs.Matrix.{matrixColumn}
+use Rattle.matrix.proofs.Laws.{matrix-column}
+use Rattle.matrix.specs.Matrix.{matrixColumn}
 use Rattle.slice.specs.Slices.{size}
 use Rattle.table.proofs.Loads.{load-taken, loaded-taken}
 use Rattle.table.specs.Loads.{loadRefusal, loadedRow}

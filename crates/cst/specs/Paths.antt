@@ -9,7 +9,7 @@ use Rattle.rowset.specs.Bytes.{inRow}
 use Rattle.rowset.specs.Columns.{number}
 use Rattle.rowset.specs.Searches.{greaterThan}
 use Rattle.rowset.specs.Sets.{both, oneOf, any, uppermost}
-use Rattle.slice.specs.Matrix.{matrixColumn}
+use Rattle.matrix.specs.Matrix.{matrixColumn}
 use Rattle.slice.specs.Slices.{size}
 use Rattle.star.specs.Call.{Call}
 use Rattle.star.specs.MatrixPath.{pathColumn}

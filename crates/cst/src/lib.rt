@@ -13,7 +13,6 @@ use refusal::Outcome;
 use refusal::Refusal;
 use slice::Slice;
 use slice::difference;
-use slice::matrix;
 use table::Table;
 
 // The exchange that makes a claim lighter: the marked row that goes out, the unmarked row that comes in, and how much less the claim then weighs.

@@ -18,7 +18,7 @@ use Rattle.graph.proofs.Trail.{trail-vertices, trail-columns}
 use Rattle.rowset.specs.Bytes.{inRow}
 use Rattle.rowset.specs.Words.{columnWords, wordsFrom, matrixWords}
 use Rattle.rowset.proofs.Laws.{in-upTo}
-use Rattle.slice.proofs.MatrixLaws.{columns-whole}
+use Rattle.matrix.proofs.Laws.{columns-whole}
 use Rattle.star.specs.Call.{Call, rowsOf, graphOf, marked}
 use Rattle.star.specs.MatrixPath.{pathColumn}
 use Rattle.star.specs.Refusals.{badCount, unjoined}

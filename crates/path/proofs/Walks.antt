@@ -17,9 +17,9 @@ use Rattle.rowset.specs.Searches.{equalTo}
 use Rattle.rowset.specs.Sets.{empty, upTo, both, either, oneOf, put, uppermost}
 use Rattle.rowset.specs.Words.{columnWords, wordsFrom}
 use Rattle.rowset.proofs.Laws.{clash, put-other, in-upTo, uppermost-cut, uppermost-some}
-use Rattle.slice.specs.Matrix.{columnOf, withColumn}
+use Rattle.matrix.specs.Matrix.{columnOf, withColumn}
 use Rattle.slice.specs.Slices.{size, written}
-use Rattle.slice.proofs.MatrixLaws.{matrixColumn-words, columnOf-same, columnOf-other, length-withColumn}
+use Rattle.matrix.proofs.Laws.{matrixColumn-words, columnOf-same, columnOf-other, length-withColumn}
 use Rattle.path.specs.Walks.{State, nowhere, arrive, pass, along, step, steps, walk}
 
 -- the rows of T whose end in the column e is a vertex of Q

@@ -5,7 +5,7 @@ use mathlib.Core.Bool.{Bool, true, cond}
 use mathlib.Core.List.{List}
 use Rattle.rowset.specs.Searches.{equalTo}
 use Rattle.rowset.specs.Sets.{empty, either, oneOf, uppermost}
-use Rattle.slice.specs.Matrix.{matrixColumn, withColumn}
+use Rattle.matrix.specs.Matrix.{matrixColumn, withColumn}
 use Rattle.slice.specs.Slices.{size, component, written}
 use Rattle.table.specs.Loads.{loadedRow}
 use Rattle.claim.specs.Claims.{claimRows}

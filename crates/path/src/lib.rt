@@ -14,7 +14,6 @@ ghost use Rattle.path.specs.Walks.{stateOf, arrive, pass, along, step, w
 use refusal::Outcome;
 use refusal::Refusal;
 use slice::Slice;
-use slice::matrix;
 use table::Table;
 
 // The words of a column of a path matrix, and of a matrix with as many columns as there can be vertices.

@@ -2,6 +2,4 @@ pub mod Bits
 pub mod Sets
 pub mod Laws
 pub mod Merge
-pub mod MatrixLaws
-pub mod Digits
 pub mod Stores

@@ -1,4 +1,1 @@
 pub mod Slices
-pub mod Matrix
-pub mod Planes
-pub mod Blocks

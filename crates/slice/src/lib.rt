@@ -6,14 +6,12 @@ ghost use Rattle.rowset.specs.Sets.{empty, upTo, both, either, oneOf, without, 
 ghost use Rattle.slice.specs.Slices.{size, component, written};
 
 pub mod difference; // difference.rt: one slice without another
-pub mod matrix; // matrix.rt: columns of the path matrix
-pub mod planes; // planes.rt: bytes split into bit planes
 pub mod rows; // rows.rt: the rows of a table
 
 // The number of components of a slice, of the words that hold them, and of the components in a word.
 pub const SIZE: usize = 1024;
 
-const WORDS: usize = 16;
+pub const WORDS: usize = 16;
 
 const BITS: usize = 64;
 

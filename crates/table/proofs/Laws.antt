@@ -11,10 +11,10 @@ use Rattle.rowset.specs.Sets.{empty, upTo}
 use Rattle.slice.specs.Slices.{size, bit, component}
 use Rattle.slice.specs.declared.Slice.{Slice}
 use Rattle.slice.proofs.Bits.{bit-of-zero}
-use Rattle.slice.proofs.Digits.{bit-above}
+use Rattle.planes.proofs.Digits.{bit-above}
 use Rattle.slice.proofs.Laws.{component-outside}
 use Rattle.slice.proofs.Stores.{getD-within}
-use Rattle.slice.proofs.planes.Words.{blank-empty}
+use Rattle.planes.proofs.Words.{blank-empty}
 use Rattle.table.specs.Tables.{width, blank, column, row}
 use Rattle.table.specs.declared.Table.{Table}
 use Rattle.table.proofs.Columns.{number-below, number-bits, number-bit}

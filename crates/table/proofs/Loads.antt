@@ -15,10 +15,10 @@ use borrow.Author.Tests.{le-leb, lt-leb, lt-ltb, le-ltb, eq-eqb, ne-eqb}
 use Rattle.rowset.specs.Columns.{number}
 use Rattle.rowset.specs.Sets.{empty, upTo}
 use Rattle.rowset.specs.Bytes.{little, inRow}
-use Rattle.slice.specs.Planes.{plane, bitPlane}
+use Rattle.planes.specs.Planes.{plane, bitPlane}
 use Rattle.slice.specs.Slices.{size, component}
 use Rattle.slice.specs.declared.Slice.{Slice}
-use Rattle.slice.specs.declared.planes.Planes.{Planes}
+use Rattle.planes.specs.declared.Planes.{Planes}
 use Rattle.slice.proofs.Bits.{bit-of-zero}
 use Rattle.slice.proofs.Sets.{upTo-inside, upTo-below, upTo-above}
 use Rattle.slice.proofs.Stores.{getD-within}

@@ -5,7 +5,7 @@ use mathlib.Core.Bool.{Bool}
 use lib.ListN.{getD}
 use Rattle.rowset.specs.Columns.{number}
 use Rattle.rowset.specs.Sets.{empty}
-pub use Rattle.slice.specs.Planes.{blank}
+pub use Rattle.planes.specs.Planes.{blank}
 use Rattle.slice.specs.Slices.{component}
 use Rattle.table.specs.declared.Table.{Table}
 

@@ -6,10 +6,9 @@ ghost use Rattle.slice.specs.Slices.{component};
 ghost use Rattle.table.specs.Tables.{column, row};
 ghost use Rattle.table.specs.Loads.{refused, loadRefusal, loadedRow};
 ghost use Rattle.table.specs.Steps.{byteIn, upperBytes};
+use planes::Planes;
 use refusal::Refusal;
 use slice::Slice;
-use slice::planes;
-use slice::planes::Planes;
 
 // The number of columns of a table, and of those left of the last eight.
 pub const WIDTH: usize = 32;

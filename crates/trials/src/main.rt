@@ -106,7 +106,7 @@ fn columns(matrix: &[u64], n: usize) {
     let mut j: usize = 0;
     while j < n {
         text(b" {");
-        positions(slice::matrix::read_column(matrix, j + 1));
+        positions(matrix::read_column(matrix, j + 1));
         text(b" }");
         j += 1;
     }

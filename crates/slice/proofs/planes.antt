@@ -1,2 +1,0 @@
--- What the proofs of several functions of `planes`, and of its callers, use.
-pub mod Words
