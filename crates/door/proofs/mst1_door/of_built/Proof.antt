@@ -1,18 +1,19 @@
--- `door::of_built` meets its contract: each case's fields, written out. Assumes nothing.
+-- `door::mst1_door::of_built` meets its contract: each case's fields, written out. Assumes nothing.
 use borrow.Author.Needs.{needs}
+use mathlib.Core.Path.{refl}
 use Rattle.answer.specs.Records.{fieldsOf}
 use Rattle.mst1.specs.Answers.{answerOf}
-use Rattle.door.proofs.of_built.Statement.{statement}
-use Rattle.door.proofs.of_built.Tie as tie
+use Rattle.door.proofs.mst1_door.of_built.Statement.{statement}
+use Rattle.door.proofs.mst1_door.of_built.Tie as tie
 use Rattle.star.specs.Door.{fields}
 
 returns : tie.Need-returns
 unfolding fieldsOf fields answerOf
-returns c = rw (c .before .b .given .1)
+returns c = rw (c .before .b .given .1) refl
 
 returns-2 : tie.Need-returns-2
 unfolding fieldsOf fields answerOf
-returns-2 c = rw (c .before .b2 .given .1)
+returns-2 c = rw (c .before .b2 .given .1) refl
 
 pub of-built-spec : {M : Type 1} → statement M
 of-built-spec = tie.close (tie.spec (λ c. search needs) (λ c. search needs) returns returns-2)

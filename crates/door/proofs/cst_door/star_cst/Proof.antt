@@ -1,20 +1,21 @@
--- `door::star_cst` meets its contract: what CST, `of_verdict` and `write_answer` promise, one after the other. Assumes nothing.
+-- `door::cst_door::star_cst` meets its contract: what CST, `of_verdict` and `write_answer` promise, one after the other. Assumes nothing.
 use borrow.Author.Needs.{needs}
 use borrow.Author.Tests.{eq-eqb, ne-eqb}
 use lib.ListN.{length}
 use mathlib.Core.Path.{refl, ap, _∙_}
-use Rattle.door.proofs.star_cst.Statement.{statement}
-use Rattle.door.proofs.star_cst.Tie as tie
+use native.Mathlib.Omega.{arith}
+use Rattle.door.proofs.cst_door.star_cst.Statement.{statement}
+use Rattle.door.proofs.cst_door.star_cst.Tie as tie
 use Rattle.star.specs.Door.{fields, written, wellLent, doorReturns, cstDoor}
 
 returns : tie.Need-returns
 unfolding doorReturns wellLent cstDoor written
-returns c = rw (ne-eqb (length (c .before .before .before .before .before .before .args .answer .now)) 16 (c .if1 .taken)) (refl, refl)
+returns c = rw (ne-eqb (length (c .before .before .before .before .before .before .args .answer .now)) 16 (λ e. omega arith)) (refl, refl)
 
 returns-2 : tie.Need-returns-2
 unfolding doorReturns wellLent cstDoor
 returns-2 c =
-    rw (eq-eqb (length (c .before .before .before .before .before .before .before .before .before .before .before .before .args .answer .now)) 16 (c .before .before .before .before .before .before .if1 .left))
+    rw (eq-eqb (length (c .before .before .before .before .before .before .before .before .before .before .before .before .args .answer .now)) 16 (omega arith))
     (refl, c .before .before .write-answer .ensures ∙ ap (written _) (c .before .before .before .before .of-verdict .ensures ∙ ap fields (c .before .before .before .before .before .cst .ensures)))
 
 pub star-cst-spec : {M : Type 1} → statement M

@@ -1,20 +1,21 @@
--- `door::star_mst1` meets its contract: what MST1, `of_built` and `write_answer` promise, one after the other. Assumes nothing.
+-- `door::mst1_door::star_mst1` meets its contract: what MST1, `of_built` and `write_answer` promise, one after the other. Assumes nothing.
 use borrow.Author.Needs.{needs}
 use borrow.Author.Tests.{eq-eqb, ne-eqb}
 use lib.ListN.{length}
 use mathlib.Core.Path.{refl, ap, _∙_}
-use Rattle.door.proofs.star_mst1.Statement.{statement}
-use Rattle.door.proofs.star_mst1.Tie as tie
+use native.Mathlib.Omega.{arith}
+use Rattle.door.proofs.mst1_door.star_mst1.Statement.{statement}
+use Rattle.door.proofs.mst1_door.star_mst1.Tie as tie
 use Rattle.star.specs.Door.{fields, written, wellLent, doorReturns, mst1Door, mst1DoorMarks}
 
 returns : tie.Need-returns
 unfolding doorReturns wellLent mst1Door written mst1DoorMarks
-returns c = rw (ne-eqb (length (c .before .before .before .before .before .before .args .answer .now)) 16 (c .if1 .taken)) (refl, (refl, refl))
+returns c = rw (ne-eqb (length (c .before .before .before .before .before .before .args .answer .now)) 16 (λ e. omega arith)) (refl, (refl, refl))
 
 returns-2 : tie.Need-returns-2
 unfolding doorReturns wellLent mst1Door mst1DoorMarks
 returns-2 c =
-    rw (eq-eqb (length (c .before .before .before .before .before .before .before .before .before .before .before .before .before .before .before .args .answer .now)) 16 (c .before .before .before .before .before .before .before .before .before .if1 .left)) (
+    rw (eq-eqb (length (c .before .before .before .before .before .before .before .before .before .before .before .before .before .before .before .args .answer .now)) 16 (omega arith)) (
       refl,
       (c .before .before .write-answer .ensures ∙ ap (written _) (c .before .before .before .before .of-built .ensures ∙ ap fields (c .before .before .before .before .before .before .before .mst1 .ensures .0)), c .before .before .before .before .before .before .before .mst1 .ensures .1),
     )

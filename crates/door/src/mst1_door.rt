@@ -1,0 +1,54 @@
+// MST1 for C.
+use answer::Record;
+use answer::write_answer;
+use mst1::Built;
+ghost use mathlib.Core.Path.{_≡_};
+ghost use Rattle.answer.specs.Records.{fieldsOf};
+ghost use Rattle.checks.specs.Checks.{given};
+ghost use Rattle.mst1.specs.Answers.{answerOf};
+ghost use Rattle.star.specs.Door.{fields, doorReturns, mst1Door, mst1DoorMarks};
+
+// The fields of what MST1 built.
+pub fn of_built(b: Built) -> Record
+    ensures { λ r. ⌜ fieldsOf r ≡ fields (answerOf b) ⌝ }
+{
+    match b {
+        Built::Tree(weight) => Record {
+            kind: 1,
+            number: 0,
+            out: 0,
+            into: 0,
+            amount: weight,
+        },
+        Built::Refused(r) => Record {
+            kind: 0,
+            number: r.number,
+            out: r.place,
+            into: 0,
+            amount: 0,
+        },
+    }
+}
+
+// MST1 through the door: the marks are written where a tree is built, and stay as they are otherwise.
+#[no_mangle]
+pub extern "C" fn star_mst1(
+    n: u32,
+    left: &[u8],
+    right: &[u8],
+    weight: &[u8],
+    mark: &mut [u8],
+    answer: &mut [u8],
+) -> u32
+    ensures returned { λ r. ⌜ r ≡ doorReturns (now (answer .entry)) ⌝ }
+    ensures answered { λ r. ⌜ now (answer .exit) ≡ mst1Door (given n (now (left .entry)) (now (right .entry)) (now (weight .entry)) (now (mark .entry))) (now (answer .entry)) ⌝ }
+    ensures marks { λ r. ⌜ now (mark .exit) ≡ mst1DoorMarks (given n (now (left .entry)) (now (right .entry)) (now (weight .entry)) (now (mark .entry))) (now (answer .entry)) ⌝ }
+{
+    if answer.len() != 16 {
+        return 0;
+    }
+    let b = mst1::mst1(n, left, right, weight, mark);
+    let x = of_built(b);
+    write_answer(answer, x);
+    1
+}
