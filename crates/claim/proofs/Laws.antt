@@ -9,7 +9,7 @@ use mathlib.Core.List.{List}
 use mathlib.Core.Path.{_≡_, refl, fun-ext}
 use native.Mathlib.Omega.{arith}
 use Rattle.claim.specs.Claims.{claimRows}
-use Rattle.rowset.proofs.Laws.{refuted, upTo-in, in-upTo, sum-cut}
+use Rattle.rowset.proofs.Laws.{refuted, upTo-in, both-inside, sum-cut}
 use Rattle.rowset.specs.Searches.{equalTo}
 use Rattle.rowset.specs.Sets.{empty, upTo, both, sum}
 use Rattle.slice.specs.Slices.{size}
@@ -18,23 +18,15 @@ use Rattle.star.specs.Call.{marked}
 use Rattle.table.proofs.Loads.{load-long, load-taken, loaded-refused, loaded-taken}
 use Rattle.table.specs.Loads.{loadedRow}
 
--- a set whose positions are rows 1 to 1,024 is not changed where it is cut to them
-cut-none : (p : ℕ → Bool) → ((i : ℕ) → p i ≡ true → (1 ≤ i) × (i ≤ size)) → (i : ℕ) → (upTo size i && p i) ≡ p i
-cut-none p h i = go (p i) refl
-  where
-    go : (b : Bool) → p i ≡ b → (upTo size i && b) ≡ b
-    go true e = rw (in-upTo size i (h i e .0) (h i e .1))
-    go false e = and-false (upTo size i)
-
 -- MATCH with 1 over all rows of a loaded claim
 pub match-claim : (l : List ℕ) → equalTo (loadedRow 1 l) 1 (upTo size) ≡ claimRows l
-unfolding equalTo claimRows marked empty
+unfolding equalTo claimRows marked empty both
 match-claim l = go (leb (length l) size) refl
   where
     go : (b : Bool) → leb (length l) size ≡ b → equalTo (loadedRow 1 l) 1 (upTo size) ≡ cond b (marked l) empty
     go true e =
         let h = leb-true (length l) size e in
-        rw (loaded-taken 1 l (load-taken 1 l (omega arith) (omega arith))) (fun-ext (cut-none (marked l) (λ i m. let r = marked-row l i m in (r .0, omega arith))))
+        rw (loaded-taken 1 l (load-taken 1 l (omega arith) (omega arith))) (both-inside size (marked l) (λ i m. let r = marked-row l i m in (r .0, omega arith)))
     go false e =
         let h = leb-false (length l) size e in
         rw (loaded-refused 1 l 1 (load-long 1 l (omega arith))) (fun-ext λ i. and-false (upTo size i))
@@ -52,5 +44,4 @@ claimRows-sum l w h = rw (claimRows-marked l h) (sum-cut size (length l) w (mark
 
 -- the rows of a table that fits a slice
 pub rows-fit : (m : ℕ) → m ≤ size → both (upTo size) (upTo m) ≡ upTo m
-unfolding both
-rows-fit m h = fun-ext (cut-none (upTo m) (λ i e. let r = upTo-in m i e in (r .0, omega arith)))
+rows-fit m h = both-inside size (upTo m) (λ i e. let r = upTo-in m i e in (r .0, omega arith))

@@ -16,7 +16,7 @@ use Rattle.graph.proofs.Trail.{near-vertex, far-vertex, trail-vertex, trail-ins
 use Rattle.rowset.specs.Searches.{equalTo}
 use Rattle.rowset.specs.Sets.{empty, upTo, both, either, oneOf, put, uppermost}
 use Rattle.rowset.specs.Words.{columnWords, wordsFrom}
-use Rattle.rowset.proofs.Laws.{clash, put-other, in-upTo, uppermost-cut, uppermost-some}
+use Rattle.rowset.proofs.Laws.{clash, put-other, in-upTo, uppermost-cut, uppermost-some, both-inside}
 use Rattle.matrix.specs.Matrix.{columnOf, withColumn}
 use Rattle.slice.specs.Slices.{size, written}
 use Rattle.matrix.proofs.Laws.{matrixColumn-words, columnOf-same, columnOf-other, length-withColumn}
@@ -48,15 +48,6 @@ ends-cross g T Q = fun-ext λ i. go (T i) (Q (g .a i)) (Q (g .b i))
 written-put : (p : ℕ → Bool) (k : ℕ) → 1 ≤ k → k ≤ size → written p k true ≡ put p k
 unfolding written
 written-put p k l h = rw (in-upTo size k l h)
-
--- a set of positions of 1 to 1,024 is not cut by a slice
-both-inside : (p : ℕ → Bool) → ((i : ℕ) → p i ≡ true → (1 ≤ i) × (i ≤ size)) → both (upTo size) p ≡ p
-unfolding both
-both-inside p h = fun-ext λ i. go i (p i) refl
-  where
-    go : (i : ℕ) (b : Bool) → p i ≡ b → (upTo size i && p i) ≡ p i
-    go i true e = rw (in-upTo size i (h i e .0) (h i e .1))
-    go i false e = rw (e, and-false (upTo size i))
 
 -- the state x of the machine shows the trail t
 pub record Shows (g : Graph) (T : ℕ → Bool) (t : Trail) (x : State) : Type 0 where
@@ -144,7 +135,7 @@ module _ (g : Graph) (ok : Sound g) (T : ℕ → Bool) (inside : Inside g T) (fe
       let f = far-vertex g ok (t .vertices) (suc j) (inside (suc j) e) c in
       let ahead : x .lefts (suc j) ≡ t .vertices (g .a (suc j)) = ap (λ (p : ℕ → Bool). p (suc j)) (h .lefts) ∙ rw e in
       let column = matrixColumn-words (x .words) (near g (t .vertices) (suc j)) (n .1) (omega (arith, h .room)) _ (h .columns _ (n .0)) in
-      let whole = both-inside _ (λ i q. row-bounds i (rows _ (n .0) i q)) in
+      let whole = both-inside _ _ (λ i q. row-bounds i (rows _ (n .0) i q)) in
       rw (along-pass, ahead, column, whole, written-put _ (suc j) (omega arith) (row-bounds (suc j) e .1))
       (arrive-shows g T few t x h (λ u q. vertex u q .0) (far g (t .vertices) (suc j)) (f .1) (f .2) _)
 

@@ -5,12 +5,12 @@ use borrow.Author.Tests.{eqb-true, eqb-false, eq-eqb, ne-eqb, leb-true, le-leb, 
 use lib.Dec.{eqb, ltb}
 use mathlib.Core.Bool.{Bool, true, false, not, cond, xor, _&&_, and-eq-true-iff, and-true, and-false, or-true, or-false}
 use mathlib.Core.Logic.{_⊎_, inl, inr, ⊎-elim, _≢_}
-use mathlib.Core.Path.{_≡_, refl, sym, _∙_, ap, subst}
+use mathlib.Core.Path.{_≡_, refl, sym, _∙_, ap, subst, fun-ext}
 use native.Mathlib.Decide.{ℕ-discrete}
 use native.Mathlib.Nat.{add-zero, eq-or-lt-of-le}
 use native.Mathlib.Omega.{arith}
 use Rattle.rowset.specs.Searches.{smallest}
-use Rattle.rowset.specs.Sets.{empty, upTo, put, takeOut, oneOf, any, firstOf, uppermost, sum, count, odd}
+use Rattle.rowset.specs.Sets.{empty, upTo, both, put, takeOut, oneOf, any, firstOf, uppermost, sum, count, odd}
 
 -- ── Reasoning by cases and by induction ──
 
@@ -77,6 +77,15 @@ upTo-in m i e =
 pub in-upTo : (m i : ℕ) → 1 ≤ i → i ≤ m → upTo m i ≡ true
 unfolding upTo
 in-upTo m i l u = rw (le-leb 1 i l, le-leb i m u)
+
+-- a set of positions of 1 to m is not changed where it is cut to them
+pub both-inside : (m : ℕ) (p : ℕ → Bool) → ((i : ℕ) → p i ≡ true → (1 ≤ i) × (i ≤ m)) → both (upTo m) p ≡ p
+unfolding both
+both-inside m p h = fun-ext λ i. go i (p i) refl
+  where
+    go : (i : ℕ) (b : Bool) → p i ≡ b → (upTo m i && p i) ≡ p i
+    go i true e = rw (in-upTo m i (h i e .0) (h i e .1))
+    go i false e = rw (e, and-false (upTo m i))
 
 -- ── What is computed over 1 to m depends only on the positions 1 to m ──
 

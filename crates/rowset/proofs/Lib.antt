@@ -1,3 +1,4 @@
 pub mod Laws
 pub mod Searches
 pub mod Members
+pub mod Numbers

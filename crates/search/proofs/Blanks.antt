@@ -15,7 +15,8 @@ use Rattle.slice.specs.Slices.{size, component}
 use Rattle.table.specs.Tables.{width, blank, column, row}
 use Rattle.table.specs.declared.Table.{Table}
 use Rattle.search.specs.Blanks.{emptyColumns}
-use Rattle.search.proofs.Columns.{number-split, number-below, number-one}
+use Rattle.rowset.proofs.Numbers.{number-split, number-below}
+use Rattle.search.proofs.Columns.{number-one}
 use Rattle.search.proofs.Loops.{none, column-read, component-in}
 
 module _ (c : ℕ → ℕ → Bool) where

@@ -1,4 +1,4 @@
--- Laws of the number in bit columns: its bound, columns in two parts, and that the columns are the number's bits.
+-- The columns of a number are its bits.
 -- Assumes nothing.
 use Prim.Native.Nat.{ℕ, zero, suc, _+_, _-_, _*_, _/_, _%_, _^_, _≤_, _<_}
 use mathlib.Core.Bool.{Bool, true, false, cond}
@@ -8,14 +8,11 @@ use native.Mathlib.Omega.{arith}
 use lib.Dec.{eqb}
 use borrow.Author.Tests.{eqb-true, eqb-false}
 use Rattle.rowset.specs.Columns.{number}
+use Rattle.rowset.proofs.Numbers.{bit-small}
 use Rattle.slice.specs.Slices.{bit}
 use Rattle.slice.proofs.Bits.{bit-zero, bit-suc}
 
--- a bit as a number is below 2, and it is the bit of that number
-bit-small : (b : Bool) → cond b 1 0 < 2
-bit-small true = omega arith
-bit-small false = omega arith
-
+-- a bit as a number has that bit
 bit-back : (b : Bool) → eqb (cond b 1 0) 1 ≡ b
 bit-back true = refl
 bit-back false = refl
@@ -28,20 +25,6 @@ digit-back d h = go (eqb d 1) refl
     go false e = omega (arith, eqb-false d 1 e)
 
 module _ (c : ℕ → ℕ → Bool) where
-  -- n columns hold a number below 2 ^ n
-  pub number-below : (s n i : ℕ) → number c s n i < 2 ^ n
-  unfolding number
-  number-below s zero i = omega (arith, pow-zero 2)
-  number-below s (suc n) i = omega (arith, number-below s n i, bit-small (c (s + suc n) i), pow-suc 2 n)
-
-  -- the number in m + n columns is made of the numbers in the first m and in the last n
-  pub number-split : (s m n i : ℕ) → number c s (m + n) i ≡ number c s m i * 2 ^ n + number c (s + m) n i
-  unfolding number
-  number-split s m zero i = rw add-zero (omega arith)
-  number-split s m (suc n) i =
-      let e : s + suc (m + n) ≡ s + m + suc n = omega arith in
-      rw (add-suc m n, e, pow-suc 2 n, ← mul-assoc (number c s m i) (2 ^ n) 2) (omega (arith, number-split s m n i))
-
   -- columns that hold the bits of w hold w
   pub number-bits : (s n w i : ℕ) → w < 2 ^ n → ((k : ℕ) → k < n → c (s + (n - k)) i ≡ bit w k) → number c s n i ≡ w
   unfolding number

@@ -17,7 +17,8 @@ use Rattle.slice.proofs.Stores.{getD-within}
 use Rattle.planes.proofs.Words.{blank-empty}
 use Rattle.table.specs.Tables.{width, blank, column, row}
 use Rattle.table.specs.declared.Table.{Table}
-use Rattle.table.proofs.Columns.{number-below, number-bits, number-bit}
+use Rattle.rowset.proofs.Numbers.{number-below}
+use Rattle.table.proofs.Columns.{number-bits, number-bit}
 
 -- column j + 1 stands at index j
 pub column-at : (t : Table) (j : ℕ) (d : Slice) → j < length (t .columns) → component (getD (t .columns) j d) ≡ column t (suc j)

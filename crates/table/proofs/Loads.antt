@@ -26,7 +26,8 @@ use Rattle.table.specs.Tables.{blank, column, row}
 use Rattle.table.specs.Loads.{refused, loadRefusal, loadedRow, BytesHandedIn, QuadsHandedIn}
 use Rattle.table.specs.Steps.{byteIn, upperBytes}
 use Rattle.table.specs.declared.Table.{Table}
-use Rattle.table.proofs.Columns.{number-split, number-ext, number-bits}
+use Rattle.rowset.proofs.Numbers.{number-split}
+use Rattle.table.proofs.Columns.{number-ext, number-bits}
 use Rattle.table.proofs.Laws.{column-at, columns-above}
 
 -- column j of the table with one byte more on the right

@@ -14,7 +14,7 @@ use Rattle.rowset.specs.Columns.{number}
 use Rattle.slice.proofs.Stores.{length-unmap}
 use Rattle.table.specs.Tables.{column, row}
 use Rattle.table.specs.declared.Table.{Table}
-use Rattle.table.proofs.Columns.{number-below}
+use Rattle.rowset.proofs.Numbers.{number-below}
 use Rattle.table.proofs.Laws.{column-at}
 use Rattle.table.proofs.row_of.Statement.{statement}
 use Rattle.table.proofs.row_of.Tie as tie
