@@ -1,16 +1,14 @@
--- `machine::positions` meets its contract: what is left falls. Assumes nothing.
+-- `machine::positions` meets its contract: the count rises to at most 1,024. Assumes nothing.
 use borrow.Author.Needs.{needs}
-use Prim.Native.Nat.{_≤_}
-use mathlib.Core.Path.{_≡_}
-use lib.ListN.{length}
+use Prim.Native.Nat.{_≤_, _-_}
 use Rattle.machine.proofs.positions.Statement.{statement}
 use Rattle.machine.proofs.positions.Tie as tie
 
 abbrev Inv-loop : tie.InvT-loop
-Inv-loop rest₀ left₀ t6 rest left = (left ≤ 1024) × (length t6 ≡ 1)
+Inv-loop printed rest₀ n₀ rest n = n ≤ 1024
 
 abbrev μ-loop : tie.MeasureT-loop
-μ-loop rest₀ left₀ t6 rest left = left
+μ-loop printed rest₀ n₀ rest n = 1024 - n
 
 pub positions-spec : {M : Type 1} → statement M
 positions-spec =
@@ -21,8 +19,6 @@ positions-spec =
     (λ c. search needs)
     (λ c κs. search needs)
     (λ c. search needs)
-    (λ c. search needs)
-    (λ c κs. search needs)
     (λ c κs. search needs)
     (λ c. search needs)
     (λ c. search needs)
