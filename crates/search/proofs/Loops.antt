@@ -1,6 +1,7 @@
 -- The invariants of the loops over a table's columns, from column `first` + 1 on: j columns are read or left out.
 -- Assumes nothing.
 use Prim.Native.Nat.{ℕ, zero, suc, _+_, _-_, _*_, _/_, _%_, _^_, _≤_, _<_}
+use native.Mathlib.Numerals.{add-one}
 use native.Mathlib.Omega.{arith}
 use native.Mathlib.Nat.{sub-self, div-one}
 use mathlib.Core.Bool.{Bool, true, false, cond, and-eq-true-iff}
@@ -11,15 +12,15 @@ use lib.ListN.{getD, replicate}
 use lib.Pow.{shr-shr}
 use borrow.Author.Tests.{eqb-true, eqb-false}
 use Rattle.rowset.specs.Columns.{number}
-use Rattle.rowset.specs.Sets.{empty, upTo}
-use Rattle.rowset.proofs.Laws.{upTo-in}
+use Rattle.rowset.specs.Sets.{empty, upTo, any}
+use Rattle.rowset.proofs.Laws.{clash, refuted, upwards, upTo-in, any-none}
 use Rattle.rowset.specs.Searches.{equalTo, greaterThan}
 use Rattle.slice.specs.Slices.{size, component}
 use Rattle.slice.specs.declared.Slice.{Slice}
 use Rattle.table.specs.Tables.{column, blank}
 use Rattle.table.specs.declared.Table.{Table}
 use Rattle.search.specs.Steps.{kept, grown, preferred, extreme}
-use Rattle.search.proofs.Steps.{match-step, great-step, great-start}
+use Rattle.search.proofs.Steps.{match-step, great-step, great-start, kept-none, grown-none}
 use Rattle.search.proofs.Extremes.{extreme-start, extreme-step}
 
 -- the last binary digit of n
@@ -73,6 +74,16 @@ next-column : (t : Table) (first j : ℕ) → first ≤ j → column t (first + 
 next-column t first j h =
     let e : first + suc (j - first) ≡ suc j = omega arith in
     rw e (column-read t j)
+
+-- a slice selects only rows of 1 to 1,024
+pub component-in : (x : Slice) (i : ℕ) → component x i ≡ true → (1 ≤ i) × (i ≤ size)
+unfolding component
+component-in x i e = upTo-in size i (and-eq-true-iff (upTo size i) _ .0 e .0)
+
+-- a slice without a component 1 is Θ
+none-left : (x : Slice) → any size (component x) ≡ false → component x ≡ empty
+unfolding empty
+none-left x e = fun-ext (λ i. refuted (component x i) (λ t. let (l, u) = component-in x i t in clash t (any-none size (component x) e i l u)))
 
 -- what the rows in the running are after j columns: those that equal w in the columns read, where z₀ is what they were before the first column
 pub record Matched (t : Table) (first w : ℕ) (z₀ z : Slice) (j : ℕ) : Type 0 where
@@ -153,16 +164,23 @@ module _ (t : Table) (first w : ℕ) (z₀ : Slice) where
       let d : 32 - j ≡ 0 = omega arith in
       rw (← e) (rw (d, div-one) at (m .greater X s))
 
+  -- where no row is in the running any more, the columns that are left change nothing
+  compared-still : (g z : Slice) (j : ℕ) → component z ≡ empty → j < 32 → Compared t first w z₀ g z j → Compared t first w z₀ g z (j + 1)
+  compared-still g z j e h m = compared-more g g z z j h (rw e (sym (grown-none _ _ _))) (rw e (sym (kept-none _ _))) m
+
+  pub compared-none : (g z : Slice) (j : ℕ) (X : ℕ → Bool) → j < 32 → any size (component z) ≡ false
+      → component z₀ ≡ equalTo (number (column t) first 0) (w / 2 ^ (32 - first)) X
+      → Compared t first w z₀ g z j
+      → component g ≡ greaterThan (number (column t) first (32 - first)) w X
+  compared-none g z j X h e s m =
+      compared-all g z 32 X (omega arith) s
+      (upwards (Compared t first w z₀ g z) j 32 (omega arith) m (λ n l u c. rw add-one at (compared-still g z n (none-left z e) u c)))
+
 -- what the rows in the running are after j columns of MIN or MAX: those that come first in the columns read, where z₀ is what they were before the first column
 pub record Sought (t : Table) (first : ℕ) (high : Bool) (z₀ z : Slice) (j : ℕ) : Type 0 where
   pub from : first ≤ j
   pub upto : j - first ≤ 32 - first
   pub extremes : component z ≡ extreme high size (number (column t) first (j - first)) (component z₀)
-
--- a slice selects only rows of 1 to 1,024
-pub component-in : (x : Slice) (i : ℕ) → component x i ≡ true → (1 ≤ i) × (i ≤ size)
-unfolding component
-component-in x i e = upTo-in size i (and-eq-true-iff (upTo size i) _ .0 e .0)
 
 module _ (t : Table) (first : ℕ) (high : Bool) (z₀ : Slice) where
   pub sought-start : Sought t first high z₀ z₀ first

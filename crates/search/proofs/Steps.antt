@@ -78,3 +78,14 @@ match-start-none v X h = fun-ext (λ i. rw (ne-eqb 0 v (λ e. h (sym e)), and-fa
 pub great-start : (v : ℕ) (X : ℕ → Bool) → greaterThan (λ i. 0) v X ≡ empty
 unfolding greaterThan empty
 great-start v X = fun-ext (λ i. rw (leb·suc-zero, and-false))
+
+-- where no row is in the running, a column changes nothing
+pub kept-none : (d : Bool) (C : ℕ → Bool) → kept d empty C ≡ empty
+unfolding kept both without empty
+kept-none true C = refl
+kept-none false C = refl
+
+pub grown-none : (d : Bool) (G C : ℕ → Bool) → grown d G empty C ≡ G
+unfolding grown both either empty
+grown-none true G C = refl
+grown-none false G C = fun-ext (λ i. or-false (G i))

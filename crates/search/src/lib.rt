@@ -96,6 +96,9 @@ pub fn great_from(t: Table, first: usize, w: u32, x: Slice) -> Slice
     let mut z = begin(first, w, x);
     let mut j = first;
     while j < WIDTH {
+        if slice::zero(z) {
+            return g;
+        }
         let digit = WIDTH - 1 - j;
         let b = (w >> digit) % 2 == 1;
         g = grow(g, z, t.columns[j], b);

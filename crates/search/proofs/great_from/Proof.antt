@@ -3,8 +3,10 @@
 use Prim.Native.Nat.{_-_}
 use native.Mathlib.Omega.{arith}
 use borrow.Author.Needs.{needs}
+use borrow.Author.Tests.{not-true}
+use mathlib.Core.Path.{sym, _∙_}
 use Rattle.rowset.specs.Columns.{number}
-use Rattle.search.proofs.Loops.{Compared, compared-start, compared-more, compared-all}
+use Rattle.search.proofs.Loops.{Compared, compared-start, compared-more, compared-none, compared-all}
 use Rattle.search.proofs.great_from.Statement.{statement}
 use Rattle.search.proofs.great_from.Tie as tie
 
@@ -16,7 +18,13 @@ abbrev μ-loop : tie.MeasureT-loop
 
 returns : tie.Need-returns Inv-loop μ-loop
 unfolding number
-returns c = compared-all _ _ _ _ _ _ _ _ (omega arith) (c .before .before .begin .ensures) (c .before .loop .inv)
+returns c =
+    let empty = not-true _ (sym (c .before .zero .ensures) ∙ c .if1 .taken) in
+    compared-none _ _ _ _ _ _ _ _ (omega arith) empty (c .before .before .before .before .begin .ensures) (c .before .before .before .loop .inv)
+
+returns-2 : tie.Need-returns-2 Inv-loop μ-loop
+unfolding number
+returns-2 c = compared-all _ _ _ _ _ _ _ _ (omega arith) (c .before .before .begin .ensures) (c .before .loop .inv)
 
 -- What `omega` answers: that each index is below the number of columns, that no sum or product of it wraps, and that the measure falls.
 pub great-from-spec : {M : Type 1} → statement M
@@ -28,6 +36,8 @@ great-from-spec =
     (λ c κs. search needs)
     (λ c κs. search needs)
     (λ c. compared-start _ _ _ _ _ (c .before .empty .ensures))
+    (λ c κs. search needs)
+    returns
     (λ c. omega arith)
     (λ c. omega arith)
     (λ c. omega arith)
@@ -40,5 +50,5 @@ great-from-spec =
     (λ c κs. search needs)
     (λ c. omega arith)
     (λ c. omega arith)
-    (λ c. compared-more _ _ _ _ _ _ _ _ _ (omega arith) (c .before .before .grow .ensures) (c .keep .ensures) (c .before .before .before .before .before .loop .inv))
-    returns)
+    (λ c. compared-more _ _ _ _ _ _ _ _ _ (omega arith) (c .before .before .grow .ensures) (c .keep .ensures) (c .before .before .before .before .before .before .before .loop .inv))
+    returns-2)
