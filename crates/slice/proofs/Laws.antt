@@ -5,7 +5,7 @@ use mathlib.Core.Path.{_≡_, refl, sym, ap, ap₂, _∙_, fun-ext}
 use mathlib.Core.Bool.{Bool, true, false, not, cond, _&&_, _||_, true≢false}
 use mathlib.Core.List.{List}
 use mathlib.Core.Logic.{by-cases}
-use native.Mathlib.Decide.{ℕ-discrete}
+use native.Mathlib.Decide.{ℕ-discrete, decLe}
 use native.Mathlib.Omega.{arith}
 use lib.Dec.{eqb}
 use lib.ListN.{length, getD, set, replicate, getD-replicate}
@@ -14,7 +14,7 @@ use borrow.Author.Tests.{eq-eqb, ne-eqb, eqb-true, eqb-false}
 use Rattle.rowset.specs.Sets.{upTo, put, takeOut}
 use Rattle.slice.specs.Slices.{size, bit, component, written, SameComponents}
 use Rattle.slice.specs.declared.Slice.{Slice}
-use Rattle.slice.proofs.Bits.{same-bits}
+use Rattle.slice.proofs.Bits.{same-bits, bit-of-zero}
 use Rattle.slice.proofs.Sets.{upTo-inside, upTo-below, upTo-above, upTo-bounds}
 
 -- a component outside 1 to 1,024 is 0
@@ -40,6 +40,22 @@ component-at x k j hk hj =
     let place : (64 * k + j + 1 - 1) % 64 ≡ j = omega arith in
     component-inside x (64 * k + j + 1) (omega arith) (omega arith)
     ∙ ap₂ (λ (a b : ℕ). bit (getD (x .words) a 0) b) word place
+
+-- no component in the words of x below k is 1
+abbrev pub Clear : Slice → ℕ → Type 0
+Clear x k = (i : ℕ) → 1 ≤ i → i ≤ 64 * k → component x i ≡ false
+
+-- a component of word k, by its word
+pub in-word : (x : Slice) (k i : ℕ) → k < 16 → 64 * k < i → i ≤ 64 * k + 64 → component x i ≡ bit (getD (x .words) k 0) (i - 1 - 64 * k)
+in-word x k i h l g =
+    let at : i ≡ 64 * k + (i - 1 - 64 * k) + 1 = omega arith in
+    ap (component x) at ∙ component-at x k (i - 1 - 64 * k) h (omega arith)
+
+-- a word that is 0 has no component 1
+pub clear-more : (x : Slice) (k : ℕ) → k < 16 → getD (x .words) k 0 ≡ 0 → Clear x k → Clear x (k + 1)
+clear-more x k h e below i l g =
+    by-cases (decLe i (64 * k)) (λ o. below i l o)
+    (λ o. in-word x k i h (omega arith) (omega arith) ∙ ap (λ (w : ℕ). bit w (i - 1 - 64 * k)) e ∙ bit-of-zero (i - 1 - 64 * k))
 
 -- what holds at each component of 1 to 1,024, said of a slice and a set that is empty outside
 pub component-ext : (x : Slice) (p : ℕ → Bool) → ((i : ℕ) → upTo size i ≡ false → p i ≡ false)

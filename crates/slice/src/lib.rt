@@ -159,18 +159,24 @@ pub fn fnd(x: Slice) -> usize
     0
 }
 
-// SOME: whether x has a component 1.
+// SOME: whether x has a component 1. All words are joined, and no branch depends on one of them.
 pub fn some(x: Slice) -> bool
     ensures { λ r. ⌜ r ≡ any size (component x) ⌝ }
 {
-    fnd(x) != 0
+    let mut joined: u64 = 0;
+    let mut k = 0;
+    while k < WORDS {
+        joined = joined | x.words[k];
+        k += 1;
+    }
+    joined != 0
 }
 
 // ZERO: whether x is Θ.
 pub fn zero(x: Slice) -> bool
     ensures { λ r. ⌜ r ≡ not (any size (component x)) ⌝ }
 {
-    fnd(x) == 0
+    !some(x)
 }
 
 // STEP by value: the position of the uppermost 1, 0 for Θ, and the slice with that component cleared.

@@ -1,7 +1,6 @@
 -- `slice::fnd` meets its contract. The loop's invariant: no component in the words below `k` is 1. The measure is what is left of the words.
 -- Assumes nothing.
 use Prim.Native.Nat.{ℕ, suc, _+_, _-_, _*_, _^_, _<_, _≤_}
-use mathlib.Core.Bool.{false}
 use mathlib.Core.Logic.{by-cases}
 use mathlib.Core.Path.{_≡_, sym, ap, _∙_}
 use borrow.Author.Needs.{needs}
@@ -16,25 +15,10 @@ use Rattle.rowset.specs.Sets.{uppermost}
 use Rattle.rowset.proofs.Laws.{uppermost-zero, uppermost-is}
 use Rattle.slice.specs.Slices.{size, bit, component}
 use Rattle.slice.specs.declared.Slice.{Slice}
-use Rattle.slice.proofs.Bits.{bit-of-zero, bit-below-trailing, bit-at-trailing}
-use Rattle.slice.proofs.Laws.{component-at}
+use Rattle.slice.proofs.Bits.{bit-below-trailing, bit-at-trailing}
+use Rattle.slice.proofs.Laws.{component-at, Clear, in-word, clear-more}
 use Rattle.slice.proofs.fnd.Statement.{statement}
 use Rattle.slice.proofs.fnd.Tie as tie
-
--- no component in the words of x below k is 1
-abbrev Clear : Slice → ℕ → Type 0
-Clear x k = (i : ℕ) → 1 ≤ i → i ≤ 64 * k → component x i ≡ false
-
--- a component of word k, by its word
-in-word : (x : Slice) (k i : ℕ) → k < 16 → 64 * k < i → i ≤ 64 * k + 64 → component x i ≡ bit (getD (x .words) k 0) (i - 1 - 64 * k)
-in-word x k i h l g =
-    let at : i ≡ 64 * k + (i - 1 - 64 * k) + 1 = omega arith in
-    ap (component x) at ∙ component-at x k (i - 1 - 64 * k) h (omega arith)
-
-clear-more : (x : Slice) (k : ℕ) → k < 16 → getD (x .words) k 0 ≡ 0 → Clear x k → Clear x (k + 1)
-clear-more x k h e below i l g =
-    by-cases (decLe i (64 * k)) (λ o. below i l o)
-    (λ o. in-word x k i h (omega arith) (omega arith) ∙ ap (λ (w : ℕ). bit w (i - 1 - 64 * k)) e ∙ bit-of-zero (i - 1 - 64 * k))
 
 found : (x : Slice) (k : ℕ) → k < 16 → 0 < getD (x .words) k 0 → getD (x .words) k 0 < 2 ^ 64 → Clear x k
     → 64 * k + trailingZeros 64 (getD (x .words) k 0) + 1 ≡ uppermost size (component x)
