@@ -4,3 +4,4 @@ pub mod Steps
 pub mod Extremes
 pub mod Loops
 pub mod Blanks
+pub mod Stores

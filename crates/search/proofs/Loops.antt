@@ -1,15 +1,16 @@
--- The invariants of the loops over a table's columns, from column `first` + 1 on: j columns are read or left out.
+-- The invariants of the loops over the columns c, from column `first` + 1 on: j columns are read or left out.
 -- Assumes nothing.
 use Prim.Native.Nat.{ℕ, zero, suc, _+_, _-_, _*_, _/_, _%_, _^_, _≤_, _<_}
 use native.Mathlib.Numerals.{add-one}
 use native.Mathlib.Omega.{arith}
-use native.Mathlib.Nat.{sub-self, div-one}
+use native.Mathlib.Nat.{sub-self, div-one, lt-of-lt-of-le}
 use mathlib.Core.Bool.{Bool, true, false, cond, and-eq-true-iff}
-use mathlib.Core.Path.{_≡_, refl, sym, _∙_, fun-ext}
+use mathlib.Core.Path.{_≡_, refl, sym, ap, _∙_, fun-ext}
 use mathlib.Core.List.{List, [], _∷_}
 use lib.Dec.{eqb}
 use lib.ListN.{getD, replicate}
-use lib.Pow.{shr-shr}
+use lib.Pow.{shr-shr, pow-mono}
+use mir.Val.{boolByte}
 use borrow.Author.Tests.{eqb-true, eqb-false}
 use Rattle.rowset.specs.Columns.{number}
 use Rattle.rowset.specs.Sets.{empty, upTo, any}
@@ -17,9 +18,11 @@ use Rattle.rowset.proofs.Laws.{clash, refuted, upwards, upTo-in, any-none}
 use Rattle.rowset.specs.Searches.{equalTo, greaterThan}
 use Rattle.slice.specs.Slices.{size, component}
 use Rattle.slice.specs.declared.Slice.{Slice}
+use Rattle.table.proofs.Columns.{as-number}
 use Rattle.table.specs.Tables.{column, blank}
 use Rattle.table.specs.declared.Table.{Table}
 use Rattle.search.specs.Steps.{kept, grown, preferred, extreme}
+use Rattle.search.proofs.Columns.{number-below}
 use Rattle.search.proofs.Steps.{match-step, great-step, great-start, kept-none, grown-none}
 use Rattle.search.proofs.Extremes.{extreme-start, extreme-step}
 
@@ -70,10 +73,8 @@ column-read t j = column-either (t .columns) j
 next-count : (first j : ℕ) → first ≤ j → j + 1 - first ≡ suc (j - first)
 next-count first j h = omega arith
 
-next-column : (t : Table) (first j : ℕ) → first ≤ j → column t (first + suc (j - first)) ≡ component (getD (t .columns) j none)
-next-column t first j h =
-    let e : first + suc (j - first) ≡ suc j = omega arith in
-    rw e (column-read t j)
+next-column : (c : ℕ → ℕ → Bool) (first j : ℕ) → first ≤ j → c (first + suc (j - first)) ≡ c (j + 1)
+next-column c first j h = let e : first + suc (j - first) ≡ j + 1 = omega arith in ap c e
 
 -- a slice selects only rows of 1 to 1,024
 pub component-in : (x : Slice) (i : ℕ) → component x i ≡ true → (1 ≤ i) × (i ≤ size)
@@ -85,22 +86,58 @@ none-left : (x : Slice) → any size (component x) ≡ false → component x ≡
 unfolding empty
 none-left x e = fun-ext (λ i. refuted (component x i) (λ t. let (l, u) = component-in x i t in clash t (any-none size (component x) e i l u)))
 
+-- the number r that row i holds in the columns read
+pub record Read (c : ℕ → ℕ → Bool) (first i r j : ℕ) : Type 0 where
+  pub from : first ≤ j
+  pub upto : j - first ≤ 32 - first
+  pub held : r ≡ number c first (j - first) i
+
+module _ (c : ℕ → ℕ → Bool) (first i : ℕ) where
+  pub read-start : Read c first i 0 first
+  unfolding number
+  read-start = record { from = omega arith; upto = omega arith; held = rw sub-self }
+
+  -- the number before the bit of one column more
+  pub held-below : (r j : ℕ) → j < 32 → Read c first i r j → r < 2 ^ 31
+  held-below r j h m =
+      let few : j - first ≤ 31 = omega (arith, m .from) in
+      rw (m .held) (lt-of-lt-of-le (number-below c first (j - first) i) (pow-mono few))
+
+  -- with that bit
+  module _ (r j : ℕ) (h : j < 32) (m : Read c first i r j) (b : Bool) (e : b ≡ c (j + 1) i) where
+    held-more : r * 2 + boolByte b ≡ number c first (j + 1 - first) i
+    unfolding number
+    held-more =
+        rw (next-count first j (m .from), next-column c first j (m .from))
+        (omega (arith, m .held, as-number b e))
+
+    pub read-fits : r * 2 + boolByte b < 2 ^ 32
+    read-fits =
+        let few : j + 1 - first ≤ 32 = omega arith in
+        rw held-more (lt-of-lt-of-le (number-below c first (j + 1 - first) i) (pow-mono few))
+
+    pub read-more : Read c first i (r * 2 + boolByte b) (j + 1)
+    read-more = record { from = omega arith; upto = omega arith; held = held-more }
+
+  pub read-all : (r j : ℕ) → 32 ≤ j → Read c first i r j → r ≡ number c first (32 - first) i
+  read-all r j h m = let e : j - first ≡ 32 - first = omega arith in rw (← e) (m .held)
+
 -- what the rows in the running are after j columns: those that equal w in the columns read, where z₀ is what they were before the first column
-pub record Matched (t : Table) (first w : ℕ) (z₀ z : Slice) (j : ℕ) : Type 0 where
+pub record Matched (c : ℕ → ℕ → Bool) (first w : ℕ) (z₀ z : Slice) (j : ℕ) : Type 0 where
   pub from : first ≤ j
   pub upto : j - first ≤ 32 - first
   pub equal : (X : ℕ → Bool)
-      → component z₀ ≡ equalTo (number (column t) first 0) (w / 2 ^ (32 - first)) X
-      → component z ≡ equalTo (number (column t) first (j - first)) (w / 2 ^ (32 - j)) X
+      → component z₀ ≡ equalTo (number c first 0) (w / 2 ^ (32 - first)) X
+      → component z ≡ equalTo (number c first (j - first)) (w / 2 ^ (32 - j)) X
 
-module _ (t : Table) (first w : ℕ) (z₀ : Slice) where
-  pub matched-start : Matched t first w z₀ z₀ first
+module _ (c : ℕ → ℕ → Bool) (first w : ℕ) (z₀ : Slice) where
+  pub matched-start : Matched c first w z₀ z₀ first
   matched-start = record { from = omega arith; upto = omega arith; equal = λ X h. rw sub-self h }
 
   pub matched-more : (z z′ : Slice) (j : ℕ) → j < 32
-      → component z′ ≡ kept (digit (w / 2 ^ (32 - 1 - j))) (component z) (component (getD (t .columns) j none))
-      → Matched t first w z₀ z j
-      → Matched t first w z₀ z′ (j + 1)
+      → component z′ ≡ kept (digit (w / 2 ^ (32 - 1 - j))) (component z) (c (j + 1))
+      → Matched c first w z₀ z j
+      → Matched c first w z₀ z′ (j + 1)
   matched-more z z′ j h e m =
       record {
         from = omega arith;
@@ -109,88 +146,88 @@ module _ (t : Table) (first w : ℕ) (z₀ : Slice) where
             rw (
               next-count first j (m .from),
               one-more-digit w j h,
-              match-step (column t) first (j - first),
-              next-column t first j (m .from),
+              match-step c first (j - first),
+              next-column c first j (m .from),
               ← m .equal X s,
             ) e;
       }
 
   pub matched-all : (z : Slice) (j : ℕ) (X : ℕ → Bool) → 32 ≤ j
-      → component z₀ ≡ equalTo (number (column t) first 0) (w / 2 ^ (32 - first)) X
-      → Matched t first w z₀ z j
-      → component z ≡ equalTo (number (column t) first (32 - first)) w X
+      → component z₀ ≡ equalTo (number c first 0) (w / 2 ^ (32 - first)) X
+      → Matched c first w z₀ z j
+      → component z ≡ equalTo (number c first (32 - first)) w X
   matched-all z j X h s m =
       let e : j - first ≡ 32 - first = omega arith in
       let d : 32 - j ≡ 0 = omega arith in
       rw (← e) (rw (d, div-one) at (m .equal X s))
 
 -- what the rows found greater are after j columns, beside the rows in the running
-pub record Compared (t : Table) (first w : ℕ) (z₀ g z : Slice) (j : ℕ) : Type 0 where
-  pub matched : Matched t first w z₀ z j
+pub record Compared (c : ℕ → ℕ → Bool) (first w : ℕ) (z₀ g z : Slice) (j : ℕ) : Type 0 where
+  pub matched : Matched c first w z₀ z j
   pub greater : (X : ℕ → Bool)
-      → component z₀ ≡ equalTo (number (column t) first 0) (w / 2 ^ (32 - first)) X
-      → component g ≡ greaterThan (number (column t) first (j - first)) (w / 2 ^ (32 - j)) X
+      → component z₀ ≡ equalTo (number c first 0) (w / 2 ^ (32 - first)) X
+      → component g ≡ greaterThan (number c first (j - first)) (w / 2 ^ (32 - j)) X
 
-module _ (t : Table) (first w : ℕ) (z₀ : Slice) where
-  pub compared-start : (g : Slice) → component g ≡ empty → Compared t first w z₀ g z₀ first
+module _ (c : ℕ → ℕ → Bool) (first w : ℕ) (z₀ : Slice) where
+  pub compared-start : (g : Slice) → component g ≡ empty → Compared c first w z₀ g z₀ first
   unfolding number
-  compared-start g e = record { matched = matched-start t first w z₀; greater = λ X h. rw sub-self (e ∙ sym (great-start _ X)) }
+  compared-start g e = record { matched = matched-start c first w z₀; greater = λ X h. rw sub-self (e ∙ sym (great-start _ X)) }
 
   pub compared-more : (g g′ z z′ : Slice) (j : ℕ) → j < 32
-      → component g′ ≡ grown (digit (w / 2 ^ (32 - 1 - j))) (component g) (component z) (component (getD (t .columns) j none))
-      → component z′ ≡ kept (digit (w / 2 ^ (32 - 1 - j))) (component z) (component (getD (t .columns) j none))
-      → Compared t first w z₀ g z j
-      → Compared t first w z₀ g′ z′ (j + 1)
+      → component g′ ≡ grown (digit (w / 2 ^ (32 - 1 - j))) (component g) (component z) (c (j + 1))
+      → component z′ ≡ kept (digit (w / 2 ^ (32 - 1 - j))) (component z) (c (j + 1))
+      → Compared c first w z₀ g z j
+      → Compared c first w z₀ g′ z′ (j + 1)
   compared-more g g′ z z′ j h e d m =
       record {
-        matched = matched-more t first w z₀ z z′ j h d (m .matched);
+        matched = matched-more c first w z₀ z z′ j h d (m .matched);
         greater = λ X s.
             rw (
               next-count first j (m .matched .from),
               one-more-digit w j h,
-              great-step (column t) first (j - first),
-              next-column t first j (m .matched .from),
+              great-step c first (j - first),
+              next-column c first j (m .matched .from),
               ← m .greater X s,
               ← m .matched .equal X s,
             ) e;
       }
 
   pub compared-all : (g z : Slice) (j : ℕ) (X : ℕ → Bool) → 32 ≤ j
-      → component z₀ ≡ equalTo (number (column t) first 0) (w / 2 ^ (32 - first)) X
-      → Compared t first w z₀ g z j
-      → component g ≡ greaterThan (number (column t) first (32 - first)) w X
+      → component z₀ ≡ equalTo (number c first 0) (w / 2 ^ (32 - first)) X
+      → Compared c first w z₀ g z j
+      → component g ≡ greaterThan (number c first (32 - first)) w X
   compared-all g z j X h s m =
       let e : j - first ≡ 32 - first = omega arith in
       let d : 32 - j ≡ 0 = omega arith in
       rw (← e) (rw (d, div-one) at (m .greater X s))
 
   -- where no row is in the running any more, the columns that are left change nothing
-  compared-still : (g z : Slice) (j : ℕ) → component z ≡ empty → j < 32 → Compared t first w z₀ g z j → Compared t first w z₀ g z (j + 1)
+  compared-still : (g z : Slice) (j : ℕ) → component z ≡ empty → j < 32 → Compared c first w z₀ g z j → Compared c first w z₀ g z (j + 1)
   compared-still g z j e h m = compared-more g g z z j h (rw e (sym (grown-none _ _ _))) (rw e (sym (kept-none _ _))) m
 
   pub compared-none : (g z : Slice) (j : ℕ) (X : ℕ → Bool) → j < 32 → any size (component z) ≡ false
-      → component z₀ ≡ equalTo (number (column t) first 0) (w / 2 ^ (32 - first)) X
-      → Compared t first w z₀ g z j
-      → component g ≡ greaterThan (number (column t) first (32 - first)) w X
+      → component z₀ ≡ equalTo (number c first 0) (w / 2 ^ (32 - first)) X
+      → Compared c first w z₀ g z j
+      → component g ≡ greaterThan (number c first (32 - first)) w X
   compared-none g z j X h e s m =
       compared-all g z 32 X (omega arith) s
-      (upwards (Compared t first w z₀ g z) j 32 (omega arith) m (λ n l u c. rw add-one at (compared-still g z n (none-left z e) u c)))
+      (upwards (Compared c first w z₀ g z) j 32 (omega arith) m (λ n l u h. rw add-one at (compared-still g z n (none-left z e) u h)))
 
 -- what the rows in the running are after j columns of MIN or MAX: those that come first in the columns read, where z₀ is what they were before the first column
-pub record Sought (t : Table) (first : ℕ) (high : Bool) (z₀ z : Slice) (j : ℕ) : Type 0 where
+pub record Sought (c : ℕ → ℕ → Bool) (first : ℕ) (high : Bool) (z₀ z : Slice) (j : ℕ) : Type 0 where
   pub from : first ≤ j
   pub upto : j - first ≤ 32 - first
-  pub extremes : component z ≡ extreme high size (number (column t) first (j - first)) (component z₀)
+  pub extremes : component z ≡ extreme high size (number c first (j - first)) (component z₀)
 
-module _ (t : Table) (first : ℕ) (high : Bool) (z₀ : Slice) where
-  pub sought-start : Sought t first high z₀ z₀ first
+module _ (c : ℕ → ℕ → Bool) (first : ℕ) (high : Bool) (z₀ : Slice) where
+  pub sought-start : Sought c first high z₀ z₀ first
   unfolding number
   sought-start = record { from = omega arith; upto = omega arith; extremes = rw sub-self (sym (extreme-start high size (component z₀))) }
 
   pub sought-more : (z z′ : Slice) (j : ℕ) → j < 32
-      → component z′ ≡ preferred size high (component z) (component (getD (t .columns) j none))
-      → Sought t first high z₀ z j
-      → Sought t first high z₀ z′ (j + 1)
+      → component z′ ≡ preferred size high (component z) (c (j + 1))
+      → Sought c first high z₀ z j
+      → Sought c first high z₀ z′ (j + 1)
   sought-more z z′ j h e m =
       record {
         from = omega arith;
@@ -198,15 +235,15 @@ module _ (t : Table) (first : ℕ) (high : Bool) (z₀ : Slice) where
         extremes =
             rw (
               next-count first j (m .from),
-              extreme-step high size (component z₀) (component-in z₀) (column t) first (j - first),
-              next-column t first j (m .from),
+              extreme-step high size (component z₀) (component-in z₀) c first (j - first),
+              next-column c first j (m .from),
               ← m .extremes,
             ) e;
       }
 
   pub sought-all : (z : Slice) (j : ℕ) → 32 ≤ j
-      → Sought t first high z₀ z j
-      → component z ≡ extreme high size (number (column t) first (32 - first)) (component z₀)
+      → Sought c first high z₀ z j
+      → component z ≡ extreme high size (number c first (32 - first)) (component z₀)
   sought-all z j h m =
       let e : j - first ≡ 32 - first = omega arith in
       rw (← e) (m .extremes)

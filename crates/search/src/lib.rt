@@ -1,4 +1,4 @@
-// The searches MATCH, MIN, MAX and GREAT over the rows of a table that a slice selects. Each reads the columns from left to right.
+// The searches MATCH, MIN, MAX and GREAT over the rows of a table that a slice selects. Each reads the columns from left to right; the loops stand in `lent`, over the table's words.
 // A search that ends in `_from` leaves out the first columns, as many as it is told, and is about the number that a row holds in the others: 0 where none is left.
 // That number is the row itself where the columns left out are Θ, `empty_columns` of them (the law `empty-row`), or where every row is below 2 ^ (32 - first) (the law `small-row`).
 use slice::Slice;
@@ -11,6 +11,8 @@ ghost use Rattle.slice.specs.Slices.{size, component};
 ghost use Rattle.table.specs.Tables.{width, column, row};
 ghost use Rattle.search.specs.Blanks.{emptyColumns};
 ghost use Rattle.search.specs.Steps.{kept, preferred, grown, extreme};
+
+pub mod lent; // lent.rt: a table's words, lent, and the searches over them
 
 // The number of columns of a table.
 const WIDTH: usize = 32;
@@ -71,14 +73,8 @@ fn begin(first: usize, w: u32, x: Slice) -> Slice
 pub fn match_from(t: Table, first: usize, w: u32, x: Slice) -> Slice
     ensures { λ r. ⌜ component r ≡ equalTo (number (column t) first (width - first)) w (component x) ⌝ }
 {
-    let mut z = begin(first, w, x);
-    let mut j = first;
-    while j < WIDTH {
-        let digit = WIDTH - 1 - j;
-        z = keep(z, t.columns[j], (w >> digit) % 2 == 1);
-        j += 1;
-    }
-    z
+    let stored = lent::words_of(t);
+    lent::match_from(&stored.words, first, w, x)
 }
 
 // MATCH: the selected rows that equal w.
@@ -88,24 +84,12 @@ pub fn match_rows(t: Table, w: u32, x: Slice) -> Slice
     match_from(t, 0, w, x)
 }
 
-// GREAT that leaves out the first columns. Beside the rows found greater, g, it carries MATCH's rows that are equal so far, z.
+// GREAT that leaves out the first columns.
 pub fn great_from(t: Table, first: usize, w: u32, x: Slice) -> Slice
     ensures { λ r. ⌜ component r ≡ greaterThan (number (column t) first (width - first)) w (component x) ⌝ }
 {
-    let mut g = Slice::empty();
-    let mut z = begin(first, w, x);
-    let mut j = first;
-    while j < WIDTH {
-        if slice::zero(z) {
-            return g;
-        }
-        let digit = WIDTH - 1 - j;
-        let b = (w >> digit) % 2 == 1;
-        g = grow(g, z, t.columns[j], b);
-        z = keep(z, t.columns[j], b);
-        j += 1;
-    }
-    g
+    let stored = lent::words_of(t);
+    lent::great_from(&stored.words, first, w, x)
 }
 
 // GREAT: the selected rows that are greater than w.
@@ -119,13 +103,8 @@ pub fn great(t: Table, w: u32, x: Slice) -> Slice
 fn extreme_from(t: Table, first: usize, high: bool, x: Slice) -> Slice
     ensures { λ r. ⌜ component r ≡ extreme high size (number (column t) first (width - first)) (component x) ⌝ }
 {
-    let mut z = x;
-    let mut j = first;
-    while j < WIDTH {
-        z = prefer(z, t.columns[j], high);
-        j += 1;
-    }
-    z
+    let stored = lent::words_of(t);
+    lent::extreme_from(&stored.words, first, high, x)
 }
 
 // MIN that leaves out the first columns.

@@ -6,6 +6,7 @@ use mathlib.Core.Path.{_≡_, refl, sym, ap, _∙_}
 use native.Mathlib.Nat.{add-zero, add-suc, sub-zero, suc-sub-suc, mul-assoc, pow-suc, pow-zero}
 use native.Mathlib.Omega.{arith}
 use lib.Dec.{eqb}
+use mir.Val.{boolByte}
 use borrow.Author.Tests.{eqb-true, eqb-false}
 use Rattle.rowset.specs.Columns.{number}
 use Rattle.rowset.proofs.Numbers.{bit-small}
@@ -23,6 +24,14 @@ digit-back d h = go (eqb d 1) refl
     go : (b : Bool) → eqb d 1 ≡ b → cond b 1 0 ≡ d
     go true e = sym (eqb-true d 1 e)
     go false e = omega (arith, eqb-false d 1 e)
+
+-- a bit of a machine's number is that bit as a number
+pub as-number : (b : Bool) {d : Bool} → b ≡ d → boolByte b ≡ cond d 1 0
+as-number b e = go b ∙ ap {B = ℕ} (λ x. cond x 1 0) e
+  where
+    go : (x : Bool) → boolByte x ≡ cond x 1 0
+    go true = refl
+    go false = refl
 
 module _ (c : ℕ → ℕ → Bool) where
   -- columns that hold the bits of w hold w

@@ -1,54 +1,11 @@
--- `search::great_from` meets its contract. The loop's invariant: z has the rows that equal w in the columns read, if it began so, and g those that are greater there.
--- The measure is what is left of the columns. Assumes nothing.
-use Prim.Native.Nat.{_-_}
-use native.Mathlib.Omega.{arith}
+-- `search::great_from` meets its contract: the words are those of the table's columns.
+-- Assumes nothing.
 use borrow.Author.Needs.{needs}
-use borrow.Author.Tests.{not-true}
-use mathlib.Core.Path.{sym, _∙_}
-use Rattle.rowset.specs.Columns.{number}
-use Rattle.search.proofs.Loops.{Compared, compared-start, compared-more, compared-none, compared-all}
 use Rattle.search.proofs.great_from.Statement.{statement}
 use Rattle.search.proofs.great_from.Tie as tie
 
-abbrev Inv-loop : tie.InvT-loop
-Inv-loop first w t g₀ z₀ j₀ g z j = Compared t first w z₀ g z j
+returns : tie.Need-returns
+returns c = rw (← c .before .before .before .before .words-of .ensures) (c .great-from .ensures)
 
-abbrev μ-loop : tie.MeasureT-loop
-μ-loop first w t g₀ z₀ j₀ g z j = 32 - j
-
-returns : tie.Need-returns Inv-loop μ-loop
-unfolding number
-returns c =
-    let empty = not-true _ (sym (c .before .zero .ensures) ∙ c .if1 .taken) in
-    compared-none _ _ _ _ _ _ _ _ (omega arith) empty (c .before .before .before .before .begin .ensures) (c .before .before .before .loop .inv)
-
-returns-2 : tie.Need-returns-2 Inv-loop μ-loop
-unfolding number
-returns-2 c = compared-all _ _ _ _ _ _ _ _ (omega arith) (c .before .before .begin .ensures) (c .before .loop .inv)
-
--- What `omega` answers: that each index is below the number of columns, that no sum or product of it wraps, and that the measure falls.
 pub great-from-spec : {M : Type 1} → statement M
-great-from-spec =
-    tie.close
-    (tie.spec
-    Inv-loop
-    μ-loop
-    (λ c κs. search needs)
-    (λ c κs. search needs)
-    (λ c. compared-start _ _ _ _ _ (c .before .empty .ensures))
-    (λ c κs. search needs)
-    returns
-    (λ c. omega arith)
-    (λ c. omega arith)
-    (λ c. omega arith)
-    (λ c. omega arith)
-    (λ c. omega arith)
-    (λ c. omega arith)
-    (λ c κs. search needs)
-    (λ c. omega arith)
-    (λ c. omega arith)
-    (λ c κs. search needs)
-    (λ c. omega arith)
-    (λ c. omega arith)
-    (λ c. compared-more _ _ _ _ _ _ _ _ _ (omega arith) (c .before .before .grow .ensures) (c .keep .ensures) (c .before .before .before .before .before .before .before .loop .inv))
-    returns-2)
+great-from-spec = tie.close (tie.spec (λ c κs. search needs) (λ c κs. search needs) returns)

@@ -1,40 +1,11 @@
--- `search::match_from` meets its contract. The loop's invariant: z has the rows that equal w in the columns read, if it began so. The measure is what is left of the columns.
+-- `search::match_from` meets its contract: the words are those of the table's columns.
 -- Assumes nothing.
-use Prim.Native.Nat.{_-_}
-use native.Mathlib.Omega.{arith}
 use borrow.Author.Needs.{needs}
-use Rattle.rowset.specs.Columns.{number}
-use Rattle.search.proofs.Loops.{Matched, matched-start, matched-more, matched-all}
 use Rattle.search.proofs.match_from.Statement.{statement}
 use Rattle.search.proofs.match_from.Tie as tie
 
-abbrev Inv-loop : tie.InvT-loop
-Inv-loop first w t z₀ j₀ z j = Matched t first w z₀ z j
+returns : tie.Need-returns
+returns c = rw (← c .before .before .before .before .words-of .ensures) (c .match-from .ensures)
 
-abbrev μ-loop : tie.MeasureT-loop
-μ-loop first w t z₀ j₀ z j = 32 - j
-
-returns : tie.Need-returns Inv-loop μ-loop
-unfolding number
-returns c = matched-all _ _ _ _ _ _ _ (omega arith) (c .before .before .begin .ensures) (c .before .loop .inv)
-
--- What `omega` answers: that each index is below the number of columns, that no sum or product of it wraps, and that the measure falls.
 pub match-from-spec : {M : Type 1} → statement M
-match-from-spec =
-    tie.close
-    (tie.spec
-    Inv-loop
-    μ-loop
-    (λ c κs. search needs)
-    (λ c. matched-start _ _ _ _)
-    (λ c. omega arith)
-    (λ c. omega arith)
-    (λ c. omega arith)
-    (λ c. omega arith)
-    (λ c. omega arith)
-    (λ c. omega arith)
-    (λ c κs. search needs)
-    (λ c. omega arith)
-    (λ c. omega arith)
-    (λ c. matched-more _ _ _ _ _ _ _ (omega arith) (c .keep .ensures) (c .before .before .before .loop .inv))
-    returns)
+match-from-spec = tie.close (tie.spec (λ c κs. search needs) (λ c κs. search needs) returns)

@@ -1,8 +1,7 @@
 -- `table::row_of` meets its contract. The loop's invariant: r is the number in the first j columns. The measure is what is left of them.
 -- Assumes nothing.
 use Prim.Native.Nat.{ℕ, suc, _+_, _*_, _-_, _^_, _≤_, _<_}
-use mathlib.Core.Bool.{Bool, true, false, cond}
-use mathlib.Core.Path.{_≡_, refl, ap, _∙_}
+use mathlib.Core.Path.{_≡_, ap, _∙_}
 use native.Mathlib.Nat.{zero-add, lt-of-lt-of-le}
 use native.Mathlib.Numerals.{add-one}
 use native.Mathlib.Omega.{arith}
@@ -15,6 +14,7 @@ use Rattle.slice.proofs.Stores.{length-unmap}
 use Rattle.table.specs.Tables.{column, row}
 use Rattle.table.specs.declared.Table.{Table}
 use Rattle.rowset.proofs.Numbers.{number-below}
+use Rattle.table.proofs.Columns.{as-number}
 use Rattle.table.proofs.Laws.{column-at}
 use Rattle.table.proofs.row_of.Statement.{statement}
 use Rattle.table.proofs.row_of.Tie as tie
@@ -24,13 +24,6 @@ Inv-loop i t r₀ j₀ r j = (j ≤ 32) × (r ≡ number (column t) 0 j i)
 
 abbrev μ-loop : tie.MeasureT-loop
 μ-loop i t r₀ j₀ r j = 32 - j
-
-as-number : (b : Bool) {d : Bool} → b ≡ d → boolByte b ≡ cond d 1 0
-as-number b e = go b ∙ ap {B = ℕ} (λ x. cond x 1 0) e
-  where
-    go : (x : Bool) → boolByte x ≡ cond x 1 0
-    go true = refl
-    go false = refl
 
 -- with one column more r is the number in the first j + 1 columns, which fits
 grown : (c : tie.After-get Inv-loop μ-loop) →
