@@ -15,13 +15,12 @@ use Rattle.star.specs.Call.{Call}
 use Rattle.star.specs.MatrixPath.{pathColumn}
 use Rattle.star.specs.Refusals.{cstCauses, refusal}
 use Rattle.table.specs.Loads.{loadedRow}
-use Rattle.table.specs.Tables.{width, column}
-use Rattle.table.specs.declared.Table.{Table}
+use Rattle.table.specs.Tables.{width}
 use Rattle.cst.specs.declared.Exchange.{Exchange}
 
--- the number in each row of a table, read from the columns after the first ones
-abbrev pub rowsAfter : Table → ℕ → ℕ → ℕ
-rowsAfter t first = number (column t) first (width - first)
+-- the number in each row of a table's words, read from the columns after the first ones
+abbrev pub rowsAfter : List ℕ → ℕ → ℕ → ℕ
+rowsAfter words first = number (matrixColumn words) first (width - first)
 
 -- of the xor of the columns of row i's ends, the rows whose number in the table of weights f is greater than row i's weight
 unfoldable pub heavierIn : (f : ℕ → ℕ) → (matrix left right weight : List ℕ) → ℕ → ℕ → Bool

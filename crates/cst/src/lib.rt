@@ -11,9 +11,9 @@ use checks::row_byte;
 use checks::row_weight;
 use refusal::Outcome;
 use refusal::Refusal;
+use search::lent;
 use slice::Slice;
 use slice::difference;
-use table::Table;
 
 // The exchange that makes a claim lighter: the marked row that goes out, the unmarked row that comes in, and how much less the claim then weighs.
 pub struct Exchange {
@@ -29,17 +29,17 @@ pub enum Verdict {
     Refused(Refusal),
 }
 
-// The rows on the tree path between row i's ends that are heavier than row i. `weights` is the weight column as a table, of which the first columns are left out.
+// The rows on the tree path between row i's ends that are heavier than row i. `weights` has the words of the weight column as a table, of which the first columns are left out.
 fn heavier_rows(
     matrix: &[u64],
-    weights: Table,
+    weights: &[u64],
     first: usize,
     left: &[u8],
     right: &[u8],
     weight: &[u8],
     i: usize,
 ) -> Slice
-    ensures { λ r. ⌜ component r ≡ heavierIn (rowsAfter weights first) (now (matrix .entry)) (now (left .entry)) (now (right .entry)) (now (weight .entry)) i ⌝ }
+    ensures { λ r. ⌜ component r ≡ heavierIn (rowsAfter (now (weights .entry)) first) (now (matrix .entry)) (now (left .entry)) (now (right .entry)) (now (weight .entry)) i ⌝ }
 {
     let node1 = row_byte(left, i) as usize;
     let node2 = row_byte(right, i) as usize;
@@ -48,7 +48,7 @@ fn heavier_rows(
         matrix::read_column(matrix, node1),
         matrix::read_column(matrix, node2),
     );
-    search::great_from(weights, first, w, x)
+    lent::great_from(weights, first, w, x)
 }
 
 // The exchange of row out for row into, which is not heavier.
@@ -69,11 +69,12 @@ fn first_lighter(matrix: &[u64], left: &[u8], right: &[u8], weight: &[u8], rows:
 {
     let weights = table::load_quads(weight).table;
     let first = search::empty_columns(weights);
+    let stored = lent::words_of(weights);
     let mut z = rows;
     while slice::some(z) {
         let s = slice::step_value(z);
         z = s.slice;
-        let y = heavier_rows(matrix, weights, first, left, right, weight, s.at);
+        let y = heavier_rows(matrix, &stored.words, first, left, right, weight, s.at);
         if slice::some(y) {
             return exchange_of(weight, slice::fnd(y), s.at);
         }

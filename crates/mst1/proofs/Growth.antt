@@ -4,6 +4,7 @@
 -- Assumes nothing.
 use Prim.Native.Nat.{ℕ, zero, suc, _+_, _-_, _≤_, _<_}
 use mathlib.Core.Bool.{Bool, true, false}
+use mathlib.Core.List.{List}
 use mathlib.Core.Option.{none, some}
 use mathlib.Core.Path.{_≡_, refl, sym, ap, _∙_}
 use native.Mathlib.Numerals.{add-one}
@@ -17,13 +18,14 @@ use Rattle.rowset.specs.Sets.{empty, either, oneOf, put, uppermost}
 use Rattle.rowset.proofs.Laws.{in-upTo, uppermost-some}
 use Rattle.search.specs.Blanks.{emptyColumns}
 use Rattle.search.proofs.Blanks.{empty-row}
+use Rattle.slice.specs.Matrix.{matrixColumn}
 use Rattle.slice.specs.Slices.{size, component, written}
 use Rattle.slice.specs.declared.Slice.{Slice}
 use Rattle.star.specs.Mst1.{chosenRows}
 use Rattle.star.specs.Refusals.{isNone}
 use Rattle.table.specs.Tables.{width, column, row}
 use Rattle.table.specs.declared.Table.{Table}
-use Rattle.mst1.specs.Growth.{graphOn, Grows, Reached, meeting}
+use Rattle.mst1.specs.Growth.{graphBy, Grows, Reached, meeting}
 use Rattle.mst1.proofs.Steps.{farBy, first-reached, next-reached}
 
 -- ── What is grown ──
@@ -53,45 +55,55 @@ grows-whole g w {chosen = chosen} r e =
 
 -- ── The slices of the code ──
 
--- the number in the columns after the empty ones is the row
-filled-row : (t : Table) (k : ℕ) → k ≡ emptyColumns size (column t) 0 width → number (column t) k (width - k) ≡ row t
-filled-row t k e = rw e (empty-row t)
+-- the numbers that the words of a table hold
+abbrev pub rowIn : List ℕ → ℕ → ℕ
+rowIn words = number (matrixColumn words) 0 width
+
+-- they are the rows of the table, and the numbers in the columns after the empty ones
+module _ (t : Table) (words : List ℕ) (stored : matrixColumn words ≡ column t) where
+  pub row-stored : rowIn words ≡ row t
+  unfolding row
+  row-stored = rw stored
+
+  pub filled-row : {k : ℕ} → k ≡ emptyColumns size (column t) 0 width → number (matrixColumn words) k (width - k) ≡ rowIn words
+  unfolding row
+  filled-row e = rw (stored, e) (empty-row t)
 
 -- writing 1 at a position of a slice puts it in
 written-in : (p : ℕ → Bool) (i : ℕ) → 1 ≤ i → i ≤ size → written p i true ≡ put p i
 unfolding written
 written-in p i l u = rw (in-upTo size i l u)
 
-module _ (left right weight : Table) (rows : Slice) (n : ℕ) where
-  -- FND of MIN over those columns is the row to choose
-  pub cheapest-row : {k i : ℕ} {X Y : ℕ → Bool} → k ≡ emptyColumns size (column weight) 0 width → X ≡ Y → i ≡ uppermost size (smallest size (number (column weight) k (width - k)) X) → cheapest (graphOn left right rows n) (row weight) Y ≡ i
+module _ (a b w : ℕ → ℕ) (rows : Slice) (n : ℕ) where
+  -- FND of MIN is the row to choose
+  pub cheapest-row : {i : ℕ} {W : ℕ → ℕ} {X Y : ℕ → Bool} → W ≡ w → X ≡ Y → i ≡ uppermost size (smallest size W X) → cheapest (graphBy a b rows n) w Y ≡ i
   unfolding cheapest
-  cheapest-row {k = k} e q h = sym (rw (filled-row weight k e, q) at h)
+  cheapest-row e q h = sym (rw (e, q) at h)
 
   -- a row that is chosen is a position of a slice
-  chosen-position : (X : ℕ → Bool) (i : ℕ) → cheapest (graphOn left right rows n) (row weight) X ≡ i → 1 ≤ i → i ≤ size
+  chosen-position : (X : ℕ → Bool) (i : ℕ) → cheapest (graphBy a b rows n) w X ≡ i → 1 ≤ i → i ≤ size
   unfolding cheapest
   chosen-position X zero e l = absurd (omega arith)
-  chosen-position X (suc j) e l = uppermost-some size j (smallest size (row weight) X) e .1
+  chosen-position X (suc j) e l = uppermost-some size j (smallest size w X) e .1
 
   -- the slices of the first row
-  pub begin-reached : {i : ℕ} {lefts rights chosen : ℕ → Bool} → cheapest (graphOn left right rows n) (row weight) (component rows) ≡ i → 1 ≤ i
-      → lefts ≡ meeting (row left) (row left i) (row right i) (component rows)
-      → rights ≡ meeting (row right) (row left i) (row right i) (component rows)
+  pub begin-reached : {i : ℕ} {lefts rights chosen : ℕ → Bool} → cheapest (graphBy a b rows n) w (component rows) ≡ i → 1 ≤ i
+      → lefts ≡ meeting a (a i) (b i) (component rows)
+      → rights ≡ meeting b (a i) (b i) (component rows)
       → chosen ≡ written empty i true
-      → Reached (graphOn left right rows n) (row weight) 2 lefts rights chosen
+      → Reached (graphBy a b rows n) w 2 lefts rights chosen
   begin-reached {i = i} e l hl hr hc =
-      rw (hl, hr, hc, written-in empty i l (chosen-position _ i e l)) (first-reached (graphOn left right rows n) (row weight) i e l)
+      rw (hl, hr, hc, written-in empty i l (chosen-position _ i e l)) (first-reached (graphBy a b rows n) w i e l)
 
   -- the slices with one row more
-  pub extend-reached : {k i far l r : ℕ} {lefts rights chosen lefts′ rights′ chosen′ : ℕ → Bool} → Reached (graphOn left right rows n) (row weight) k lefts rights chosen
-      → cheapest (graphOn left right rows n) (row weight) (oneOf lefts rights) ≡ i → 1 ≤ i
-      → far ≡ farBy (graphOn left right rows n) lefts i
-      → l ≡ emptyColumns size (column left) 0 width
-      → r ≡ emptyColumns size (column right) 0 width
-      → lefts′ ≡ either lefts (equalTo (number (column left) l (width - l)) far (component rows))
-      → rights′ ≡ either rights (equalTo (number (column right) r (width - r)) far (component rows))
+  pub extend-reached : {k i far : ℕ} {A B : ℕ → ℕ} {lefts rights chosen lefts′ rights′ chosen′ : ℕ → Bool} → Reached (graphBy a b rows n) w k lefts rights chosen
+      → cheapest (graphBy a b rows n) w (oneOf lefts rights) ≡ i → 1 ≤ i
+      → far ≡ farBy (graphBy a b rows n) lefts i
+      → A ≡ a
+      → B ≡ b
+      → lefts′ ≡ either lefts (equalTo A far (component rows))
+      → rights′ ≡ either rights (equalTo B far (component rows))
       → chosen′ ≡ written chosen i true
-      → Reached (graphOn left right rows n) (row weight) (k + 1) lefts′ rights′ chosen′
-  extend-reached {i = i} {l = l} {r = r} {chosen = chosen} h e p hf el er hl hr hc =
-      rw (hl, hr, hc, hf, filled-row left l el, filled-row right r er, written-in chosen i p (chosen-position _ i e p), add-one) (next-reached (graphOn left right rows n) (row weight) _ _ _ _ h i e p)
+      → Reached (graphBy a b rows n) w (k + 1) lefts′ rights′ chosen′
+  extend-reached {i = i} {chosen = chosen} h e p hf el er hl hr hc =
+      rw (hl, hr, hc, hf, el, er, written-in chosen i p (chosen-position _ i e p), add-one) (next-reached (graphBy a b rows n) w _ _ _ _ h i e p)

@@ -18,9 +18,13 @@ use Rattle.table.specs.Loads.{loadedRow}
 use Rattle.table.specs.Tables.{row}
 use Rattle.table.specs.declared.Table.{Table}
 
--- n vertices, and of the positions 1 to 1,024 the rows that a slice selects; the left and the right table hold their ends
+-- n vertices, and of the positions 1 to 1,024 the rows that a slice selects, with their left and their right ends
+abbrev pub graphBy : (ℕ → ℕ) → (ℕ → ℕ) → Slice → ℕ → Graph
+graphBy a b rows n = record { n = n; m = size; a = a; b = b; rows = component rows }
+
+-- the graph whose ends the left and the right table hold
 abbrev pub graphOn : Table → Table → Slice → ℕ → Graph
-graphOn left right rows n = record { n = n; m = size; a = row left; b = row right; rows = component rows }
+graphOn left right rows n = graphBy (row left) (row right) rows n
 
 -- the graph that the tables hold after the left and the right column are loaded
 abbrev pub loadedGraph : ℕ → List ℕ → List ℕ → Graph

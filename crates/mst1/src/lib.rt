@@ -5,15 +5,17 @@ ghost use Prim.Native.Nat.{_-_, _≤_};
 ghost use Rattle.rowset.specs.Columns.{number};
 ghost use Rattle.rowset.specs.Searches.{equalTo, smallest};
 ghost use Rattle.rowset.specs.Sets.{empty, either, uppermost};
+ghost use Rattle.slice.specs.Matrix.{matrixColumn};
 ghost use Rattle.slice.specs.Slices.{size, component, written};
 ghost use Rattle.star.specs.Mst1.{mst1, mst1Marks};
 ghost use Rattle.checks.specs.Checks.{given};
 ghost use Rattle.table.specs.Loads.{loadedRow};
-ghost use Rattle.table.specs.Tables.{width, column, row};
+ghost use Rattle.table.specs.Tables.{width, row};
 ghost use Rattle.mst1.specs.Growth.{graphOn, loadedGraph, Grows, Reached, meeting};
 ghost use Rattle.mst1.specs.Answers.{answerOf};
 use refusal::Outcome;
 use refusal::Refusal;
+use search::lent;
 use slice::Slice;
 use table::Table;
 
@@ -36,18 +38,25 @@ struct Fragment {
     chosen: Slice,
 }
 
-// FND of MIN over the columns after the first ones: the uppermost row of x of least weight, 0 where x has no row.
-fn cheapest(weight: Table, first: usize, x: Slice) -> usize
-    ensures { λ r. ⌜ r ≡ uppermost size (smallest size (number (column weight) first (width - first)) (component x)) ⌝ }
+// FND of MIN: the uppermost row of x of least weight, 0 where x has no row.
+fn first_row(weight: Table, x: Slice) -> usize
+    ensures { λ r. ⌜ r ≡ uppermost size (smallest size (row weight) (component x)) ⌝ }
 {
-    slice::fnd(search::min_from(weight, first, x))
+    slice::fnd(search::min(weight, x))
+}
+
+// The same over a table's words, and over the columns after the first ones.
+fn cheapest(weight: &[u64], first: usize, x: Slice) -> usize
+    ensures { λ r. ⌜ r ≡ uppermost size (smallest size (number (matrixColumn (now (weight .entry))) first (width - first)) (component x)) ⌝ }
+{
+    slice::fnd(lent::min_from(weight, first, x))
 }
 
 // x, and with it the rows that hold v, by MATCH over the columns after the first ones.
-fn reach(x: Slice, ends: Table, first: usize, v: u32, rows: Slice) -> Slice
-    ensures { λ r. ⌜ component r ≡ either (component x) (equalTo (number (column ends) first (width - first)) v (component rows)) ⌝ }
+fn reach(x: Slice, ends: &[u64], first: usize, v: u32, rows: Slice) -> Slice
+    ensures { λ r. ⌜ component r ≡ either (component x) (equalTo (number (matrixColumn (now (ends .entry))) first (width - first)) v (component rows)) ⌝ }
 {
-    slice::or(x, search::match_from(ends, first, v, rows))
+    slice::or(x, lent::match_from(ends, first, v, rows))
 }
 
 // The fragment of row i: both its ends.
@@ -98,22 +107,25 @@ fn grow_from(
     let l = search::empty_columns(left);
     let r = search::empty_columns(right);
     let w = search::empty_columns(weight);
+    let stored_left = lent::words_of(left);
+    let stored_right = lent::words_of(right);
+    let stored_weight = lent::words_of(weight);
     let mut lefts = start.lefts;
     let mut rights = start.rights;
     let mut chosen = start.chosen;
     let mut k = 2;
     while k < n {
-        let i = cheapest(weight, w, slice::xor(lefts, rights));
+        let i = cheapest(&stored_weight.words, w, slice::xor(lefts, rights));
         if i == 0 {
             return nothing(false);
         }
         let far = if slice::get(lefts, i) {
-            table::row_of(right, i)
+            lent::row_from(&stored_right.words, r, i)
         } else {
-            table::row_of(left, i)
+            lent::row_from(&stored_left.words, l, i)
         };
-        lefts = reach(lefts, left, l, far, rows);
-        rights = reach(rights, right, r, far, rows);
+        lefts = reach(lefts, &stored_left.words, l, far, rows);
+        rights = reach(rights, &stored_right.words, r, far, rows);
         chosen = slice::put(chosen, i, true);
         k += 1;
     }
@@ -130,7 +142,7 @@ pub fn grow_tree(left: Table, right: Table, weight: Table, rows: Slice, n: usize
     if n < 2 {
         return nothing(n == 1);
     }
-    let first = cheapest(weight, 0, rows);
+    let first = first_row(weight, rows);
     if first == 0 {
         return nothing(false);
     }

@@ -1,13 +1,15 @@
 -- The walk of MatrixPath as the machine makes it: three slices and the words of a path matrix, from vertex to vertex.
 -- a and b give the ends of each row, and T is the set of rows that the walk may use. Assumes nothing.
-use Prim.Native.Nat.{ℕ, zero, suc}
+use Prim.Native.Nat.{ℕ, zero, suc, _-_}
 use mathlib.Core.Bool.{Bool, true, cond}
 use mathlib.Core.List.{List}
+use Rattle.rowset.specs.Columns.{number}
 use Rattle.rowset.specs.Searches.{equalTo}
 use Rattle.rowset.specs.Sets.{empty, either, oneOf, uppermost}
 use Rattle.matrix.specs.Matrix.{matrixColumn, withColumn}
 use Rattle.slice.specs.Slices.{size, component, written}
 use Rattle.table.specs.Loads.{loadedRow}
+use Rattle.table.specs.Tables.{width}
 use Rattle.claim.specs.Claims.{claimRows}
 use Rattle.path.specs.declared.Front.{Front}
 
@@ -27,6 +29,10 @@ stateOf x words =
       reached = component (x .reached);
       words = words;
     }
+
+-- the ends in a table of bytes, of which the words are given: the numbers in its last eight columns
+abbrev pub endsIn : List ℕ → ℕ → ℕ
+endsIn words = number (matrixColumn words) 24 (width - 24)
 
 -- no vertex is reached
 unfoldable pub nowhere : List ℕ → State

@@ -7,19 +7,23 @@ ghost use Rattle.refusal.specs.Outcomes.{refusalOf};
 ghost use Rattle.slice.specs.Slices.{size, component};
 ghost use Rattle.star.specs.MatrixPath.{matrixPath, matrixAfter};
 ghost use Rattle.star.specs.Refusals.{orElse, refusal};
-ghost use Rattle.table.specs.Tables.{row};
 ghost use Rattle.checks.specs.Checks.{given};
+ghost use Rattle.table.specs.Loads.{loadedRow};
 ghost use Rattle.path.specs.Causes.{callCauses, checkCauses, unreachedCause};
-ghost use Rattle.path.specs.Walks.{stateOf, arrive, pass, along, step, walk, claimWalk};
+ghost use Rattle.path.specs.Walks.{endsIn, stateOf, arrive, pass, along, step, walk, claimWalk};
 use refusal::Outcome;
 use refusal::Refusal;
+use search::lent;
+use search::lent::Words;
 use slice::Slice;
-use table::Table;
 
 // The words of a column of a path matrix, and of a matrix with as many columns as there can be vertices.
 const WORDS: usize = 16;
 
 pub const ALL_WORDS: usize = 4080;
+
+// The number of columns on the left that are empty in a table of bytes.
+const UPPER: usize = 24;
 
 // How far the walk has come: the rows whose left end is reached, those whose right end is, and the vertices reached.
 struct Front {
@@ -30,28 +34,28 @@ struct Front {
 
 // Vertex v is reached along the rows of path.
 fn arrive(
-    left: Table,
-    right: Table,
+    left: &[u64],
+    right: &[u64],
     rows: Slice,
     at: Front,
     v: u32,
     path: Slice,
     own: &mut [u64],
 ) -> Front
-    ensures { λ r. ⌜ stateOf r (now (own .exit)) ≡ arrive (row left) (row right) (component rows) (stateOf at (now (own .entry))) v (component path) ⌝ }
+    ensures { λ r. ⌜ stateOf r (now (own .exit)) ≡ arrive (endsIn (now (left .entry))) (endsIn (now (right .entry))) (component rows) (stateOf at (now (own .entry))) v (component path) ⌝ }
 {
     matrix::write_column(own, v as usize, path);
     Front {
-        lefts: slice::or(at.lefts, search::match_rows(left, v, rows)),
-        rights: slice::or(at.rights, search::match_rows(right, v, rows)),
+        lefts: slice::or(at.lefts, lent::match_from(left, UPPER, v, rows)),
+        rights: slice::or(at.rights, lent::match_from(right, UPPER, v, rows)),
         reached: slice::put(at.reached, v as usize, true),
     }
 }
 
 // Row i is taken from vertex u to vertex v.
 fn pass(
-    left: Table,
-    right: Table,
+    left: &[u64],
+    right: &[u64],
     rows: Slice,
     at: Front,
     i: usize,
@@ -59,21 +63,21 @@ fn pass(
     v: u32,
     own: &mut [u64],
 ) -> Front
-    ensures { λ r. ⌜ stateOf r (now (own .exit)) ≡ pass (row left) (row right) (component rows) (stateOf at (now (own .entry))) i u v ⌝ }
+    ensures { λ r. ⌜ stateOf r (now (own .exit)) ≡ pass (endsIn (now (left .entry))) (endsIn (now (right .entry))) (component rows) (stateOf at (now (own .entry))) i u v ⌝ }
 {
     let path = slice::put(matrix::read_column(own, u as usize), i, true);
     arrive(left, right, rows, at, v, path, own)
 }
 
 // Row i is taken from its end that is reached to the other.
-fn along(left: Table, right: Table, rows: Slice, at: Front, i: usize, own: &mut [u64]) -> Front
-    ensures { λ r. ⌜ stateOf r (now (own .exit)) ≡ along (row left) (row right) (component rows) (stateOf at (now (own .entry))) i ⌝ }
+fn along(left: &[u64], right: &[u64], rows: Slice, at: Front, i: usize, own: &mut [u64]) -> Front
+    ensures { λ r. ⌜ stateOf r (now (own .exit)) ≡ along (endsIn (now (left .entry))) (endsIn (now (right .entry))) (component rows) (stateOf at (now (own .entry))) i ⌝ }
 {
     if i == 0 {
         return at;
     }
-    let a = table::row_of(left, i);
-    let b = table::row_of(right, i);
+    let a = lent::row_from(left, UPPER, i);
+    let b = lent::row_from(right, UPPER, i);
     if slice::get(at.lefts, i) {
         return pass(left, right, rows, at, i, a, b, own);
     }
@@ -81,17 +85,17 @@ fn along(left: Table, right: Table, rows: Slice, at: Front, i: usize, own: &mut 
 }
 
 // One step of the walk: the uppermost row with exactly one end reached is taken.
-fn step(left: Table, right: Table, rows: Slice, at: Front, own: &mut [u64]) -> Front
-    ensures { λ r. ⌜ stateOf r (now (own .exit)) ≡ step (row left) (row right) (component rows) (stateOf at (now (own .entry))) ⌝ }
+fn step(left: &[u64], right: &[u64], rows: Slice, at: Front, own: &mut [u64]) -> Front
+    ensures { λ r. ⌜ stateOf r (now (own .exit)) ≡ step (endsIn (now (left .entry))) (endsIn (now (right .entry))) (component rows) (stateOf at (now (own .entry))) ⌝ }
 {
     let i = slice::fnd(slice::xor(at.lefts, at.rights));
     along(left, right, rows, at, i, own)
 }
 
 // The walk of n steps from vertex s: the vertices reached.
-fn walk(left: Table, right: Table, rows: Slice, s: u32, n: u32, own: &mut [u64]) -> Slice
-    ensures reached { λ r. ⌜ component r ≡ walk (row left) (row right) (component rows) s (now (own .entry)) n .reached ⌝ }
-    ensures words { λ r. ⌜ now (own .exit) ≡ walk (row left) (row right) (component rows) s (now (own .entry)) n .words ⌝ }
+fn walk(left: &[u64], right: &[u64], rows: Slice, s: u32, n: u32, own: &mut [u64]) -> Slice
+    ensures reached { λ r. ⌜ component r ≡ walk (endsIn (now (left .entry))) (endsIn (now (right .entry))) (component rows) s (now (own .entry)) n .reached ⌝ }
+    ensures words { λ r. ⌜ now (own .exit) ≡ walk (endsIn (now (left .entry))) (endsIn (now (right .entry))) (component rows) s (now (own .entry)) n .words ⌝ }
 {
     let none = Slice::empty();
     let start = Front {
@@ -196,16 +200,24 @@ fn path_check(
     first(claim, first(call, count))
 }
 
+// The words of the table that a column of ends gives.
+fn ends_of(column: &[u8]) -> Words
+    ensures { λ r. ⌜ endsIn (r .words) ≡ loadedRow 1 (now (column .entry)) ⌝ }
+{
+    let loaded = table::load_bytes(column);
+    lent::words_of(loaded.table)
+}
+
 // The walk over the rows that the claim marks, and cause 10.
 fn claim_walk(n: u32, left: &[u8], right: &[u8], mark: &[u8], s: u32, own: &mut [u64]) -> Outcome
     requires { ⌜ n ≤ size ⌝ }
     ensures answer { λ o. ⌜ refusalOf o ≡ unreachedCause n (claimWalk n (now (left .entry)) (now (right .entry)) (now (mark .entry)) s (now (own .entry)) .reached) ⌝ }
     ensures words { λ o. ⌜ now (own .exit) ≡ claimWalk n (now (left .entry)) (now (right .entry)) (now (mark .entry)) s (now (own .entry)) .words ⌝ }
 {
-    let lefts = table::load_bytes(left);
-    let rights = table::load_bytes(right);
+    let lefts = ends_of(left);
+    let rights = ends_of(right);
     let rows = claim::claim_rows(mark);
-    let reached = walk(lefts.table, rights.table, rows, s, n, own);
+    let reached = walk(&lefts.words, &rights.words, rows, s, n, own);
     joined_check(n, reached)
 }
 

@@ -1,9 +1,9 @@
 -- `cst::first_lighter` meets its contract. The loop's invariant: the columns read hold the loaded weights, and the row sought among the rows still to be looked at
 -- is the one sought among all. The measure is how many rows are still to be looked at. Assumes nothing.
-use mathlib.Core.Path.{_≡_, refl, ap, _∙_}
+use mathlib.Core.Path.{_≡_, refl, sym, ap, _∙_}
 use borrow.Author.Needs.{needs}
 use Rattle.checks.proofs.Laws.{uppermost-bound}
-use Rattle.rowset.specs.Sets.{both, uppermost, count}
+use Rattle.rowset.specs.Sets.{both, any, uppermost, count}
 use Rattle.search.proofs.Blanks.{empty-row}
 use Rattle.slice.specs.Slices.{size, component}
 use Rattle.table.specs.Loads.{loadedRow}
@@ -14,44 +14,50 @@ use Rattle.cst.proofs.first_lighter.Statement.{statement}
 use Rattle.cst.proofs.first_lighter.Tie as tie
 
 abbrev Inv-loop : tie.InvT-loop
-Inv-loop matrix left right weight weights first z₀ z =
-    (rowsAfter weights first ≡ loadedRow 4 weight)
+Inv-loop matrix left right weight first stored z₀ z =
+    (rowsAfter (stored .words) first ≡ loadedRow 4 weight)
     × (uppermost size (both (component z) (someHeavier matrix left right weight))
     ≡ uppermost size (both (component z₀) (someHeavier matrix left right weight)))
 
 abbrev μ-loop : tie.MeasureT-loop
-μ-loop matrix left right weight weights first z₀ z = count size (component z)
+μ-loop matrix left right weight first stored z₀ z = count size (component z)
 
 loop-holds : tie.Need-loop-holds Inv-loop μ-loop
-loop-holds c = (rw (c .empty-columns .ensures) (empty-row _ ∙ c .before .before .load-quads .ensures .1), refl)
+loop-holds c = (rw (c .words-of .ensures, c .before .empty-columns .ensures) (empty-row _ ∙ c .before .before .before .load-quads .ensures .1), refl)
 
 exchange-of-requires : tie.Need-exchange-of-requires Inv-loop μ-loop
 unfolding someHeavier firstHeavier
 exchange-of-requires c κs =
     let y = c .before .before .before .heavier-rows in
-    let s = c .before .before .before .before .before .step-value in
-    let l = c .before .before .before .before .before .before .before .before .loop in (
+    let s = c .before .before .before .before .before .before .before .before .step-value in
+    let l = c .before .before .before .before .before .before .before .before .before .before .before .loop in
+    let heavy = rw (l .inv .0) at (y .ensures) in
+    let found = ap (any size) (sym heavy) ∙ sym (c .before .before .some2 .ensures) ∙ c .before .if2 .taken in (
       uppermost-bound size _ _ (c .fnd .ensures),
       uppermost-bound size _ _ (s .ensures .0),
-      rw (c .fnd .ensures, y .ensures, l .inv .0) (heavier-out _ _ _ _ _ (cc)),
+      rw (c .fnd .ensures, heavy) (heavier-out _ _ _ _ _ found),
     )
 
 returns : tie.Need-returns Inv-loop μ-loop
 unfolding someHeavier firstHeavier
 returns c =
-    let s = c .before .before .before .before .before .before .step-value in
-    let l = c .before .before .before .before .before .before .before .before .before .loop in
-    c .exchange-of .ensures ∙ exchange-found _ _ _ _ _ _ (l .inv .1) _ _ (s .ensures .0) (cc) (cc)
+    let s = c .before .before .before .before .before .before .before .before .before .step-value in
+    let l = c .before .before .before .before .before .before .before .before .before .before .before .before .loop in
+    let heavy = rw (l .inv .0) at (c .before .before .before .before .heavier-rows .ensures) in
+    let found = ap (any size) (sym heavy) ∙ sym (c .before .before .before .some2 .ensures) ∙ c .before .before .if2 .taken in
+    c .exchange-of .ensures ∙ exchange-found _ _ _ _ _ _ (l .inv .1) _ _ (s .ensures .0) found (c .before .fnd .ensures ∙ ap (uppermost size) heavy)
 
 loop-less : tie.Need-loop-less Inv-loop μ-loop
-loop-less c = rw (c .before .before .before .before .step-value .ensures .1) (fewer size _ (cc))
+loop-less c = rw (c .before .before .before .before .before .before .before .step-value .ensures .1) (fewer size _ (cc))
 
 loop-again : tie.Need-loop-again Inv-loop μ-loop
 unfolding someHeavier
 loop-again c =
-    let s = c .before .before .before .before .step-value in
-    let l = c .before .before .before .before .before .before .before .loop in
-    (l .inv .0, rw (s .ensures .1) (ap (uppermost size) (passed-over _ _ _ (cc)) ∙ l .inv .1))
+    let s = c .before .before .before .before .before .before .before .step-value in
+    let l = c .before .before .before .before .before .before .before .before .before .before .loop in
+    let heavy = rw (l .inv .0) at (c .before .before .heavier-rows .ensures) in
+    let none = ap (any size) (sym heavy) ∙ sym (c .before .some2 .ensures) ∙ c .if2 .left in
+    (l .inv .0, rw (s .ensures .1) (ap (uppermost size) (passed-over _ _ _ (rw (s .ensures .0) at none)) ∙ l .inv .1))
 
 returns-2 : tie.Need-returns-2 Inv-loop μ-loop
 returns-2 c = none-found _ _ _ _ _ _ (c .before .before .loop .inv .1) (cc)
@@ -62,6 +68,7 @@ first-lighter-spec =
     (tie.spec
     Inv-loop
     μ-loop
+    (λ c κs. search needs)
     (λ c κs. search needs)
     (λ c κs. search needs)
     loop-holds

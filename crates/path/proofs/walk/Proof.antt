@@ -1,9 +1,8 @@
 -- `path::walk` meets its contract. The loop's invariant: the state is that after `k` steps from where the loop begins. The measure is what is left of the steps.
 -- Assumes nothing.
-use Prim.Native.Nat.{_-_, _≤_}
-use Rattle.path.specs.Walks.{State, stateOf, nowhere, steps, walk}
+use Prim.Native.Nat.{_-_, _^_, _≤_, _<_}
+use Rattle.path.specs.Walks.{State, endsIn, stateOf, nowhere, steps, walk}
 use Rattle.slice.specs.Slices.{component}
-use Rattle.table.specs.Tables.{row}
 use borrow.Author.Needs.{needs}
 use lib.ListN.{length}
 use mathlib.Core.Path.{_≡_, refl, ap}
@@ -14,18 +13,18 @@ use Rattle.path.proofs.walk.Tie as tie
 
 abbrev Inv-loop : tie.InvT-loop
 Inv-loop left right rows s n own₀ at₀ k₀ own at k =
-    (k ≤ n) × (stateOf at own ≡ steps (row left) (row right) (component rows) (stateOf at₀ own₀) k) × (length own ≡ length own₀)
+    (k ≤ n) × (stateOf at own ≡ steps (endsIn left) (endsIn right) (component rows) (stateOf at₀ own₀) k) × (length own ≡ length own₀) × (n < 2 ^ 32)
 
 abbrev μ-loop : tie.MeasureT-loop
 μ-loop left right rows s n own₀ at₀ k₀ own at k = n - k
 
 loop-holds : tie.Need-loop-holds Inv-loop μ-loop
 unfolding steps
-loop-holds c = (omega arith, refl, refl)
+loop-holds c = (omega arith, refl, refl, omega arith)
 
 loop-again : tie.Need-loop-again Inv-loop μ-loop
 unfolding steps
-loop-again c = (omega arith, rw add-one (cc), omega arith)
+loop-again c = (omega arith, rw add-one (cc), omega arith, c .before .before .before .before .before .loop .inv .3)
 
 same-length : tie.Need-same-length Inv-loop μ-loop
 same-length c = omega arith
@@ -34,9 +33,9 @@ returns : tie.Need-returns Inv-loop μ-loop
 unfolding walk nowhere
 returns c =
     let l = c .before .before in
-    let a = l .before .before .before .before .before .before .before .args in
+    let a = l .before .before .before .before .before .before .before .before .before .args in
     let all : l .loop .k ≡ a .n = omega arith in
-    let same : stateOf (l .loop .at) (l .loop .own) ≡ walk (row (a .left)) (row (a .right)) (component (a .rows)) (a .s) (a .own .now) (a .n) = cc in
+    let same : stateOf (l .loop .at) (l .loop .own) ≡ walk (endsIn (a .left .now)) (endsIn (a .right .now)) (component (a .rows)) (a .s) (a .own .now) (a .n) = cc in
     (ap (λ (x : State). x .reached) same, ap (λ (x : State). x .words) same)
 
 pub walk-spec : {M : Type 1} → statement M
