@@ -13,7 +13,7 @@ use lib.Count.{trailingZeros, trailing-le}
 use lib.ListN.{getD}
 use Rattle.rowset.specs.Sets.{uppermost}
 use Rattle.rowset.proofs.Laws.{uppermost-zero, uppermost-is}
-use Rattle.slice.specs.Slices.{size, bit, component}
+use Rattle.slice.specs.Slices.{size, component}
 use Rattle.slice.specs.declared.Slice.{Slice}
 use Rattle.slice.proofs.Bits.{bit-below-trailing, bit-at-trailing}
 use Rattle.slice.proofs.Laws.{component-at, Clear, in-word, clear-more}

@@ -1,8 +1,7 @@
 -- `search::lent::bit_at` meets its contract: outside the words and outside 1 to 1,024 a component is 0, and inside it is a bit of a word.
 -- Assumes nothing.
 use native.Mathlib.Omega.{arith}
-use mathlib.Core.Path.{sym, ap, _∙_}
-use borrow.Author.Needs.{needs}
+use mathlib.Core.Path.{sym, ap}
 use Rattle.slice.proofs.MatrixLaws.{hasColumn-below, hasColumn-above, matrixColumn-outside}
 use Rattle.slice.proofs.Sets.{upTo-below, upTo-above}
 use Rattle.slice.specs.Slices.{size, bit}

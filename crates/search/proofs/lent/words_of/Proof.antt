@@ -3,9 +3,8 @@
 use Prim.Native.Nat.{_-_}
 use native.Mathlib.Numerals.{add-one}
 use native.Mathlib.Omega.{arith}
-use mathlib.Core.Path.{_≡_, sym}
+use mathlib.Core.Path.{sym}
 use borrow.Author.Needs.{needs}
-use lib.ListN.{length, length-replicate}
 use Rattle.slice.proofs.Stores.{length-unmap}
 use Rattle.search.proofs.Loops.{column-read}
 use Rattle.search.proofs.Stores.{Stored, stored-none, stored-more, stored-all}
