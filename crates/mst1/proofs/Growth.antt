@@ -18,7 +18,7 @@ use Rattle.rowset.specs.Sets.{empty, either, oneOf, put, uppermost}
 use Rattle.rowset.proofs.Laws.{in-upTo, uppermost-some}
 use Rattle.search.specs.Blanks.{emptyColumns}
 use Rattle.search.proofs.Blanks.{empty-row}
-use Rattle.slice.specs.Matrix.{matrixColumn}
+use Rattle.matrix.specs.Matrix.{matrixColumn}
 use Rattle.slice.specs.Slices.{size, component, written}
 use Rattle.slice.specs.declared.Slice.{Slice}
 use Rattle.star.specs.Mst1.{chosenRows}

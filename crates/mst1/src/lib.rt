@@ -5,7 +5,7 @@ ghost use Prim.Native.Nat.{_-_, _≤_};
 ghost use Rattle.rowset.specs.Columns.{number};
 ghost use Rattle.rowset.specs.Searches.{equalTo, smallest};
 ghost use Rattle.rowset.specs.Sets.{empty, either, uppermost};
-ghost use Rattle.slice.specs.Matrix.{matrixColumn};
+ghost use Rattle.matrix.specs.Matrix.{matrixColumn};
 ghost use Rattle.slice.specs.Slices.{size, component, written};
 ghost use Rattle.star.specs.Mst1.{mst1, mst1Marks};
 ghost use Rattle.checks.specs.Checks.{given};

@@ -22,7 +22,7 @@ use Rattle.table.proofs.Columns.{as-number}
 use Rattle.table.specs.Tables.{column, blank}
 use Rattle.table.specs.declared.Table.{Table}
 use Rattle.search.specs.Steps.{kept, grown, preferred, extreme}
-use Rattle.search.proofs.Columns.{number-below}
+use Rattle.rowset.proofs.Numbers.{number-below}
 use Rattle.search.proofs.Steps.{match-step, great-step, great-start, kept-none, grown-none}
 use Rattle.search.proofs.Extremes.{extreme-start, extreme-step}
 

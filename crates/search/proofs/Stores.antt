@@ -11,10 +11,10 @@ use borrow.Author.Tests.{le-leb}
 use lib.ListN.{length, getD}
 use Rattle.rowset.specs.Sets.{upTo, both}
 use Rattle.rowset.specs.Words.{columnWords}
-use Rattle.slice.specs.Matrix.{hasColumn, matrixColumn, withColumn}
+use Rattle.matrix.specs.Matrix.{hasColumn, matrixColumn, withColumn}
 use Rattle.slice.specs.Slices.{size, bit, component}
 use Rattle.slice.specs.declared.Slice.{Slice}
-use Rattle.slice.proofs.MatrixLaws.{hasColumn-below, hasColumn-above, matrixColumn-outside, length-withColumn, withColumn-same, withColumn-other}
+use Rattle.matrix.proofs.Laws.{hasColumn-below, hasColumn-above, matrixColumn-outside, length-withColumn, withColumn-same, withColumn-other}
 use Rattle.slice.proofs.Sets.{upTo-inside}
 use Rattle.table.specs.Tables.{column}
 use Rattle.table.specs.declared.Table.{Table}

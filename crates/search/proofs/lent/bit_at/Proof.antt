@@ -2,7 +2,7 @@
 -- Assumes nothing.
 use native.Mathlib.Omega.{arith}
 use mathlib.Core.Path.{sym, ap}
-use Rattle.slice.proofs.MatrixLaws.{hasColumn-below, hasColumn-above, matrixColumn-outside}
+use Rattle.matrix.proofs.Laws.{hasColumn-below, hasColumn-above, matrixColumn-outside}
 use Rattle.slice.proofs.Sets.{upTo-below, upTo-above}
 use Rattle.slice.specs.Slices.{size, bit}
 use Rattle.rowset.specs.Sets.{empty}

@@ -6,7 +6,7 @@ use borrow.Author.Needs.{needs}
 use borrow.Author.Tests.{not-true}
 use mathlib.Core.Path.{sym, _∙_}
 use Rattle.rowset.specs.Columns.{number}
-use Rattle.slice.specs.Matrix.{matrixColumn}
+use Rattle.matrix.specs.Matrix.{matrixColumn}
 use Rattle.search.proofs.Loops.{Compared, compared-start, compared-more, compared-none, compared-all}
 use Rattle.search.proofs.lent.great_from.Statement.{statement}
 use Rattle.search.proofs.lent.great_from.Tie as tie

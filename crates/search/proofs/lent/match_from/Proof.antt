@@ -4,7 +4,7 @@ use Prim.Native.Nat.{_-_}
 use native.Mathlib.Omega.{arith}
 use borrow.Author.Needs.{needs}
 use Rattle.rowset.specs.Columns.{number}
-use Rattle.slice.specs.Matrix.{matrixColumn}
+use Rattle.matrix.specs.Matrix.{matrixColumn}
 use Rattle.search.proofs.Loops.{Matched, matched-start, matched-more, matched-all}
 use Rattle.search.proofs.lent.match_from.Statement.{statement}
 use Rattle.search.proofs.lent.match_from.Tie as tie

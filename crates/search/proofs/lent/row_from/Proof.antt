@@ -3,7 +3,7 @@
 use Prim.Native.Nat.{_-_}
 use native.Mathlib.Omega.{arith}
 use borrow.Author.Needs.{needs}
-use Rattle.slice.specs.Matrix.{matrixColumn}
+use Rattle.matrix.specs.Matrix.{matrixColumn}
 use Rattle.search.proofs.Loops.{Read, read-start, held-below, read-fits, read-more, read-all}
 use Rattle.search.proofs.lent.row_from.Statement.{statement}
 use Rattle.search.proofs.lent.row_from.Tie as tie
