@@ -20,7 +20,7 @@ use Rattle.rowset.proofs.Laws.{uppermost-ext, uppermost-zero, uppermost-some, u
 use Rattle.star.specs.Call.{Call, rowsOf, weightOf}
 use Rattle.star.specs.Refusals.{maxVertices, maxRows, cause, causeAt, badVertices, tooManyRows, badLengths, badEnds, tooHeavy, badRow, badClaim, badCount, tableCauses, orElse, refusal, Accepted}
 use Rattle.star.proofs.Accepted.{taken}
-use Rattle.checks.specs.Checks.{shapeFault, edgeFault, rowFault, faulty, badMark, claimCause, countCause}
+use Rattle.checks.specs.Checks.{sizeFault, shapeFault, edgeFault, rowFault, faulty, badMark, claimCause, countCause}
 
 -- ── The number in a row ──
 
@@ -122,6 +122,50 @@ none-of-three true b d x e = absurd (omega arith)
 none-of-three false true d x e = absurd (omega arith)
 none-of-three false false true x e = absurd (omega arith)
 none-of-three false false false x e = (sym (or-else-none x), refl)
+
+-- of two tests the same
+first-of-two : (a b : Bool) → _≢_ {A = ℕ} (cond a 1 (cond b 2 0)) 0 → some (record { number = cond a 1 (cond b 2 0); place = 0 }) ≡ refusal (cause a 1 0 ∷ cause b 2 0 ∷ [])
+unfolding refusal orElse cause
+first-of-two true b n = refl
+first-of-two false true n = refl
+first-of-two false false n = absurd (n refl)
+
+none-of-two : (a b : Bool) → _≡_ {A = ℕ} (cond a 1 (cond b 2 0)) 0 → (none ≡ refusal (cause a 1 0 ∷ cause b 2 0 ∷ [])) × (a ≡ false) × (b ≡ false)
+unfolding refusal orElse cause
+none-of-two true b e = absurd (omega arith)
+none-of-two false true e = absurd (omega arith)
+none-of-two false false e = (refl, refl, refl)
+
+-- the fault f of n and the number m of rows
+module _ (n m f : ℕ) (size : f ≡ sizeFault n m) where
+  pub size-refused : f ≢ 0 → some (record { number = f; place = 0 }) ≡ refusal (badVertices n ∷ tooManyRows m ∷ [])
+  unfolding sizeFault badVertices tooManyRows
+  size-refused = rw size (first-of-two _ _)
+
+  pub size-done : f ≡ 0 → none ≡ refusal (badVertices n ∷ tooManyRows m ∷ [])
+  unfolding sizeFault badVertices tooManyRows
+  size-done e = none-of-two _ _ (sym size ∙ e) .0
+
+  -- without one, there are at most 1,024 rows, and the lengths of the other columns decide
+  pub size-rows : f ≡ 0 → m ≤ maxRows
+  unfolding sizeFault
+  size-rows e = ltb-false maxRows m (none-of-two (eqb n 0 || ltb maxVertices n) _ (sym size ∙ e) .2)
+
+  pub shape-lengths : (right weight mark : ℕ) → f ≡ 0 → shapeFault n m right weight mark ≡ cond (not (eqb right m) || not (eqb mark m) || not (eqb weight (4 * m))) 3 0
+  unfolding sizeFault shapeFault
+  shape-lengths right weight mark e =
+      let h = none-of-two (eqb n 0 || ltb maxVertices n) (ltb maxRows m) (sym size ∙ e) in
+      rw (h .1, h .2)
+
+  -- with one, it is the table's fault
+  pub shape-size : (right weight mark : ℕ) → f ≢ 0 → f ≡ shapeFault n m right weight mark
+  unfolding sizeFault shapeFault
+  shape-size right weight mark g = size ∙ go (eqb n 0 || ltb maxVertices n) (ltb maxRows m) _ (rw size at g)
+    where
+      go : (a b : Bool) (x : ℕ) → _≢_ {A = ℕ} (cond a 1 (cond b 2 0)) 0 → _≡_ {A = ℕ} (cond a 1 (cond b 2 0)) (cond a 1 (cond b 2 x))
+      go true b x g = refl
+      go false true x g = refl
+      go false false x g = absurd (g refl)
 
 -- a table without a fault in its shape has at most 1,024 rows
 pub shape-rows : (n m right weight mark f : ℕ) → f ≡ shapeFault n m right weight mark → f ≡ 0 → m ≤ maxRows

@@ -16,6 +16,10 @@ use Rattle.star.specs.Refusals.{maxVertices, maxRows, maxWeight, cause, causeAt
 abbrev pub given : ℕ → List ℕ → List ℕ → List ℕ → List ℕ → Call
 given n left right weight mark = record { n = n; left = left; right = right; weight = weight; mark = mark }
 
+-- the number of the first of causes 1 and 2 that applies to n and the number m of rows, 0 for none
+unfoldable pub sizeFault : (n m : ℕ) → ℕ
+sizeFault n m = cond (eqb n 0 || ltb maxVertices n) 1 (cond (ltb maxRows m) 2 0)
+
 -- the number of the first of causes 1 to 3 that applies to n, the number m of rows and the lengths of the other columns, 0 for none
 unfoldable pub shapeFault : (n m right weight mark : ℕ) → ℕ
 shapeFault n m right weight mark =

@@ -1,13 +1,14 @@
 // The checks that every procedure makes of a table, and CST and MatrixPath of a claim: causes 1 to 6 and 9, each for columns of any bytes and any lengths.
 // Rows are counted from 1; 0 is no row, and a byte past a column's end reads 0.
+ghost use mathlib.Core.List.{[], _∷_};
 ghost use mathlib.Core.Path.{_≡_};
 ghost use lib.ListN.{length, getD};
 ghost use Rattle.rowset.specs.Bytes.{inRow};
 ghost use Rattle.rowset.specs.Sets.{uppermost, count};
 ghost use Rattle.refusal.specs.Outcomes.{refusalOf};
 ghost use Rattle.star.specs.Call.{marked};
-ghost use Rattle.star.specs.Refusals.{tableCauses, refusal};
-ghost use Rattle.checks.specs.Checks.{given, shapeFault, edgeFault, rowFault, faulty, badMark, claimCause, countCause};
+ghost use Rattle.star.specs.Refusals.{badVertices, tooManyRows, tableCauses, refusal};
+ghost use Rattle.checks.specs.Checks.{given, sizeFault, shapeFault, edgeFault, rowFault, faulty, badMark, claimCause, countCause};
 use refusal::Outcome;
 use refusal::Refusal;
 
@@ -57,15 +58,40 @@ pub fn row_weight(weight: &[u8], i: usize) -> u32
     b0 + 256 * (b1 + 256 * (b2 + 256 * b3))
 }
 
-// The number of the first of causes 1 to 3 that applies to n, the number m of rows and the other columns' lengths, 0 where none does.
-fn shape_fault(n: u32, m: usize, right: usize, weight: usize, mark: usize) -> u32
-    ensures { λ r. ⌜ r ≡ shapeFault n m right weight mark ⌝ }
+// The number of the first of causes 1 and 2 that applies to n and the number m of rows, 0 where none does.
+fn size_fault(n: u32, m: usize) -> u32
+    ensures { λ r. ⌜ r ≡ sizeFault n m ⌝ }
 {
     if n == 0 || MAX_VERTICES < n {
         return 1;
     }
     if MAX_ROWS < m {
         return 2;
+    }
+    0
+}
+
+// Causes 1 and 2, of n and the number m of rows.
+pub fn size_check(n: u32, m: usize) -> Outcome
+    ensures { λ r. ⌜ refusalOf r ≡ refusal (badVertices n ∷ tooManyRows m ∷ []) ⌝ }
+{
+    let fault = size_fault(n, m);
+    if fault == 0 {
+        return Outcome::Done;
+    }
+    Outcome::Refused(Refusal {
+        number: fault,
+        place: 0,
+    })
+}
+
+// The number of the first of causes 1 to 3 that applies to n, the number m of rows and the other columns' lengths, 0 where none does.
+fn shape_fault(n: u32, m: usize, right: usize, weight: usize, mark: usize) -> u32
+    ensures { λ r. ⌜ r ≡ shapeFault n m right weight mark ⌝ }
+{
+    let size = size_fault(n, m);
+    if size != 0 {
+        return size;
     }
     if right != m || mark != m || weight != 4 * m {
         return 3;

@@ -98,7 +98,7 @@ taken c e =
     vertices : (eqb (c .n) 0 || ltb maxVertices (c .n)) ≡ false
     vertices = cause-none _ 1 0 (none-head _ _ e)
 
-    e₂ : refusal (tooManyRows c ∷ badLengths c ∷ badRow c ∷ []) ≡ none
+    e₂ : refusal (tooManyRows (rowsOf c) ∷ badLengths c ∷ badRow c ∷ []) ≡ none
     e₂ = none-tail _ _ e
 
     rows : ltb maxRows (rowsOf c) ≡ false

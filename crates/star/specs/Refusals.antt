@@ -36,12 +36,12 @@ causeAt number zero = none
 causeAt number (suc i) = some (record { number = number; place = suc i })
 
 -- 1: n is 0 or above 255
-unfoldable pub badVertices : Call → Option Refusal
-badVertices c = cause (eqb (c .n) 0 || ltb maxVertices (c .n)) 1 0
+unfoldable pub badVertices : ℕ → Option Refusal
+badVertices n = cause (eqb n 0 || ltb maxVertices n) 1 0
 
 -- 2: m above 1,024
-unfoldable pub tooManyRows : Call → Option Refusal
-tooManyRows c = cause (ltb maxRows (rowsOf c)) 2 0
+unfoldable pub tooManyRows : ℕ → Option Refusal
+tooManyRows m = cause (ltb maxRows m) 2 0
 
 -- 3: the right or mark column is not m bytes, or the weight column not 4 · m
 unfoldable pub badLengths : Call → Option Refusal
@@ -99,7 +99,7 @@ noTree c = cause (isNone (tree (graphOf c) (weightOf c))) 11 0
 
 -- the causes of every procedure that takes the table, and those of each procedure, in order
 unfoldable pub tableCauses : Call → List (Option Refusal)
-tableCauses c = badVertices c ∷ tooManyRows c ∷ badLengths c ∷ badRow c ∷ []
+tableCauses c = badVertices (c .n) ∷ tooManyRows (rowsOf c) ∷ badLengths c ∷ badRow c ∷ []
 
 unfoldable pub matrixPathCauses : Call → ℕ → ℕ → List (Option Refusal)
 matrixPathCauses c s size =
