@@ -1,0 +1,4 @@
+pub mod Reader
+pub mod Import
+pub mod Door
+pub mod Trials
