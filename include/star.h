@@ -1,4 +1,4 @@
-/* The console's door to the verified tree checker and tree builder.
+/* The console's door to the verified tree checker, tree builder and reader of STP texts.
  *
  * A table has n junctions, numbered 1 to n, and m rows. Row i joins two junctions at a price:
  *   left, right   one byte a row, the two junctions
@@ -6,17 +6,19 @@
  *   mark          one byte a row, 1 for a marked row and 0 for any other: the claim
  * m is the length of the left column.
  *
- * star_cst  judges the claim and writes nothing but the answer.
- * star_mst1 builds a least network and marks its rows; it does not read the marks it was lent.
+ * star_cst    judges the claim and writes nothing but the answer.
+ * star_mst1   builds a least network and marks its rows; it does not read the marks it was lent.
+ * star_import reads a SteinLib STP text into columns of 1,024 rows; it has no marks.
  *
- * Both return 1 with the verdict in the sixteen bytes of the answer, or 0 if the lent answer has
+ * Each returns 1 with the verdict in the sixteen bytes of the answer, or 0 if the lent answer has
  * not sixteen bytes; then nothing is written anywhere. Every other input is taken, whatever its
  * bytes and lengths: a fault is told as a refusal with its number and place, and a refused call
- * leaves the marks as they were.
+ * leaves the marks, and the columns lent to star_import, as they were.
  *
  * The caller owes that each pointer has as many readable bytes behind it as its length says (writable
- * ones behind answer, and behind mark in star_mst1), and that a column that is written overlaps no
- * other. An empty column may be lent as a null pointer with length 0. Nothing else is asked.
+ * ones behind answer, behind mark in star_mst1, and behind the three columns in star_import), and that
+ * a column that is written overlaps no other. An empty column may be lent as a null pointer with
+ * length 0. Nothing else is asked.
  */
 #ifndef STAR_H
 #define STAR_H
@@ -32,10 +34,13 @@ extern "C" {
 enum { STAR_MAX_JUNCTIONS = 255, STAR_MAX_ROWS = 1024, STAR_ANSWER_BYTES = 16 };
 #define STAR_MAX_PRICE UINT32_C(2147483647)
 
+/* The longest text that is read. */
+enum { STAR_MAX_TEXT = 65536 };
+
 /* Byte 0 of an answer. */
 enum star_kind {
     STAR_REFUSED = 0,
-    STAR_PASSED = 1, /* star_cst: no cheaper set exists; star_mst1: the network is built */
+    STAR_PASSED = 1, /* star_cst: no cheaper set exists; star_mst1: the network is built; star_import: the text is read */
     STAR_LIGHTER = 2 /* a cheaper set exists: the exchange of two rows is one */
 };
 
@@ -43,13 +48,16 @@ enum star_kind {
 enum star_refusal {
     STAR_BAD_JUNCTION_COUNT = 1, /* n is 0 or above 255 */
     STAR_TOO_MANY_ROWS = 2,      /* m is above 1,024 */
-    STAR_BAD_LENGTHS = 3,        /* right or mark is not m bytes, or weight not 4 m */
+    STAR_BAD_LENGTHS = 3,        /* right or mark is not m bytes, or weight not 4 m; star_import: not 1,024, 1,024 and 4,096 bytes */
     STAR_BAD_END = 4,            /* place: the uppermost row with an end that is 0 or above n, or with equal ends */
     STAR_BAD_PRICE = 5,          /* place: the uppermost row with a price above 2,147,483,647 */
     STAR_BAD_MARK = 6,           /* place: the uppermost row marked with another byte than 0 and 1 (star_cst) */
     STAR_BAD_MARK_COUNT = 9,     /* the marks are not n - 1 (star_cst) */
     STAR_NOT_JOINED = 10,        /* place: the smallest junction that marked rows do not join to 1 (star_cst) */
-    STAR_NO_NETWORK = 11         /* no set of rows joins every junction (star_mst1) */
+    STAR_NO_NETWORK = 11,        /* no set of rows joins every junction (star_mst1) */
+    STAR_BAD_TEXT = 12,          /* place: the first byte, counted from 0, of the first word that cannot stand; the text's length if it ends
+                                    too early; 65,536 if it is longer (star_import) */
+    STAR_BAD_EDGE_COUNT = 13     /* the E lines are not as many as the line Edges says (star_import) */
 };
 
 uint32_t star_cst(uint32_t n, const uint8_t *left, size_t left_len, const uint8_t *right, size_t right_len,
@@ -60,7 +68,14 @@ uint32_t star_mst1(uint32_t n, const uint8_t *left, size_t left_len, const uint8
                    const uint8_t *weight, size_t weight_len, uint8_t *mark, size_t mark_len, uint8_t *answer,
                    size_t answer_len);
 
-/* The sixteen bytes as fields; those that a kind lacks are 0. */
+/* Reads an STP text: a first line that opens with 33D32945; sections, of which one is named Graph, with its lines Nodes N, Edges M,
+ * E LEFT RIGHT PRICE for each row, END; and EOF. Sections of other names are skipped. left, right and weight are lent for 1,024 rows:
+ * 1,024, 1,024 and 4,096 bytes. The m rows of the text are written at the top, and rows past m keep their content. A refusal is 12,
+ * else 13, 1, 2, 3, or the uppermost row's 4 or 5. The first m rows (4 m bytes of weight) are what star_cst and star_mst1 take. */
+uint32_t star_import(const uint8_t *text, size_t text_len, uint8_t *left, size_t left_len, uint8_t *right, size_t right_len,
+                     uint8_t *weight, size_t weight_len, uint8_t *answer, size_t answer_len);
+
+/* The sixteen bytes of star_cst and star_mst1 as fields; those that a kind lacks are 0. */
 struct star_answer {
     unsigned kind;    /* byte 0: enum star_kind */
     unsigned number;  /* byte 1: enum star_refusal, 0 unless refused */
@@ -79,6 +94,26 @@ static inline struct star_answer star_read_answer(const uint8_t bytes[16]) {
     a.amount = 0;
     for (i = 7; i >= 0; i--) a.amount = a.amount << 8 | bytes[8 + i];
     return a;
+}
+
+/* The sixteen bytes of star_import as fields; those that a kind lacks are 0. */
+struct star_imported {
+    unsigned kind;   /* byte 0: STAR_PASSED or STAR_REFUSED */
+    unsigned number; /* byte 1: enum star_refusal, 0 unless refused */
+    unsigned n;      /* bytes 2 and 3: the junctions */
+    unsigned m;      /* bytes 4 and 5: the rows */
+    uint64_t place;  /* bytes 8 to 15: the refusal's place */
+};
+
+static inline struct star_imported star_read_imported(const uint8_t bytes[16]) {
+    struct star_answer a = star_read_answer(bytes);
+    struct star_imported i;
+    i.kind = a.kind;
+    i.number = a.number;
+    i.n = a.out;
+    i.m = a.in;
+    i.place = a.amount;
+    return i;
 }
 
 #ifdef __cplusplus
