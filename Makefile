@@ -10,7 +10,8 @@ CXXFLAGS ?= -O2
 PREFIX ?= /usr/local
 BUILD := target/c
 ARCHIVE := target/staticlib/libdoor.a
-CONSOLE := console/main.c console/table.c console/draw.c
+CONSOLE := console/main.c console/table.c console/stp.c console/draw.c
+READSTP := target/bin/readstp
 
 all: $(BUILD)/star
 
@@ -18,13 +19,21 @@ all: $(BUILD)/star
 $(ARCHIVE): FORCE
 	rt staticlib door
 
-$(BUILD)/star: $(ARCHIVE) $(CONSOLE) console/table.h console/draw.h include/star.h
+# The program that prints what an STP text holds, proved as well.
+$(READSTP): FORCE
+	rt check readstp
+
+$(BUILD)/star: $(ARCHIVE) $(CONSOLE) console/table.h console/stp.h console/draw.h include/star.h
 	@mkdir -p $(BUILD)
 	$(CC) -std=c99 $(CFLAGS) -Iinclude -o $@ $(CONSOLE) $(ARCHIVE) -lm
 
 $(BUILD)/door_test: $(ARCHIVE) tests/door_test.c tests/plain.c tests/plain.h include/star.h
 	@mkdir -p $(BUILD)
 	$(CC) -std=c99 $(CFLAGS) -Iinclude -Itests -o $@ tests/door_test.c tests/plain.c $(ARCHIVE)
+
+$(BUILD)/import_test: $(ARCHIVE) tests/import_test.c include/star.h
+	@mkdir -p $(BUILD)
+	$(CC) -std=c99 $(CFLAGS) -Iinclude -o $@ tests/import_test.c $(ARCHIVE)
 
 $(BUILD)/plain.o: tests/plain.c tests/plain.h
 	@mkdir -p $(BUILD)
@@ -39,9 +48,10 @@ run: $(BUILD)/star
 test:
 	bash .ci/run
 
-# What stands outside the proofs: the doors against the plain implementation, the same under a memory checker, and the console's output.
-outside: $(BUILD)/star $(BUILD)/door_test
-	bash tests/outside.sh $(BUILD)
+# What stands outside the proofs: the doors against the plain implementation, the import against the plain reader (python3), both under a
+# memory checker, and the console's output.
+outside: $(BUILD)/star $(BUILD)/door_test $(BUILD)/import_test $(READSTP)
+	bash tests/outside.sh $(BUILD) $(READSTP)
 
 bench: $(BUILD)/bench
 	$(BUILD)/bench

@@ -1,11 +1,10 @@
 /* Reads the planner's table. Words are parted by blanks; what follows # is a comment; empty lines do not count. */
 #include "table.h"
 
-#include <errno.h>
 #include <stdlib.h>
 #include <string.h>
 
-enum { MAX_LINE = 4096, MAX_WORDS = 5 };
+enum { MAX_WORDS = 5 };
 
 static int fault(const char *name, unsigned long line, const char *what) {
     fprintf(stderr, "%s:%lu: %s\n", name, line, what);
@@ -67,17 +66,20 @@ static int trench(struct table *t, char *words[], int count, uint32_t *largest, 
     return 1;
 }
 
-int table_read(struct table *t, FILE *in, const char *name) {
-    char text[MAX_LINE], *words[MAX_WORDS + 1];
+int table_read(struct table *t, char *text, size_t len, const char *name) {
+    char *words[MAX_WORDS + 1], *start, *end, *stop = text + len;
     uint32_t largest = 0;
     unsigned long line = 0;
     size_t room = 0;
     int told = 0, count;
     memset(t, 0, sizeof *t);
-    while (fgets(text, sizeof text, in)) {
+    for (start = text; start < stop; start = end + 1) {
         line++;
-        if (!strchr(text, '\n') && !feof(in)) return fault(name, line, "the line is too long");
-        count = words_of(text, words);
+        end = memchr(start, '\n', (size_t)(stop - start));
+        if (!end) end = stop;
+        *end = '\0';
+        if (strlen(start) != (size_t)(end - start)) return fault(name, line, "a zero byte stands in the line");
+        count = words_of(start, words);
         if (count == 0) continue;
         if (strcmp(words[0], "junctions") == 0) {
             if (told || count != 2 || !number(words[1], UINT32_MAX, &t->n)) return fault(name, line, "expected one line 'junctions N', N a number");
@@ -86,10 +88,6 @@ int table_read(struct table *t, FILE *in, const char *name) {
         }
         if (!room_for(t, &room)) return fault(name, line, "no memory is left");
         if (!trench(t, words, count, &largest, name, line)) return 0;
-    }
-    if (ferror(in)) {
-        fprintf(stderr, "%s: %s\n", name, strerror(errno));
-        return 0;
     }
     if (!told) t->n = largest;
     return 1;

@@ -16,8 +16,9 @@ struct table {
     int marked;      /* whether some line has a mark */
 };
 
-/* Reads a table. On a fault it says what and in which line on standard error, under the name given, and returns 0. */
-int table_read(struct table *t, FILE *in, const char *name);
+/* Reads a table from a text of len bytes with one more behind them, and changes the text. On a fault it says what and in which line on
+   standard error, under the name given, and returns 0. */
+int table_read(struct table *t, char *text, size_t len, const char *name);
 
 void table_free(struct table *t);
 
