@@ -349,6 +349,17 @@ def deep(make):
     yield Text("deepest", b"33D32945\n" + short * room + graph + b"EOFx")
     yield Text("deepest", b"33D32945\r" + b"section\tEND\rend\r" * 4000 + graph + b"eof")
     assert most == 4680 and room == 4677
+    # as many lines, words and rows as there is room for
+    room = MAX_TEXT - len(b"33D32945\n" + graph + b"EOF")
+    yield Text("deepest", b"33D32945" + b" x" * (room // 2) + b"\n" + graph + b"EOF")
+    yield Text("deepest", b"33D32945\nSECTION a\n" + b"x\n" * ((room - len(short)) // 2) + b"END\n" + graph + b"EOF")
+    yield Text("deepest", b"33D32945\nSECTION a\n" + b"x " * ((room - len(short)) // 2 - 1) + b"\nEND\n" + graph + b"EOF")
+    yield Text("deepest", b"33D32945\n" + graph + b"\n" * room + b"EOF")
+    head, tail = b"33D32945\nSECTION Graph\nNodes 2\nEdges 8000\n", b"END\nEOF"
+    yield Text("deepest", head + b"E 1 2 3\n" * 8000 + tail)
+    yield Text("deepest", head + b"E 1 2 3\n" * 8001 + tail)
+    yield Text("deepest", head + b"E 1 2 3\n" * 8000 + b"E 1 2 x\n" + tail)
+    yield Text("deepest", head + b"E 1 2 3\n" * 8000 + b"END\nEO")
 
 
 def known(make):
