@@ -1,0 +1,4 @@
+pub mod Steps
+pub mod Sections
+pub mod Answers
+pub mod Lines
