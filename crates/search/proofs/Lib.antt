@@ -5,3 +5,5 @@ pub mod Extremes
 pub mod Loops
 pub mod Blanks
 pub mod Stores
+pub mod Counts
+pub mod Trials

@@ -27,15 +27,18 @@ use Rattle.search.proofs.Steps.{match-step, great-step, great-start, ke
 use Rattle.search.proofs.Extremes.{extreme-start, extreme-step}
 
 -- the last binary digit of n
-abbrev digit : ℕ → Bool
+abbrev pub digit : ℕ → Bool
 digit n = eqb (n % 2) 1
 
-last-digit : (n : ℕ) → n ≡ 2 * (n / 2) + cond (digit n) 1 0
-last-digit n = go (digit n) refl
+pub digit-number : (n : ℕ) → cond (digit n) 1 0 ≡ n % 2
+digit-number n = go (digit n) refl
   where
-    go : (b : Bool) → digit n ≡ b → n ≡ 2 * (n / 2) + cond b 1 0
-    go true e = omega (arith, eqb-true (n % 2) 1 e)
+    go : (b : Bool) → digit n ≡ b → cond b 1 0 ≡ n % 2
+    go true e = sym (eqb-true (n % 2) 1 e)
     go false e = let h : n % 2 ≡ 1 → ⊥ = eqb-false (n % 2) 1 e in omega (arith, h)
+
+last-digit : (n : ℕ) → n ≡ 2 * (n / 2) + cond (digit n) 1 0
+last-digit n = omega (arith, digit-number n)
 
 -- the number w in its upper digits, with one more of them
 one-more-digit : (w j : ℕ) → j < 32 → w / 2 ^ (32 - (j + 1)) ≡ 2 * (w / 2 ^ (32 - j)) + cond (digit (w / 2 ^ (32 - 1 - j))) 1 0
@@ -82,7 +85,7 @@ unfolding component
 component-in x i e = upTo-in size i (and-eq-true-iff (upTo size i) _ .0 e .0)
 
 -- a slice without a component 1 is Θ
-none-left : (x : Slice) → any size (component x) ≡ false → component x ≡ empty
+pub none-left : (x : Slice) → any size (component x) ≡ false → component x ≡ empty
 unfolding empty
 none-left x e = fun-ext (λ i. refuted (component x i) (λ t. let (l, u) = component-in x i t in clash t (any-none size (component x) e i l u)))
 
@@ -122,8 +125,8 @@ module _ (c : ℕ → ℕ → Bool) (first i : ℕ) where
   pub read-all : (r j : ℕ) → 32 ≤ j → Read c first i r j → r ≡ number c first (32 - first) i
   read-all r j h m = let e : j - first ≡ 32 - first = omega arith in rw (← e) (m .held)
 
--- what the rows in the running are after j columns: those that equal w in the columns read, where z₀ is what they were before the first column
-pub record Matched (c : ℕ → ℕ → Bool) (first w : ℕ) (z₀ z : Slice) (j : ℕ) : Type 0 where
+-- what GREAT's rows in the running are after j columns: those that equal w in the columns read, where z₀ is what they were before the first column
+pub record Running (c : ℕ → ℕ → Bool) (first w : ℕ) (z₀ z : Slice) (j : ℕ) : Type 0 where
   pub from : first ≤ j
   pub upto : j - first ≤ 32 - first
   pub equal : (X : ℕ → Bool)
@@ -131,14 +134,14 @@ pub record Matched (c : ℕ → ℕ → Bool) (first w : ℕ) (z₀ z : Slice) (
       → component z ≡ equalTo (number c first (j - first)) (w / 2 ^ (32 - j)) X
 
 module _ (c : ℕ → ℕ → Bool) (first w : ℕ) (z₀ : Slice) where
-  pub matched-start : Matched c first w z₀ z₀ first
-  matched-start = record { from = omega arith; upto = omega arith; equal = λ X h. rw sub-self h }
+  running-start : Running c first w z₀ z₀ first
+  running-start = record { from = omega arith; upto = omega arith; equal = λ X h. rw sub-self h }
 
-  pub matched-more : (z z′ : Slice) (j : ℕ) → j < 32
+  running-more : (z z′ : Slice) (j : ℕ) → j < 32
       → component z′ ≡ kept (digit (w / 2 ^ (32 - 1 - j))) (component z) (c (j + 1))
-      → Matched c first w z₀ z j
-      → Matched c first w z₀ z′ (j + 1)
-  matched-more z z′ j h e m =
+      → Running c first w z₀ z j
+      → Running c first w z₀ z′ (j + 1)
+  running-more z z′ j h e m =
       record {
         from = omega arith;
         upto = omega arith;
@@ -152,18 +155,9 @@ module _ (c : ℕ → ℕ → Bool) (first w : ℕ) (z₀ : Slice) where
             ) e;
       }
 
-  pub matched-all : (z : Slice) (j : ℕ) (X : ℕ → Bool) → 32 ≤ j
-      → component z₀ ≡ equalTo (number c first 0) (w / 2 ^ (32 - first)) X
-      → Matched c first w z₀ z j
-      → component z ≡ equalTo (number c first (32 - first)) w X
-  matched-all z j X h s m =
-      let e : j - first ≡ 32 - first = omega arith in
-      let d : 32 - j ≡ 0 = omega arith in
-      rw (← e) (rw (d, div-one) at (m .equal X s))
-
 -- what the rows found greater are after j columns, beside the rows in the running
 pub record Compared (c : ℕ → ℕ → Bool) (first w : ℕ) (z₀ g z : Slice) (j : ℕ) : Type 0 where
-  pub matched : Matched c first w z₀ z j
+  pub running : Running c first w z₀ z j
   pub greater : (X : ℕ → Bool)
       → component z₀ ≡ equalTo (number c first 0) (w / 2 ^ (32 - first)) X
       → component g ≡ greaterThan (number c first (j - first)) (w / 2 ^ (32 - j)) X
@@ -171,7 +165,7 @@ pub record Compared (c : ℕ → ℕ → Bool) (first w : ℕ) (z₀ g z : Slice
 module _ (c : ℕ → ℕ → Bool) (first w : ℕ) (z₀ : Slice) where
   pub compared-start : (g : Slice) → component g ≡ empty → Compared c first w z₀ g z₀ first
   unfolding number
-  compared-start g e = record { matched = matched-start c first w z₀; greater = λ X h. rw sub-self (e ∙ sym (great-start _ X)) }
+  compared-start g e = record { running = running-start c first w z₀; greater = λ X h. rw sub-self (e ∙ sym (great-start _ X)) }
 
   pub compared-more : (g g′ z z′ : Slice) (j : ℕ) → j < 32
       → component g′ ≡ grown (digit (w / 2 ^ (32 - 1 - j))) (component g) (component z) (c (j + 1))
@@ -180,15 +174,15 @@ module _ (c : ℕ → ℕ → Bool) (first w : ℕ) (z₀ : Slice) where
       → Compared c first w z₀ g′ z′ (j + 1)
   compared-more g g′ z z′ j h e d m =
       record {
-        matched = matched-more c first w z₀ z z′ j h d (m .matched);
+        running = running-more c first w z₀ z z′ j h d (m .running);
         greater = λ X s.
             rw (
-              next-count first j (m .matched .from),
+              next-count first j (m .running .from),
               one-more-digit w j h,
               great-step c first (j - first),
-              next-column c first j (m .matched .from),
+              next-column c first j (m .running .from),
               ← m .greater X s,
-              ← m .matched .equal X s,
+              ← m .running .equal X s,
             ) e;
       }
 

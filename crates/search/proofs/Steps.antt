@@ -19,7 +19,7 @@ kept-at true Z C i = refl
 kept-at false Z C i = refl
 
 -- bits compared: equal, and the first before the second
-bits-equal : (b d : Bool) → isEq (compare (cond b 1 0) (cond d 1 0)) ≡ cond d b (not b)
+pub bits-equal : (b d : Bool) → isEq (compare (cond b 1 0) (cond d 1 0)) ≡ cond d b (not b)
 bits-equal true true = refl
 bits-equal false true = refl
 bits-equal true false = refl

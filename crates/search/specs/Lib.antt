@@ -1,2 +1,4 @@
 pub mod Steps
 pub mod Blanks
+pub mod Counts
+pub mod Trials

@@ -1,5 +1,6 @@
 // A table as words that are lent, sixteen a column as in a path matrix, and the searches over them: a caller that searches often lends the words and copies no table.
 // A column that is not wholly inside the words is Θ, so that every search is defined for any number of words.
+use crate::Matched;
 use crate::WIDTH;
 use crate::begin;
 use crate::grow;
@@ -14,6 +15,7 @@ ghost use Rattle.rowset.specs.Searches.{equalTo, greaterThan, smallest};
 ghost use Rattle.matrix.specs.Matrix.{matrixColumn};
 ghost use Rattle.slice.specs.Slices.{size, component};
 ghost use Rattle.table.specs.Tables.{width, column};
+ghost use Rattle.search.specs.Counts.{equalRight, readOf};
 ghost use Rattle.search.specs.Steps.{extreme};
 
 // The words of a column, of a table, and the bits of a word.
@@ -75,18 +77,30 @@ pub fn row_from(words: &[u64], first: usize, i: usize) -> u32
     r
 }
 
+// MATCH of w's last digits in the columns that are not left out, from column 32 to the left; it stops where no row is left in the running.
+pub fn match_right(words: &[u64], first: usize, w: u32, x: Slice) -> Matched
+    ensures rows { λ r. ⌜ component (r .rows) ≡ equalRight (matrixColumn (now (words .entry))) w (width - first) (component x) ⌝ }
+    ensures read { λ r. ⌜ r .read ≡ readOf (width - first) size (matrixColumn (now (words .entry))) w (component x) ⌝ }
+{
+    let count = if first < WIDTH { WIDTH - first } else { 0 };
+    let mut z = x;
+    let mut k = 0;
+    while k < count {
+        if slice::zero(z) {
+            return Matched { rows: z, read: k };
+        }
+        z = keep(z, matrix::read_column(words, WIDTH - k), (w >> k) % 2 == 1);
+        k += 1;
+    }
+    Matched { rows: z, read: k }
+}
+
 // MATCH that leaves out the first columns.
 pub fn match_from(words: &[u64], first: usize, w: u32, x: Slice) -> Slice
     ensures { λ r. ⌜ component r ≡ equalTo (number (matrixColumn (now (words .entry))) first (width - first)) w (component x) ⌝ }
 {
-    let mut z = begin(first, w, x);
-    let mut j = first;
-    while j < WIDTH {
-        let digit = WIDTH - 1 - j;
-        z = keep(z, matrix::read_column(words, j + 1), (w >> digit) % 2 == 1);
-        j += 1;
-    }
-    z
+    let found = match_right(words, first, w, begin(first, w, x));
+    found.rows
 }
 
 // GREAT that leaves out the first columns. Beside the rows found greater, g, it carries MATCH's rows that are equal so far, z, and stops where there are none.

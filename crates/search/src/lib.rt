@@ -1,4 +1,4 @@
-// The searches MATCH, MIN, MAX and GREAT over the rows of a table that a slice selects. Each reads the columns from left to right; the loops stand in `lent`, over the table's words.
+// The searches MATCH, MIN, MAX and GREAT over the rows of a table that a slice selects. MATCH reads the columns from right to left, the others from left to right; the loops stand in `lent`, over the table's words.
 // A search that ends in `_from` leaves out the first columns, as many as it is told, and is about the number that a row holds in the others: 0 where none is left.
 // That number is the row itself where the columns left out are Θ, `empty_columns` of them (the law `empty-row`), or where every row is below 2 ^ (32 - first) (the law `small-row`).
 use slice::Slice;
@@ -10,12 +10,19 @@ ghost use Rattle.rowset.specs.Searches.{equalTo, greaterThan, smallest, largest
 ghost use Rattle.slice.specs.Slices.{size, component};
 ghost use Rattle.table.specs.Tables.{width, column, row};
 ghost use Rattle.search.specs.Blanks.{emptyColumns};
+ghost use Rattle.search.specs.Counts.{columnsRead};
 ghost use Rattle.search.specs.Steps.{kept, preferred, grown, extreme};
 
 pub mod lent; // lent.rt: a table's words, lent, and the searches over them
 
 // The number of columns of a table.
 const WIDTH: usize = 32;
+
+// What MATCH gives: the rows that it found, and the number of columns that it read.
+pub struct Matched {
+    pub rows: Slice,
+    pub read: usize,
+}
 
 // The number of columns on the left that are Θ, before the first that is not.
 pub fn empty_columns(t: Table) -> usize
@@ -82,6 +89,15 @@ pub fn match_rows(t: Table, w: u32, x: Slice) -> Slice
     ensures { λ r. ⌜ component r ≡ equalTo (row t) w (component x) ⌝ }
 {
     match_from(t, 0, w, x)
+}
+
+// MATCH whole: the selected rows that equal w, and the number of columns read from column 32 to the left until no row was left in the running.
+pub fn match_count(t: Table, w: u32, x: Slice) -> Matched
+    ensures rows { λ r. ⌜ component (r .rows) ≡ equalTo (row t) w (component x) ⌝ }
+    ensures read { λ r. ⌜ r .read ≡ columnsRead size (column t) w (component x) ⌝ }
+{
+    let stored = lent::words_of(t);
+    lent::match_right(&stored.words, 0, w, x)
 }
 
 // GREAT that leaves out the first columns.
