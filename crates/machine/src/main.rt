@@ -2,6 +2,7 @@
 // Standard input has a line for each case: what is printed before its result.
 use libc::STDIN_FILENO;
 use libc::STDOUT_FILENO;
+use search::Matched;
 use slice::Slice;
 use table::Table;
 
@@ -233,6 +234,25 @@ fn searches(t: Table, x: Slice) {
     show(search::great(t, 4294967295, x));
 }
 
+// MATCH whole: the number of columns that it read, and the rows that it found.
+fn counted(m: Matched) {
+    label();
+    number(m.read);
+    text(b", rows");
+    positions(m.rows, true);
+    text(b"\n");
+}
+
+fn counts(t: Table, x: Slice) {
+    counted(search::match_count(t, 5, slice::clr()));
+    counted(search::match_count(t, 5, x));
+    counted(search::match_count(t, 3, slice::put(slice::clr(), 4, true)));
+    counted(search::match_count(t, 65541, x));
+    counted(search::match_count(t, 2147483653, x));
+    counted(search::match_count(t, 0, slice::put(slice::clr(), 1000, true)));
+    counted(search::match_count(t, 8, slice::put(slice::clr(), 1000, true)));
+}
+
 // All rows are selected, unloaded ones too.
 fn all_selected(t: Table, x: Slice) {
     summary(search::match_rows(t, 0, x));
@@ -276,6 +296,8 @@ fn main() {
     searches(t, slice::clr());
     text(b"every row selected\n");
     all_selected(t, slice::set());
+    text(b"columns read by MATCH\n");
+    counts(t, x);
     text(b"slices\n");
     operations(x, slice::put(slice::put(slice::clr(), 3, true), 1024, true));
     places(x);
