@@ -1,10 +1,10 @@
 -- The column fact: rows are ordered by the columns on the left, and where those are equal by the columns on the right, for any number of columns on either side.
 -- Assumes nothing.
-use Prim.Native.Nat.{ℕ, zero, suc, _+_, _*_, _^_, _<_, compare}
-use native.Mathlib.Nat.{add-zero, add-suc, pow-suc, pow-zero, mul-comm}
+use Prim.Native.Nat.{ℕ, suc, _+_, _*_, _^_, _<_, compare}
+use native.Mathlib.Nat.{add-suc, mul-comm}
 use native.Mathlib.Numerals.{add-one}
 use native.Mathlib.Omega.{arith}
-use mathlib.Core.Bool.{Bool, true, false, cond}
+use mathlib.Core.Bool.{Bool, cond}
 use mathlib.Core.Path.{_≡_}
 use Rattle.rowset.specs.Columns.{number}
 use Rattle.rowset.proofs.Numbers.{bit-small, number-below, number-split}

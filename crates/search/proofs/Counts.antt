@@ -1,18 +1,18 @@
 -- MATCH from the right: the rows in the running at one more column, by the column fact, and the number of columns read.
 -- Assumes nothing.
-use Prim.Native.Nat.{ℕ, zero, suc, _+_, _-_, _*_, _/_, _%_, _^_, _≤_, _<_, compare}
+use Prim.Native.Nat.{ℕ, suc, _+_, _-_, _*_, _/_, _%_, _^_, _≤_, _<_, compare}
 use native.Mathlib.Decide.{decLe}
 use native.Mathlib.Nat.{add-zero, zero-add, sub-zero, mod-lt, mod-one, mod-eq-of-lt}
 use native.Mathlib.Numerals.{add-one, one-add}
 use native.Mathlib.Omega.{arith}
 use mathlib.Core.Bool.{Bool, true, false, not, cond, _&&_, and-assoc, and-comm, and-true}
 use mathlib.Core.Logic.{by-cases}
-use mathlib.Core.Path.{_≡_, refl, sym, ap, _∙_, fun-ext}
+use mathlib.Core.Path.{_≡_, sym, ap, _∙_, fun-ext}
 use lib.Dec.{isEq}
 use lib.Pow.{pow-pos, split, mod-pow-add}
 use Rattle.rowset.specs.Columns.{number}
 use Rattle.rowset.specs.Searches.{equalTo}
-use Rattle.rowset.specs.Sets.{empty, any}
+use Rattle.rowset.specs.Sets.{any}
 use Rattle.rowset.proofs.Laws.{upwards}
 use Rattle.slice.specs.Slices.{size, component}
 use Rattle.slice.specs.declared.Slice.{Slice}

@@ -1,6 +1,6 @@
 -- The trials of the number of columns read hold: the definition computes to what each says.
 -- Assumes nothing.
-use mathlib.Core.Path.{_≡_, refl}
+use mathlib.Core.Path.{refl}
 use Rattle.rowset.specs.Columns.{number}
 use Rattle.rowset.specs.Searches.{equalTo}
 use Rattle.rowset.specs.Sets.{empty, upTo, put, any}
