@@ -17,7 +17,7 @@ Inv-loop words first w count z₀ k₀ z k = Right (matrixColumn words) w z₀ c
 abbrev μ-loop : tie.MeasureT-loop
 μ-loop words first w count z₀ k₀ z k = count - k
 
--- the columns that are not left out
+-- the columns that may be read are those that are not left out
 loop-holds : tie.Need-loop-holds Inv-loop μ-loop
 loop-holds c = right-start _ _ _ _ (⊎-elim (λ t. omega arith) (λ t. omega arith) (c .if1 .came))
 
@@ -26,7 +26,7 @@ stopped c =
     let l = c .before .before .before .loop in
     let i = c .before .before .before .before .if1 in
     let e : i .count ≡ 32 - c .before .before .before .before .before .before .args .first = ⊎-elim (λ t. omega arith) (λ t. omega arith) (i .came) in
-    rw (← e) (right-stopped _ _ _ _ _ _ (omega arith) (not-true _ (sym (c .before .zero .ensures) ∙ c .if2 .taken)) (l .inv))
+    rw (← e) (right-stopped _ _ _ _ _ (l .k) (omega arith) (not-true _ (sym (c .before .zero .ensures) ∙ c .if2 .taken)) (l .inv))
 
 again : tie.Need-loop-again Inv-loop μ-loop
 again c =
