@@ -69,12 +69,12 @@ fn first_lighter(matrix: &[u64], left: &[u8], right: &[u8], weight: &[u8], rows:
 {
     let weights = table::load_quads(weight).table;
     let first = search::empty_columns(weights);
-    let stored = lent::words_of(weights);
+    let stored = lent::columns_of(weights);
     let mut z = rows;
     while slice::some(z) {
         let s = slice::step_value(z);
         z = s.slice;
-        let y = heavier_rows(matrix, &stored.words, first, left, right, weight, s.at);
+        let y = heavier_rows(matrix, &stored.columns, first, left, right, weight, s.at);
         if slice::some(y) {
             return exchange_of(weight, slice::fnd(y), s.at);
         }

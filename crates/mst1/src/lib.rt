@@ -107,25 +107,25 @@ fn grow_from(
     let l = search::empty_columns(left);
     let r = search::empty_columns(right);
     let w = search::empty_columns(weight);
-    let stored_left = lent::words_of(left);
-    let stored_right = lent::words_of(right);
-    let stored_weight = lent::words_of(weight);
+    let stored_left = lent::columns_of(left);
+    let stored_right = lent::columns_of(right);
+    let stored_weight = lent::columns_of(weight);
     let mut lefts = start.lefts;
     let mut rights = start.rights;
     let mut chosen = start.chosen;
     let mut k = 2;
     while k < n {
-        let i = cheapest(&stored_weight.words, w, slice::xor(lefts, rights));
+        let i = cheapest(&stored_weight.columns, w, slice::xor(lefts, rights));
         if i == 0 {
             return nothing(false);
         }
         let far = if slice::get(lefts, i) {
-            lent::row_from(&stored_right.words, r, i)
+            lent::row_from(&stored_right.columns, r, i)
         } else {
-            lent::row_from(&stored_left.words, l, i)
+            lent::row_from(&stored_left.columns, l, i)
         };
-        lefts = reach(lefts, &stored_left.words, l, far, rows);
-        rights = reach(rights, &stored_right.words, r, far, rows);
+        lefts = reach(lefts, &stored_left.columns, l, far, rows);
+        rights = reach(rights, &stored_right.columns, r, far, rows);
         chosen = slice::put(chosen, i, true);
         k += 1;
     }

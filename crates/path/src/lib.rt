@@ -14,7 +14,7 @@ ghost use Rattle.path.specs.Walks.{endsIn, stateOf, arrive, pass, along,
 use refusal::Outcome;
 use refusal::Refusal;
 use search::lent;
-use search::lent::Words;
+use search::lent::Stored;
 use slice::Slice;
 
 // The words of a column of a path matrix, and of a matrix with as many columns as there can be vertices.
@@ -201,11 +201,11 @@ fn path_check(
 }
 
 // The words of the table that a column of ends gives.
-fn ends_of(column: &[u8]) -> Words
-    ensures { λ r. ⌜ endsIn (r .words) ≡ loadedRow 1 (now (column .entry)) ⌝ }
+fn ends_of(column: &[u8]) -> Stored
+    ensures { λ r. ⌜ endsIn (r .columns) ≡ loadedRow 1 (now (column .entry)) ⌝ }
 {
     let loaded = table::load_bytes(column);
-    lent::words_of(loaded.table)
+    lent::columns_of(loaded.table)
 }
 
 // The walk over the rows that the claim marks, and cause 10.
@@ -217,7 +217,7 @@ fn claim_walk(n: u32, left: &[u8], right: &[u8], mark: &[u8], s: u32, own: &mut 
     let lefts = ends_of(left);
     let rights = ends_of(right);
     let rows = claim::claim_rows(mark);
-    let reached = walk(&lefts.words, &rights.words, rows, s, n, own);
+    let reached = walk(&lefts.columns, &rights.columns, rows, s, n, own);
     joined_check(n, reached)
 }
 

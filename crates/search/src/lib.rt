@@ -1,4 +1,4 @@
-// The searches MATCH, MIN, MAX and GREAT over the rows of a table that a slice selects. MATCH reads the columns from right to left, the others from left to right; the loops stand in `lent`, over the table's words.
+// The searches MATCH, MIN, MAX and GREAT over the rows of a table that a slice selects. MATCH reads the columns from right to left, the others from left to right; the loops stand in `lent`, over columns that are lent.
 // A search that ends in `_from` leaves out the first columns, as many as it is told, and is about the number that a row holds in the others: 0 where none is left.
 // That number is the row itself where the columns left out are Θ, `empty_columns` of them (the law `empty-row`), or where every row is below 2 ^ (32 - first) (the law `small-row`).
 use slice::Slice;
@@ -13,7 +13,7 @@ ghost use Rattle.search.specs.Blanks.{emptyColumns};
 ghost use Rattle.search.specs.Counts.{columnsRead};
 ghost use Rattle.search.specs.Steps.{kept, preferred, grown, extreme};
 
-pub mod lent; // lent.rt: a table's words, lent, and the searches over them
+pub mod lent; // lent.rt: a table's columns, lent, and the searches over them
 
 // The number of columns of a table.
 const WIDTH: usize = 32;
@@ -80,8 +80,8 @@ fn begin(first: usize, w: u32, x: Slice) -> Slice
 pub fn match_from(t: Table, first: usize, w: u32, x: Slice) -> Slice
     ensures { λ r. ⌜ component r ≡ equalTo (number (column t) first (width - first)) w (component x) ⌝ }
 {
-    let stored = lent::words_of(t);
-    lent::match_from(&stored.words, first, w, x)
+    let stored = lent::columns_of(t);
+    lent::match_from(&stored.columns, first, w, x)
 }
 
 // MATCH: the selected rows that equal w.
@@ -96,16 +96,16 @@ pub fn match_count(t: Table, w: u32, x: Slice) -> Matched
     ensures rows { λ r. ⌜ component (r .rows) ≡ equalTo (row t) w (component x) ⌝ }
     ensures read { λ r. ⌜ r .read ≡ columnsRead size (column t) w (component x) ⌝ }
 {
-    let stored = lent::words_of(t);
-    lent::match_right(&stored.words, 0, w, x)
+    let stored = lent::columns_of(t);
+    lent::match_right(&stored.columns, 0, w, x)
 }
 
 // GREAT that leaves out the first columns.
 pub fn great_from(t: Table, first: usize, w: u32, x: Slice) -> Slice
     ensures { λ r. ⌜ component r ≡ greaterThan (number (column t) first (width - first)) w (component x) ⌝ }
 {
-    let stored = lent::words_of(t);
-    lent::great_from(&stored.words, first, w, x)
+    let stored = lent::columns_of(t);
+    lent::great_from(&stored.columns, first, w, x)
 }
 
 // GREAT: the selected rows that are greater than w.
@@ -119,8 +119,8 @@ pub fn great(t: Table, w: u32, x: Slice) -> Slice
 fn extreme_from(t: Table, first: usize, high: bool, x: Slice) -> Slice
     ensures { λ r. ⌜ component r ≡ extreme high size (number (column t) first (width - first)) (component x) ⌝ }
 {
-    let stored = lent::words_of(t);
-    lent::extreme_from(&stored.words, first, high, x)
+    let stored = lent::columns_of(t);
+    lent::extreme_from(&stored.columns, first, high, x)
 }
 
 // MIN that leaves out the first columns.

@@ -44,7 +44,7 @@ struct Counted {
     value: u32,
 }
 
-pub fn broken(at: usize, found: Found) -> Step
+pub(crate) fn broken(at: usize, found: Found) -> Step
     ensures { λ r. ⌜ (r .broken ≡ true) × (r .at ≡ at) × (r .found ≡ found) ⌝ }
 {
     Step {
@@ -248,7 +248,7 @@ fn edge_lines(
 }
 
 // The lines of Graph: Nodes and a count, Edges and a count, lines of E, END.
-pub fn graph_lines(
+pub(crate) fn graph_lines(
     text: &[u8],
     at: usize,
     found: Found,
@@ -323,7 +323,7 @@ fn skip_word(text: &[u8], at: usize, found: Found) -> Line
 }
 
 // The lines of a section that is skipped, up to a line of END alone; the line of the name has ended.
-pub fn skip_lines(text: &[u8], at: usize, found: Found) -> Step
+pub(crate) fn skip_lines(text: &[u8], at: usize, found: Found) -> Step
     requires { ⌜ (at ≤ length (now text)) × (found .rows ≤ at) ⌝ }
     ensures { λ x. ⌜ ((r : Read) → readOn (now (text .entry)) skipping r at ≡ resumed (now (text .entry)) sections x r) ⌝ }
     ensures further { λ x. ⌜ (at ≤ x .at) × (x .at ≤ length (now (text .entry))) × (x .found ≡ found) ⌝ }
@@ -348,7 +348,7 @@ pub fn skip_lines(text: &[u8], at: usize, found: Found) -> Step
 }
 
 // The rest of the first line, which is free: the place of its end.
-pub fn skip_heading(text: &[u8], at: usize) -> usize
+pub(crate) fn skip_heading(text: &[u8], at: usize) -> usize
     requires { ⌜ at ≤ length (now text) ⌝ }
     ensures { λ x. ⌜ ((r : Read) → readOn (now (text .entry)) heading r at ≡ readOn (now (text .entry)) sections r x) ⌝ }
     ensures further { λ x. ⌜ (at ≤ x) × (x ≤ length (now (text .entry))) ⌝ }

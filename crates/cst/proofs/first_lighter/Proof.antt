@@ -15,7 +15,7 @@ use Rattle.cst.proofs.first_lighter.Tie as tie
 
 abbrev Inv-loop : tie.InvT-loop
 Inv-loop matrix left right weight first stored z₀ z =
-    (rowsAfter (stored .words) first ≡ loadedRow 4 weight)
+    (rowsAfter (stored .columns) first ≡ loadedRow 4 weight)
     × (uppermost size (both (component z) (someHeavier matrix left right weight))
     ≡ uppermost size (both (component z₀) (someHeavier matrix left right weight)))
 
@@ -23,7 +23,7 @@ abbrev μ-loop : tie.MeasureT-loop
 μ-loop matrix left right weight first stored z₀ z = count size (component z)
 
 loop-holds : tie.Need-loop-holds Inv-loop μ-loop
-loop-holds c = (rw (c .words-of .ensures, c .before .empty-columns .ensures) (empty-row _ ∙ c .before .before .before .load-quads .ensures .1), refl)
+loop-holds c = (rw (c .columns-of .ensures, c .before .empty-columns .ensures) (empty-row _ ∙ c .before .before .before .load-quads .ensures .1), refl)
 
 exchange-of-requires : tie.Need-exchange-of-requires Inv-loop μ-loop
 unfolding someHeavier firstHeavier

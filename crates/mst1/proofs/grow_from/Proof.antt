@@ -14,7 +14,7 @@ use Rattle.mst1.proofs.grow_from.Tie as tie
 
 abbrev Inv-loop : tie.InvT-loop
 Inv-loop rows n l r w stored-left stored-right stored-weight lefts₀ rights₀ chosen₀ k₀ lefts rights chosen k =
-    (k ≤ n) × Reached (graphBy (rowIn (stored-left .words)) (rowIn (stored-right .words)) rows n) (rowIn (stored-weight .words)) k (component lefts) (component rights) (component chosen) × (n < 2 ^ 64)
+    (k ≤ n) × Reached (graphBy (rowIn (stored-left .columns)) (rowIn (stored-right .columns)) rows n) (rowIn (stored-weight .columns)) k (component lefts) (component rights) (component chosen) × (n < 2 ^ 64)
 
 abbrev μ-loop : tie.MeasureT-loop
 μ-loop rows n l r w stored-left stored-right stored-weight lefts₀ rights₀ chosen₀ k₀ lefts rights chosen k = n - k
@@ -28,14 +28,14 @@ empty-columns-requires-2 c κs = search needs
 empty-columns-requires-3 : tie.Need-empty-columns-requires-3 Inv-loop μ-loop
 empty-columns-requires-3 c κs = search needs
 
-words-of-requires : tie.Need-words-of-requires Inv-loop μ-loop
-words-of-requires c κs = search needs
+columns-of-requires : tie.Need-columns-of-requires Inv-loop μ-loop
+columns-of-requires c κs = search needs
 
-words-of-requires-2 : tie.Need-words-of-requires-2 Inv-loop μ-loop
-words-of-requires-2 c κs = search needs
+columns-of-requires-2 : tie.Need-columns-of-requires-2 Inv-loop μ-loop
+columns-of-requires-2 c κs = search needs
 
-words-of-requires-3 : tie.Need-words-of-requires-3 Inv-loop μ-loop
-words-of-requires-3 c κs = search needs
+columns-of-requires-3 : tie.Need-columns-of-requires-3 Inv-loop μ-loop
+columns-of-requires-3 c κs = search needs
 
 loop-holds : tie.Need-loop-holds Inv-loop μ-loop
 loop-holds c =
@@ -43,7 +43,7 @@ loop-holds c =
     let p = b .before .before .before .before .before .before .pre in
     let a = b .before .before .before .before .before .before .args in (
       p .0,
-      rw (row-stored (a .left) _ (b .before .before .words-of .ensures), row-stored (a .right) _ (b .before .words-of2 .ensures), row-stored (a .weight) _ (b .words-of3 .ensures)) (p .1),
+      rw (row-stored (a .left) _ (b .before .before .columns-of .ensures), row-stored (a .right) _ (b .before .columns-of2 .ensures), row-stored (a .weight) _ (b .columns-of3 .ensures)) (p .1),
       omega arith,
     )
 
@@ -62,9 +62,9 @@ returns c =
     let s = x .before .before .before .before in
     let b = s .before .before .before .before .before in
     let a = b .before .before .before .before .before .before .args in
-    let weights = filled-row (a .weight) _ (b .words-of3 .ensures) (b .before .before .before .empty-columns3 .ensures) in
+    let weights = filled-row (a .weight) _ (b .columns-of3 .ensures) (b .before .before .before .empty-columns3 .ensures) in
     let none-left = cheapest-row _ _ _ _ _ weights (x .xor .ensures) (c .before .before .cheapest .ensures) ∙ c .before .if1 .taken in
-    rw (← row-stored (a .left) _ (b .before .before .words-of .ensures), ← row-stored (a .right) _ (b .before .words-of2 .ensures), ← row-stored (a .weight) _ (b .words-of3 .ensures))
+    rw (← row-stored (a .left) _ (b .before .before .columns-of .ensures), ← row-stored (a .right) _ (b .before .columns-of2 .ensures), ← row-stored (a .weight) _ (b .columns-of3 .ensures))
     (grows-none _ _ (next-none _ _ _ _ _ _ (s .before .loop .inv .1) none-left (s .loop-test .taken)) (c .nothing .ensures .0) (c .nothing .ensures .1))
 
 get-requires : tie.Need-get-requires Inv-loop μ-loop
@@ -99,9 +99,9 @@ loop-again c =
     let s = x .before .before .before .before in
     let b = s .before .before .before .before .before in
     let a = b .before .before .before .before .before .before .args in
-    let weights = filled-row (a .weight) _ (b .words-of3 .ensures) (b .before .before .before .empty-columns3 .ensures) in
-    let rights = filled-row (a .right) _ (b .before .words-of2 .ensures) (b .before .before .before .before .empty-columns2 .ensures) in
-    let lefts = filled-row (a .left) _ (b .before .before .words-of .ensures) (b .before .before .before .before .before .empty-columns .ensures) in (
+    let weights = filled-row (a .weight) _ (b .columns-of3 .ensures) (b .before .before .before .empty-columns3 .ensures) in
+    let rights = filled-row (a .right) _ (b .before .columns-of2 .ensures) (b .before .before .before .before .empty-columns2 .ensures) in
+    let lefts = filled-row (a .left) _ (b .before .before .columns-of .ensures) (b .before .before .before .before .before .empty-columns .ensures) in (
       omega (arith, s .loop-test .taken),
       extend-reached _ _ _ _ _ (s .before .loop .inv .1)
           (cheapest-row _ _ _ _ _ weights (x .xor .ensures) (j .before .before .before .cheapest .ensures))
@@ -122,7 +122,7 @@ returns-2 : tie.Need-returns-2 Inv-loop μ-loop
 returns-2 c =
     let b = c .before .before .before .before .before in
     let a = b .before .before .before .before .before .before .args in
-    rw (← row-stored (a .left) _ (b .before .before .words-of .ensures), ← row-stored (a .right) _ (b .before .words-of2 .ensures), ← row-stored (a .weight) _ (b .words-of3 .ensures))
+    rw (← row-stored (a .left) _ (b .before .before .columns-of .ensures), ← row-stored (a .right) _ (b .before .columns-of2 .ensures), ← row-stored (a .weight) _ (b .columns-of3 .ensures))
     (grows-whole _ _ (c .before .loop .inv .1) (omega arith))
 
 pub grow-from-spec : {M : Type 1} → statement M
@@ -134,9 +134,9 @@ grow-from-spec =
     empty-columns-requires
     empty-columns-requires-2
     empty-columns-requires-3
-    words-of-requires
-    words-of-requires-2
-    words-of-requires-3
+    columns-of-requires
+    columns-of-requires-2
+    columns-of-requires-3
     loop-holds
     xor-requires
     cheapest-requires

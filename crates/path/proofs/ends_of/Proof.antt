@@ -12,7 +12,7 @@ returns : tie.Need-returns
 returns c =
     let l = c .before .before .before .args .column .now in
     let loaded = c .before .load-bytes .ensures .1 in
-    rw (c .words-of .ensures) (small-row _ 24 (omega arith) (λ i. rw loaded (loaded-below l (λ k. c .before .before .shared-slice-known .given k .fits) 1 i)) ∙ loaded)
+    rw (c .columns-of .ensures) (small-row _ 24 (omega arith) (λ i. rw loaded (loaded-below l (λ k. c .before .before .shared-slice-known .given k .fits) 1 i)) ∙ loaded)
 
 pub ends-of-spec : {M : Type 1} → statement M
 ends-of-spec = tie.close (tie.spec (λ c κs. search needs) (λ c κs. search needs) returns)

@@ -11,7 +11,7 @@ use Rattle.search.proofs.match_count.Tie as tie
 returns : tie.Need-returns
 unfolding columnsRead
 returns c =
-    let e = c .before .before .before .before .words-of .ensures in
+    let e = c .before .before .before .before .columns-of .ensures in
     (c .match-right .ensures .0 ∙ rw e (right-row _ _ _ (omega arith)), c .match-right .ensures .1 ∙ rw e)
 
 pub match-count-spec : {M : Type 1} → statement M

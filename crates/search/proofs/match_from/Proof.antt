@@ -5,7 +5,7 @@ use Rattle.search.proofs.match_from.Statement.{statement}
 use Rattle.search.proofs.match_from.Tie as tie
 
 returns : tie.Need-returns
-returns c = rw (← c .before .before .before .before .words-of .ensures) (c .match-from .ensures)
+returns c = rw (← c .before .before .before .before .columns-of .ensures) (c .match-from .ensures)
 
 pub match-from-spec : {M : Type 1} → statement M
 match-from-spec = tie.close (tie.spec (λ c κs. search needs) (λ c κs. search needs) returns)

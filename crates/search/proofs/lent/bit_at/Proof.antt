@@ -12,11 +12,11 @@ use Rattle.search.proofs.lent.bit_at.Tie as tie
 
 returns : tie.Need-returns
 unfolding empty
-returns c = let a = c .before .args in ap (λ f. f (a .i)) (sym (matrixColumn-outside _ _ (hasColumn-below (a .words .now) (a .j) (omega arith))))
+returns c = let a = c .before .args in ap (λ f. f (a .i)) (sym (matrixColumn-outside _ _ (hasColumn-below (a .columns .now) (a .j) (omega arith))))
 
 returns-2 : tie.Need-returns-2
 unfolding empty
-returns-2 c = let a = c .before .before .args in ap (λ f. f (a .i)) (sym (matrixColumn-outside _ _ (hasColumn-above (a .words .now) (a .j) (omega arith))))
+returns-2 c = let a = c .before .before .args in ap (λ f. f (a .i)) (sym (matrixColumn-outside _ _ (hasColumn-above (a .columns .now) (a .j) (omega arith))))
 
 returns-3 : tie.Need-returns-3
 returns-3 c = let a = c .before .before .before .args in sym (bit-outside _ _ _ (upTo-below size (a .i) (omega arith)))
@@ -28,7 +28,7 @@ returns-5 : tie.Need-returns-5
 unfolding bit
 returns-5 c =
     let a = c .before .before .before .before .before .args in
-    sym (bit-inside (a .words .now) (a .j) (a .i) (omega arith) (omega arith) (omega arith) (omega arith))
+    sym (bit-inside (a .columns .now) (a .j) (a .i) (omega arith) (omega arith) (omega arith) (omega arith))
 
 pub bit-at-spec : {M : Type 1} → statement M
 bit-at-spec =

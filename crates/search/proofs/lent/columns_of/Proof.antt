@@ -1,4 +1,4 @@
--- `search::lent::words_of` meets its contract. The loop's invariant: the words have the first j columns. The measure is what is left of the columns.
+-- `search::lent::columns_of` meets its contract. The loop's invariant: the words have the first j columns. The measure is what is left of the columns.
 -- Assumes nothing.
 use Prim.Native.Nat.{_-_}
 use native.Mathlib.Numerals.{add-one}
@@ -8,8 +8,8 @@ use borrow.Author.Needs.{needs}
 use Rattle.slice.proofs.Stores.{length-unmap}
 use Rattle.search.proofs.Loops.{column-read}
 use Rattle.search.proofs.Stores.{Stored, stored-none, stored-more, stored-all}
-use Rattle.search.proofs.lent.words_of.Statement.{statement}
-use Rattle.search.proofs.lent.words_of.Tie as tie
+use Rattle.search.proofs.lent.columns_of.Statement.{statement}
+use Rattle.search.proofs.lent.columns_of.Tie as tie
 
 abbrev Inv-loop : tie.InvT-loop
 Inv-loop t words₀ j₀ words j = Stored t words j
@@ -26,8 +26,8 @@ loop-again c =
 returns : tie.Need-returns Inv-loop μ-loop
 returns c = stored-all _ _ _ (omega arith) (search (needs, length-unmap)) (c .before .loop .inv)
 
-pub words-of-spec : {M : Type 1} → statement M
-words-of-spec =
+pub columns-of-spec : {M : Type 1} → statement M
+columns-of-spec =
     tie.close
     (tie.spec
     Inv-loop
