@@ -1,6 +1,6 @@
 // The sixteen bytes of an answer, written in one place for every door.
 ghost use mathlib.Core.Path.{_≡_};
-ghost use Rattle.star.specs.Door.{fieldBytes, written};
+ghost use Rattle.star.specs.Door.{fieldBytes, answerAfter};
 ghost use Rattle.answer.specs.Records.{fieldsOf};
 
 // What bytes 6 and 7 hold.
@@ -58,7 +58,7 @@ pub fn bytes_of(x: Record) -> [u8; 16]
 
 // Writes the sixteen bytes where the lent answer has sixteen; else nothing.
 pub fn write_answer(answer: &mut [u8], x: Record)
-    ensures { λ _. ⌜ now (answer .exit) ≡ written (now (answer .entry)) (fieldsOf x) ⌝ }
+    ensures { λ _. ⌜ now (answer .exit) ≡ answerAfter (now (answer .entry)) (fieldsOf x) ⌝ }
 {
     if answer.len() != 16 {
         return;

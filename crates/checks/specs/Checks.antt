@@ -9,12 +9,8 @@ use lib.ListN.{length}
 use Rattle.refusal.specs.declared.Refusal.{Refusal}
 use Rattle.rowset.specs.Bytes.{inRow}
 use Rattle.rowset.specs.Sets.{uppermost, count}
-use Rattle.star.specs.Call.{Call, marked}
+use Rattle.star.specs.Call.{marked}
 use Rattle.star.specs.Refusals.{maxVertices, maxRows, maxWeight, cause, causeAt}
-
--- the call with this n and these columns
-abbrev pub given : ℕ → List ℕ → List ℕ → List ℕ → List ℕ → Call
-given n left right weight mark = record { n = n; left = left; right = right; weight = weight; mark = mark }
 
 -- the number of the first of causes 1 and 2 that applies to n and the number m of rows, 0 for none
 unfoldable pub sizeFault : (n m : ℕ) → ℕ

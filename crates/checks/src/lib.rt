@@ -6,9 +6,9 @@ ghost use lib.ListN.{length, getD};
 ghost use Rattle.rowset.specs.Bytes.{inRow};
 ghost use Rattle.rowset.specs.Sets.{uppermost, count};
 ghost use Rattle.refusal.specs.Outcomes.{refusalOf};
-ghost use Rattle.star.specs.Call.{marked};
+ghost use Rattle.star.specs.Call.{marked, callOf};
 ghost use Rattle.star.specs.Refusals.{badVertices, tooManyRows, tableCauses, refusal};
-ghost use Rattle.checks.specs.Checks.{given, sizeFault, shapeFault, edgeFault, rowFault, faulty, badMark, claimCause, countCause};
+ghost use Rattle.checks.specs.Checks.{sizeFault, shapeFault, edgeFault, rowFault, faulty, badMark, claimCause, countCause};
 use refusal::Outcome;
 use refusal::Refusal;
 
@@ -138,7 +138,7 @@ fn first_bad_row(n: u32, left: &[u8], right: &[u8], weight: &[u8]) -> usize
 
 // Causes 1 to 5.
 pub fn table_check(n: u32, left: &[u8], right: &[u8], weight: &[u8], mark: &[u8]) -> Outcome
-    ensures { λ r. ⌜ refusalOf r ≡ refusal (tableCauses (given n (now (left .entry)) (now (right .entry)) (now (weight .entry)) (now (mark .entry)))) ⌝ }
+    ensures { λ r. ⌜ refusalOf r ≡ refusal (tableCauses (callOf n (now (left .entry)) (now (right .entry)) (now (weight .entry)) (now (mark .entry)))) ⌝ }
 {
     let shape = shape_fault(n, left.len(), right.len(), weight.len(), mark.len());
     if shape != 0 {

@@ -32,7 +32,7 @@ use Rattle.claim.proofs.Laws.{claimRows-marked, claimRows-sum, rows-fit}
 use Rattle.claim.specs.Claims.{claimRows}
 use Rattle.cst.proofs.Refused.{path-refusal}
 use Rattle.cst.proofs.Sets.{stopped, exhausted}
-use Rattle.cst.specs.Paths.{heavierIn, someHeavier, firstHeavier, exchangeOf, firstLighter, Walked}
+use Rattle.cst.specs.steps.Paths.{heavierIn, someHeavier, firstHeavier, exchangeOf, firstLighter, Walked}
 use Rattle.cst.specs.declared.Exchange.{Exchange}
 
 -- ── Any matrix and any columns ──

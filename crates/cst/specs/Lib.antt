@@ -1,2 +1,2 @@
-pub mod Paths
 pub mod Verdicts
+pub mod steps

@@ -4,8 +4,8 @@ ghost use Prim.Native.Nat.{ℕ, _≤_};
 ghost use Rattle.rowset.specs.Bytes.{inRow};
 ghost use Rattle.slice.specs.Slices.{size, component};
 ghost use Rattle.star.specs.Cst.{cst};
-ghost use Rattle.checks.specs.Checks.{given};
-ghost use Rattle.cst.specs.Paths.{rowsAfter, heavierIn, exchangeOf, firstLighter, Walked};
+ghost use Rattle.star.specs.Call.{callOf};
+ghost use Rattle.cst.specs.steps.Paths.{rowsAfter, heavierIn, exchangeOf, firstLighter, Walked};
 ghost use Rattle.cst.specs.Verdicts.{answerOf};
 use checks::row_byte;
 use checks::row_weight;
@@ -88,7 +88,7 @@ fn first_lighter(matrix: &[u64], left: &[u8], right: &[u8], weight: &[u8], rows:
 
 // The verdict on a claim that is a spanning tree, by its path matrix from vertex 1.
 fn judge(matrix: &[u64], left: &[u8], right: &[u8], weight: &[u8], mark: &[u8]) -> Verdict
-    ensures { λ r. ⌜ ((n : ℕ) → Walked (given n (now (left .entry)) (now (right .entry)) (now (weight .entry)) (now (mark .entry))) (now (matrix .entry)) → answerOf r ≡ cst (given n (now (left .entry)) (now (right .entry)) (now (weight .entry)) (now (mark .entry)))) ⌝ }
+    ensures { λ r. ⌜ ((n : ℕ) → Walked (callOf n (now (left .entry)) (now (right .entry)) (now (weight .entry)) (now (mark .entry))) (now (matrix .entry)) → answerOf r ≡ cst (callOf n (now (left .entry)) (now (right .entry)) (now (weight .entry)) (now (mark .entry)))) ⌝ }
 {
     let marked = claim::claim_rows(mark);
     let unmarked = difference::without(claim::rows_to(left.len()), marked);
@@ -101,7 +101,7 @@ fn judge(matrix: &[u64], left: &[u8], right: &[u8], weight: &[u8], mark: &[u8]) 
 
 // CST: the verdict on the claim. Where MatrixPath refuses, its refusal is handed on unread.
 pub fn cst(n: u32, left: &[u8], right: &[u8], weight: &[u8], mark: &[u8]) -> Verdict
-    ensures { λ r. ⌜ answerOf r ≡ cst (given n (now (left .entry)) (now (right .entry)) (now (weight .entry)) (now (mark .entry))) ⌝ }
+    ensures { λ r. ⌜ answerOf r ≡ cst (callOf n (now (left .entry)) (now (right .entry)) (now (weight .entry)) (now (mark .entry))) ⌝ }
 {
     let mut own = [0u64; path::ALL_WORDS];
     let answer = path::matrix_path(n, left, right, weight, mark, 1, &mut own);

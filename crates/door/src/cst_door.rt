@@ -4,7 +4,7 @@ use answer::write_answer;
 use cst::Verdict;
 ghost use mathlib.Core.Path.{_≡_};
 ghost use Rattle.answer.specs.Records.{fieldsOf};
-ghost use Rattle.checks.specs.Checks.{given};
+ghost use Rattle.star.specs.Call.{callOf};
 ghost use Rattle.cst.specs.Verdicts.{answerOf};
 ghost use Rattle.star.specs.Door.{fields, doorReturns, cstDoor};
 
@@ -48,7 +48,7 @@ pub extern "C" fn star_cst(
     answer: &mut [u8],
 ) -> u32
     ensures returned { λ r. ⌜ r ≡ doorReturns (now (answer .entry)) ⌝ }
-    ensures answered { λ r. ⌜ now (answer .exit) ≡ cstDoor (given n (now (left .entry)) (now (right .entry)) (now (weight .entry)) (now (mark .entry))) (now (answer .entry)) ⌝ }
+    ensures answered { λ r. ⌜ now (answer .exit) ≡ cstDoor (callOf n (now (left .entry)) (now (right .entry)) (now (weight .entry)) (now (mark .entry))) (now (answer .entry)) ⌝ }
 {
     if answer.len() != 16 {
         return 0;

@@ -5,12 +5,12 @@ use stp::Imported;
 ghost use mathlib.Core.Path.{_≡_};
 ghost use Rattle.answer.specs.Records.{fieldsOf};
 ghost use Rattle.star.specs.Door.{doorReturns};
-ghost use Rattle.steinlib.specs.Door.{fields, importDoor, leftDoor, rightDoor, weightDoor};
+ghost use Rattle.steinlib.specs.Door.{importFields, importDoor, leftDoor, rightDoor, weightDoor};
 ghost use Rattle.stp.specs.Answers.{answerOf};
 
 // The fields of what was imported: n and m stand where a verdict has its rows, and the refusal's place where it has its weight.
 pub fn of_imported(x: Imported) -> Record
-    ensures { λ r. ⌜ fieldsOf r ≡ fields (answerOf x) ⌝ }
+    ensures { λ r. ⌜ fieldsOf r ≡ importFields (answerOf x) ⌝ }
 {
     match x {
         Imported::Taken(s) => Record {

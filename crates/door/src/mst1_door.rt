@@ -4,7 +4,7 @@ use answer::write_answer;
 use mst1::Built;
 ghost use mathlib.Core.Path.{_≡_};
 ghost use Rattle.answer.specs.Records.{fieldsOf};
-ghost use Rattle.checks.specs.Checks.{given};
+ghost use Rattle.star.specs.Call.{callOf};
 ghost use Rattle.mst1.specs.Answers.{answerOf};
 ghost use Rattle.star.specs.Door.{fields, doorReturns, mst1Door, mst1DoorMarks};
 
@@ -41,8 +41,8 @@ pub extern "C" fn star_mst1(
     answer: &mut [u8],
 ) -> u32
     ensures returned { λ r. ⌜ r ≡ doorReturns (now (answer .entry)) ⌝ }
-    ensures answered { λ r. ⌜ now (answer .exit) ≡ mst1Door (given n (now (left .entry)) (now (right .entry)) (now (weight .entry)) (now (mark .entry))) (now (answer .entry)) ⌝ }
-    ensures marks { λ r. ⌜ now (mark .exit) ≡ mst1DoorMarks (given n (now (left .entry)) (now (right .entry)) (now (weight .entry)) (now (mark .entry))) (now (answer .entry)) ⌝ }
+    ensures answered { λ r. ⌜ now (answer .exit) ≡ mst1Door (callOf n (now (left .entry)) (now (right .entry)) (now (weight .entry)) (now (mark .entry))) (now (answer .entry)) ⌝ }
+    ensures marks { λ r. ⌜ now (mark .exit) ≡ mst1DoorMarks (callOf n (now (left .entry)) (now (right .entry)) (now (weight .entry)) (now (mark .entry))) (now (answer .entry)) ⌝ }
 {
     if answer.len() != 16 {
         return 0;

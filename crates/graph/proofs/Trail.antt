@@ -13,7 +13,7 @@ use Rattle.rowset.proofs.Members.{put-all}
 use Rattle.graph.proofs.Path.{path-self, path-row}
 use Rattle.graph.proofs.Reach.{Joins, rightward, leftward, joins-vertex, FarEnd, crossing-far-end, leaving, leaving-row, step-none, step-some, grow-keeps, grow-stops, grow-bound}
 use Rattle.graph.specs.Graph.{Graph, Sound, Inside, crosses, step, grow, joined}
-use Rattle.graph.specs.Trail.{Trail, near, far, extend, trail}
+use Rattle.graph.specs.steps.Trail.{Trail, near, far, extend, trail}
 use Rattle.graph.specs.Tree.{SpanningTree, onPath}
 use Rattle.rowset.specs.Sets.{empty, both, put, uppermost}
 

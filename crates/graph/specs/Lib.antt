@@ -2,5 +2,5 @@ pub mod Graph
 pub mod Tree
 pub mod Least
 pub mod Builder
-pub mod Trail
 pub mod Meaning
+pub mod steps

@@ -14,8 +14,8 @@ use lib.Arith.{lt-of-le-ne}
 use lib.Seq.{ext-getD, take-add, take-nil, take-append-le, take-at, drop-at, drop-drop, take-take, getD-take, getD-drop, length-take-le, paste, drop-paste, length-paste, take-all}
 use borrow.Author.Tests.{le-leb, lt-leb, leb-true, eq-eqb, ne-eqb}
 use Rattle.rowset.specs.Sets.{empty, upTo, both}
-use Rattle.rowset.specs.Words.{columnWords, wordAt, wordsFrom, matrixWords}
-use Rattle.slice.specs.Slices.{size, bit, component, Stored}
+use Rattle.rowset.specs.Words.{columnWords, wordAt, columnWordsFrom, matrixWords}
+use Rattle.slice.specs.Slices.{size, bit, component, SixteenWords}
 use Rattle.matrix.specs.Matrix.{hasColumn, matrixColumn, columnOf, withColumn}
 use Rattle.slice.specs.declared.Slice.{Slice}
 use Rattle.slice.proofs.Bits.{bit-zero, bit-suc, same-bits}
@@ -56,13 +56,13 @@ wordAt-bound p i zero = omega arith
 wordAt-bound p i (suc k) = omega (arith, digit-small (p (suc i)), wordAt-bound p (suc i) k, pow-suc 2 k)
 
 -- the number of words, and each word
-pub length-wordsFrom : (p : ℕ → Bool) (q k : ℕ) → length (wordsFrom p q k) ≡ k
-unfolding wordsFrom
+pub length-wordsFrom : (p : ℕ → Bool) (q k : ℕ) → length (columnWordsFrom p q k) ≡ k
+unfolding columnWordsFrom
 length-wordsFrom p q zero = refl
 length-wordsFrom p q (suc k) = ap suc (length-wordsFrom p (suc q) k)
 
-pub getD-wordsFrom : (p : ℕ → Bool) (q k i : ℕ) → i < k → getD (wordsFrom p q k) i 0 ≡ wordAt p (64 * (q + i)) 64
-unfolding wordsFrom
+pub getD-wordsFrom : (p : ℕ → Bool) (q k i : ℕ) → i < k → getD (columnWordsFrom p q k) i 0 ≡ wordAt p (64 * (q + i)) 64
+unfolding columnWordsFrom
 getD-wordsFrom p q zero i h = absurd (omega arith)
 getD-wordsFrom p q (suc k) zero h = ap (λ (n : ℕ). wordAt p n 64) (omega arith)
 getD-wordsFrom p q (suc k) (suc i) h = getD-wordsFrom p (suc q) k i (omega arith) ∙ ap (λ (n : ℕ). wordAt p n 64) (omega arith)
@@ -71,24 +71,24 @@ pub length-matrixWords : (C : ℕ → ℕ → Bool) (n : ℕ) → length (matrix
 unfolding matrixWords
 length-matrixWords C zero = refl
 length-matrixWords C (suc n) =
-    omega (arith, length-append (matrixWords C n) (wordsFrom (C (suc n)) 0 columnWords), length-matrixWords C n, length-wordsFrom (C (suc n)) 0 columnWords)
+    omega (arith, length-append (matrixWords C n) (columnWordsFrom (C (suc n)) 0 columnWords), length-matrixWords C n, length-wordsFrom (C (suc n)) 0 columnWords)
 
 -- the words of a slice are those of its components
-pub slice-words : (x : Slice) → Stored x → x .words ≡ wordsFrom (component x) 0 columnWords
-slice-words x s = ext-getD 0 (x .words) (wordsFrom (component x) 0 columnWords) (s .sixteen ∙ sym (length-wordsFrom (component x) 0 columnWords)) same
+pub slice-words : (x : Slice) → SixteenWords x → x .words ≡ columnWordsFrom (component x) 0 columnWords
+slice-words x s = ext-getD 0 (x .words) (columnWordsFrom (component x) 0 columnWords) (s .sixteen ∙ sym (length-wordsFrom (component x) 0 columnWords)) same
   where
-    same : (k : ℕ) → k < length (x .words) → getD (x .words) k 0 ≡ getD (wordsFrom (component x) 0 columnWords) k 0
+    same : (k : ℕ) → k < length (x .words) → getD (x .words) k 0 ≡ getD (columnWordsFrom (component x) 0 columnWords) k 0
     same k h =
         same-bits 64 (getD (x .words) k 0) (wordAt (component x) (64 * (0 + k)) 64) (s .fits k (omega arith)) (wordAt-bound (component x) (64 * (0 + k)) 64)
         (λ b l. sym (component-at x k b (omega arith) l) ∙ ap (component x) (omega arith) ∙ sym (wordAt-bit (component x) (64 * (0 + k)) 64 b l))
         ∙ sym (getD-wordsFrom (component x) 0 columnWords k (omega arith))
 
 -- a slice whose words are those of p has the components of p that lie in 1 to 1,024
-pub component-words : (p : ℕ → Bool) → component (record { words = wordsFrom p 0 columnWords }) ≡ both (upTo size) p
+pub component-words : (p : ℕ → Bool) → component (record { words = columnWordsFrom p 0 columnWords }) ≡ both (upTo size) p
 unfolding both
-component-words p = component-ext (record { words = wordsFrom p 0 columnWords }) (both (upTo size) p) (λ i e. ap (λ (b : Bool). b && p i) e) inside
+component-words p = component-ext (record { words = columnWordsFrom p 0 columnWords }) (both (upTo size) p) (λ i e. ap (λ (b : Bool). b && p i) e) inside
   where
-    inside : (k j : ℕ) → k < 16 → j < 64 → bit (getD (wordsFrom p 0 columnWords) k 0) j ≡ (upTo size (64 * k + j + 1) && p (64 * k + j + 1))
+    inside : (k j : ℕ) → k < 16 → j < 64 → bit (getD (columnWordsFrom p 0 columnWords) k 0) j ≡ (upTo size (64 * k + j + 1) && p (64 * k + j + 1))
     inside k j hk hj =
         let at : 64 * (0 + k) + j + 1 ≡ 64 * k + j + 1 = omega arith in
         ap (λ (w : ℕ). bit w j) (getD-wordsFrom p 0 columnWords k hk)
@@ -138,28 +138,28 @@ module _ (l : List ℕ) (j : ℕ) (low : 1 ≤ j) (high : columnWords * j ≤ le
       go i false e = refl
 
   -- a column whose words are those of p holds p
-  pub matrixColumn-words : (p : ℕ → Bool) → columnOf l j ≡ wordsFrom p 0 columnWords → matrixColumn l j ≡ both (upTo size) p
+  pub matrixColumn-words : (p : ℕ → Bool) → columnOf l j ≡ columnWordsFrom p 0 columnWords → matrixColumn l j ≡ both (upTo size) p
   matrixColumn-words p e = matrixColumn-inside ∙ ap (λ (ws : List ℕ). component (record { words = ws })) e ∙ component-words p
 
   -- writing a column is a copy of its words
-  pub withColumn-paste : (p : ℕ → Bool) → withColumn l j p ≡ paste l (columnWords * (j - 1)) (wordsFrom p 0 columnWords) columnWords
+  pub withColumn-paste : (p : ℕ → Bool) → withColumn l j p ≡ paste l (columnWords * (j - 1)) (columnWordsFrom p 0 columnWords) columnWords
   unfolding withColumn
   withColumn-paste p =
       let end : columnWords * j ≡ columnWords * (j - 1) + columnWords = omega arith in
       rw (hasColumn-inside l j low high)
-      (ap₂ (λ (ws : List ℕ) (n : ℕ). take (columnWords * (j - 1)) l ++ ws ++ drop n l) (sym (take-all columnWords (wordsFrom p 0 columnWords) (omega (arith, length-wordsFrom p 0 columnWords)))) end)
+      (ap₂ (λ (ws : List ℕ) (n : ℕ). take (columnWords * (j - 1)) l ++ ws ++ drop n l) (sym (take-all columnWords (columnWordsFrom p 0 columnWords) (omega (arith, length-wordsFrom p 0 columnWords)))) end)
 
   -- the words of the column written
-  pub columnOf-same : (p : ℕ → Bool) → columnOf (withColumn l j p) j ≡ wordsFrom p 0 columnWords
+  pub columnOf-same : (p : ℕ → Bool) → columnOf (withColumn l j p) j ≡ columnWordsFrom p 0 columnWords
   unfolding columnOf withColumn
   columnOf-same p =
       rw (hasColumn-inside l j low high, append-assoc, drop-at _ _ (columnWords * (j - 1)) (length-take-le (columnWords * (j - 1)) l (omega arith)))
-      (take-at (wordsFrom p 0 columnWords) (drop (columnWords * j) l) columnWords (length-wordsFrom p 0 columnWords))
+      (take-at (columnWordsFrom p 0 columnWords) (drop (columnWords * j) l) columnWords (length-wordsFrom p 0 columnWords))
 
 module _ (l : List ℕ) (j : ℕ) (p : ℕ → Bool) where
   -- what holds of the words as they are, and of those with the column stored where it is inside, holds after a column is written
   withColumn-cases : (P : List ℕ → Type 0) → P l
-      → (1 ≤ j → columnWords * j ≤ length l → P (paste l (columnWords * (j - 1)) (wordsFrom p 0 columnWords) columnWords)) → P (withColumn l j p)
+      → (1 ≤ j → columnWords * j ≤ length l → P (paste l (columnWords * (j - 1)) (columnWordsFrom p 0 columnWords) columnWords)) → P (withColumn l j p)
   withColumn-cases P kept stored = go (hasColumn l j) refl
     where
       go : (b : Bool) → hasColumn l j ≡ b → P (withColumn l j p)
@@ -173,7 +173,7 @@ module _ (l : List ℕ) (j : ℕ) (p : ℕ → Bool) where
   length-withColumn =
       withColumn-cases (λ m. length m ≡ length l) refl
       (λ low high.
-      length-paste l (columnWords * (j - 1)) (wordsFrom p 0 columnWords) columnWords (omega arith) (omega (arith, length-wordsFrom p 0 columnWords)))
+      length-paste l (columnWords * (j - 1)) (columnWordsFrom p 0 columnWords) columnWords (omega arith) (omega (arith, length-wordsFrom p 0 columnWords)))
 
   pub take-withColumn : (n : ℕ) → n < j → take (columnWords * n) (withColumn l j p) ≡ take (columnWords * n) l
   take-withColumn n h =
@@ -191,7 +191,7 @@ module _ (l : List ℕ) (j : ℕ) (p : ℕ → Bool) where
       rw from
       (sym (drop-drop (columnWords * n - end) end _)
       ∙ ap (drop (columnWords * n - end))
-      (drop-paste l (columnWords * (j - 1)) (wordsFrom p 0 columnWords) columnWords (omega arith) (omega (arith, length-wordsFrom p 0 columnWords)))
+      (drop-paste l (columnWords * (j - 1)) (columnWordsFrom p 0 columnWords) columnWords (omega arith) (omega (arith, length-wordsFrom p 0 columnWords)))
       ∙ drop-drop (columnWords * n - end) end l))
 
 -- n elements from index a on are the end of the first a + n
@@ -237,17 +237,17 @@ withColumn-other l j p k apart = go (hasColumn l k) refl
         ∙ sym (matrixColumn-inside l k (bounds .0) (bounds .1))
 
 -- the words of column j of a matrix
-pub columnOf-matrixWords : (C : ℕ → ℕ → Bool) (n j : ℕ) (rest : List ℕ) → 1 ≤ j → j ≤ n → columnOf (matrixWords C n ++ rest) j ≡ wordsFrom (C j) 0 columnWords
+pub columnOf-matrixWords : (C : ℕ → ℕ → Bool) (n j : ℕ) (rest : List ℕ) → 1 ≤ j → j ≤ n → columnOf (matrixWords C n ++ rest) j ≡ columnWordsFrom (C j) 0 columnWords
 unfolding matrixWords columnOf
 columnOf-matrixWords C zero j rest low h = absurd (omega arith)
 columnOf-matrixWords C (suc n) j rest low h =
     rw append-assoc (⊎-elim last (λ l. columnOf-matrixWords C n j _ low (omega arith)) (eq-or-lt-of-le h))
   where
-    last : j ≡ suc n → columnOf (matrixWords C n ++ (wordsFrom (C (suc n)) 0 columnWords ++ rest)) j ≡ wordsFrom (C j) 0 columnWords
+    last : j ≡ suc n → columnOf (matrixWords C n ++ (columnWordsFrom (C (suc n)) 0 columnWords ++ rest)) j ≡ columnWordsFrom (C j) 0 columnWords
     last e =
         let start : columnWords * (suc n - 1) ≡ columnWords * n = omega arith in
         rw (e, start, drop-at (matrixWords C n) _ (columnWords * n) (length-matrixWords C n))
-        (take-at (wordsFrom (C (suc n)) 0 columnWords) rest columnWords (length-wordsFrom (C (suc n)) 0 columnWords))
+        (take-at (columnWordsFrom (C (suc n)) 0 columnWords) rest columnWords (length-wordsFrom (C (suc n)) 0 columnWords))
 
 pub matrix-column : (C : ℕ → ℕ → Bool) (n j : ℕ) (rest : List ℕ) → 1 ≤ j → j ≤ n → matrixColumn (matrixWords C n ++ rest) j ≡ both (upTo size) (C j)
 matrix-column C n j rest low h =
@@ -256,7 +256,7 @@ matrix-column C n j rest low h =
 
 -- Words whose columns 1 to n are those of C begin with the matrix of C.
 pub columns-whole : (C : ℕ → ℕ → Bool) (n : ℕ) (l : List ℕ)
-    → ((j : ℕ) → 1 ≤ j → j ≤ n → columnOf l j ≡ wordsFrom (C j) 0 columnWords) → take (columnWords * n) l ≡ matrixWords C n
+    → ((j : ℕ) → 1 ≤ j → j ≤ n → columnOf l j ≡ columnWordsFrom (C j) 0 columnWords) → take (columnWords * n) l ≡ matrixWords C n
 unfolding matrixWords columnOf
 columns-whole C zero l h = refl
 columns-whole C (suc n) l h =

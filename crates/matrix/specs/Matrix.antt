@@ -6,7 +6,7 @@ use mathlib.Core.List.{List, _++_}
 use lib.Dec.{leb}
 use lib.ListN.{length, getD, take, drop}
 use Rattle.rowset.specs.Sets.{upTo}
-use Rattle.rowset.specs.Words.{columnWords, wordsFrom}
+use Rattle.rowset.specs.Words.{columnWords, columnWordsFrom}
 use Rattle.slice.specs.Slices.{size, bit}
 
 -- whether column j, counted from 1, lies wholly inside the words l
@@ -25,4 +25,4 @@ columnOf l j = take columnWords (drop (columnWords * (j - 1)) l)
 -- the words l with the set p written as column j: nothing changes where there is no such column
 unfoldable pub withColumn : List ℕ → ℕ → (ℕ → Bool) → List ℕ
 withColumn l j p =
-    cond (hasColumn l j) (take (columnWords * (j - 1)) l ++ wordsFrom p 0 columnWords ++ drop (columnWords * j) l) l
+    cond (hasColumn l j) (take (columnWords * (j - 1)) l ++ columnWordsFrom p 0 columnWords ++ drop (columnWords * j) l) l

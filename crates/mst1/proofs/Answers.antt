@@ -26,7 +26,7 @@ use Rattle.star.specs.Refusals.{cause, isNone, noTree, tableCauses, mst1Causes,
 use Rattle.star.proofs.Accepted.{refusal-append, taken, sound}
 use Rattle.table.specs.Loads.{loadedRow}
 use Rattle.table.proofs.Loads.{load-taken, loaded-taken}
-use Rattle.mst1.specs.Growth.{loadedGraph, Grows}
+use Rattle.mst1.specs.steps.Growth.{loadedGraph, Grows}
 use Rattle.mst1.proofs.Cut.{tree-cut}
 
 -- causes of which one applies are not changed by causes after them

@@ -12,7 +12,7 @@ use native.Mathlib.Omega.{arith}
 use lib.Dec.{eqb}
 use Rattle.graph.specs.Builder.{cheapest, treeOf, tree}
 use Rattle.graph.specs.Graph.{Graph}
-use Rattle.rowset.specs.Columns.{number}
+use Rattle.rowset.specs.Columns.{inColumns}
 use Rattle.rowset.specs.Searches.{equalTo, smallest}
 use Rattle.rowset.specs.Sets.{empty, either, oneOf, put, uppermost}
 use Rattle.rowset.proofs.Laws.{in-upTo, uppermost-some}
@@ -25,7 +25,7 @@ use Rattle.star.specs.Mst1.{chosenRows}
 use Rattle.star.specs.Refusals.{isNone}
 use Rattle.table.specs.Tables.{width, column, row}
 use Rattle.table.specs.declared.Table.{Table}
-use Rattle.mst1.specs.Growth.{graphBy, Grows, Reached, meeting}
+use Rattle.mst1.specs.steps.Growth.{graphBy, Grows, Reached, meeting}
 use Rattle.mst1.proofs.Steps.{farBy, first-reached, next-reached}
 
 -- ── What is grown ──
@@ -57,7 +57,7 @@ grows-whole g w {chosen = chosen} r e =
 
 -- the numbers that the words of a table hold
 abbrev pub rowIn : List ℕ → ℕ → ℕ
-rowIn words = number (matrixColumn words) 0 width
+rowIn words = inColumns (matrixColumn words) 0 width
 
 -- they are the rows of the table, and the numbers in the columns after the empty ones
 module _ (t : Table) (words : List ℕ) (stored : matrixColumn words ≡ column t) where
@@ -65,7 +65,7 @@ module _ (t : Table) (words : List ℕ) (stored : matrixColumn words ≡ column 
   unfolding row
   row-stored = rw stored
 
-  pub filled-row : {k : ℕ} → k ≡ emptyColumns size (column t) 0 width → number (matrixColumn words) k (width - k) ≡ rowIn words
+  pub filled-row : {k : ℕ} → k ≡ emptyColumns size (column t) 0 width → inColumns (matrixColumn words) k (width - k) ≡ rowIn words
   unfolding row
   filled-row e = rw (stored, e) (empty-row t)
 

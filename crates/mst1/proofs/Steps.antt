@@ -9,14 +9,14 @@ use lib.Dec.{eqb}
 use native.Mathlib.Omega.{arith}
 use Rattle.graph.specs.Builder.{cheapest, choose, first, next, fragment, treeOf, tree}
 use Rattle.graph.specs.Graph.{Graph, crosses, withEnds}
-use Rattle.graph.specs.Trail.{far}
+use Rattle.graph.specs.steps.Trail.{far}
 use Rattle.graph.proofs.Reach.{crossing-far-end}
 use Rattle.graph.proofs.Trail.{far-end}
 use Rattle.rowset.specs.Searches.{equalTo, smallest}
 use Rattle.rowset.specs.Sets.{empty, both, either, oneOf, put}
 use Rattle.rowset.proofs.Laws.{upwards, uppermost-some, smallest-in}
 use Rattle.rowset.proofs.Members.{both-in}
-use Rattle.mst1.specs.Growth.{Reached, touching, meeting}
+use Rattle.mst1.specs.steps.Growth.{Reached, touching, meeting}
 
 -- ── The rows with an end in a vertex set ──
 

@@ -1,2 +1,2 @@
-pub mod Growth
 pub mod Answers
+pub mod steps

@@ -2,16 +2,16 @@
 ghost use mathlib.Core.Path.{_≡_};
 ghost use mathlib.Core.Bool.{true};
 ghost use Prim.Native.Nat.{_-_, _≤_};
-ghost use Rattle.rowset.specs.Columns.{number};
+ghost use Rattle.rowset.specs.Columns.{inColumns};
 ghost use Rattle.rowset.specs.Searches.{equalTo, smallest};
 ghost use Rattle.rowset.specs.Sets.{empty, either, uppermost};
 ghost use Rattle.matrix.specs.Matrix.{matrixColumn};
 ghost use Rattle.slice.specs.Slices.{size, component, written};
 ghost use Rattle.star.specs.Mst1.{mst1, mst1Marks};
-ghost use Rattle.checks.specs.Checks.{given};
+ghost use Rattle.star.specs.Call.{callOf};
 ghost use Rattle.table.specs.Loads.{loadedRow};
 ghost use Rattle.table.specs.Tables.{width, row};
-ghost use Rattle.mst1.specs.Growth.{graphOn, loadedGraph, Grows, Reached, meeting};
+ghost use Rattle.mst1.specs.steps.Growth.{graphOn, loadedGraph, Grows, Reached, meeting};
 ghost use Rattle.mst1.specs.Answers.{answerOf};
 use refusal::Outcome;
 use refusal::Refusal;
@@ -47,14 +47,14 @@ fn first_row(weight: Table, x: Slice) -> usize
 
 // The same over a table's words, and over the columns after the first ones.
 fn cheapest(weight: &[u64], first: usize, x: Slice) -> usize
-    ensures { λ r. ⌜ r ≡ uppermost size (smallest size (number (matrixColumn (now (weight .entry))) first (width - first)) (component x)) ⌝ }
+    ensures { λ r. ⌜ r ≡ uppermost size (smallest size (inColumns (matrixColumn (now (weight .entry))) first (width - first)) (component x)) ⌝ }
 {
     slice::fnd(lent::min_from(weight, first, x))
 }
 
 // x, and with it the rows that hold v, by MATCH over the columns after the first ones.
 fn reach(x: Slice, ends: &[u64], first: usize, v: u32, rows: Slice) -> Slice
-    ensures { λ r. ⌜ component r ≡ either (component x) (equalTo (number (matrixColumn (now (ends .entry))) first (width - first)) v (component rows)) ⌝ }
+    ensures { λ r. ⌜ component r ≡ either (component x) (equalTo (inColumns (matrixColumn (now (ends .entry))) first (width - first)) v (component rows)) ⌝ }
 {
     slice::or(x, lent::match_from(ends, first, v, rows))
 }
@@ -168,8 +168,8 @@ fn tree_of(n: u32, left: &[u8], right: &[u8], weight: &[u8]) -> Grown
 
 // MST1: the refusal, and the marks stay as they were; or the tree's weight, and the marks are 1 for each chosen row and 0 for every other.
 pub fn mst1(n: u32, left: &[u8], right: &[u8], weight: &[u8], mark: &mut [u8]) -> Built
-    ensures answer { λ r. ⌜ answerOf r ≡ mst1 (given n (now (left .entry)) (now (right .entry)) (now (weight .entry)) (now (mark .entry))) ⌝ }
-    ensures marks { λ r. ⌜ now (mark .exit) ≡ mst1Marks (given n (now (left .entry)) (now (right .entry)) (now (weight .entry)) (now (mark .entry))) ⌝ }
+    ensures answer { λ r. ⌜ answerOf r ≡ mst1 (callOf n (now (left .entry)) (now (right .entry)) (now (weight .entry)) (now (mark .entry))) ⌝ }
+    ensures marks { λ r. ⌜ now (mark .exit) ≡ mst1Marks (callOf n (now (left .entry)) (now (right .entry)) (now (weight .entry)) (now (mark .entry))) ⌝ }
 {
     if let Outcome::Refused(refusal) = checks::table_check(n, left, right, weight, mark) {
         return Built::Refused(refusal);

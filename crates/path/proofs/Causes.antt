@@ -17,7 +17,7 @@ use Rattle.star.specs.Call.{Call}
 use Rattle.star.specs.Refusals.{tableCauses, badClaim, badSource, shortMatrix, badCount, orElse, refusal}
 use Rattle.checks.specs.Checks.{claimCause, countCause}
 use Rattle.checks.proofs.Laws.{claim-cause, count-cause}
-use Rattle.path.specs.Causes.{callCauses, claimCauses, checkCauses}
+use Rattle.path.specs.steps.Causes.{callCauses, claimCauses, checkCauses}
 
 -- ── The uppermost of 1 to m, by the uppermost of 1 to k, for sets that agree on 1 to m ──
 

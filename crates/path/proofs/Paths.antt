@@ -9,14 +9,14 @@ use mathlib.Core.Option.{none}
 use mathlib.Core.Path.{_≡_, sym, ap, _∙_}
 use native.Mathlib.Omega.{arith}
 use Rattle.graph.specs.Graph.{Inside, Walk, joined}
-use Rattle.graph.specs.Trail.{trail}
+use Rattle.graph.specs.steps.Trail.{trail}
 use Rattle.graph.specs.Tree.{SpanningTree}
 use Rattle.graph.proofs.Joined.{unjoined-none}
 use Rattle.graph.proofs.Path.{tree-joined}
 use Rattle.graph.proofs.Reach.{walk-then, walk-back}
 use Rattle.graph.proofs.Trail.{trail-vertices, trail-columns}
 use Rattle.rowset.specs.Bytes.{inRow}
-use Rattle.rowset.specs.Words.{columnWords, wordsFrom, matrixWords}
+use Rattle.rowset.specs.Words.{columnWords, columnWordsFrom, matrixWords}
 use Rattle.rowset.proofs.Laws.{in-upTo}
 use Rattle.matrix.proofs.Laws.{columns-whole}
 use Rattle.star.specs.Call.{Call, rowsOf, graphOf, marked}
@@ -24,7 +24,7 @@ use Rattle.star.specs.MatrixPath.{pathColumn}
 use Rattle.star.specs.Refusals.{badCount, unjoined}
 use Rattle.star.proofs.Accepted.{Taken, sound, cause-none, causeAt-none}
 use Rattle.star.proofs.Claims.{marked-row}
-use Rattle.path.specs.Walks.{State, walk}
+use Rattle.path.specs.steps.Walks.{State, walk}
 use Rattle.path.proofs.Walks.{Shows, walk-shows}
 
 -- the walk of n steps from s over the marked rows
@@ -69,7 +69,7 @@ module _ (c : Call) (t : Taken c) (s : ℕ) (low : 1 ≤ s) (high : s ≤ c .n) 
     walked-paths tree =
         columns-whole (pathColumn c s) (c .n) (walked c s words .words)
         (λ v l h. shown .columns v (reached v l h)
-        ∙ ap (λ (p : ℕ → Bool). wordsFrom p 0 columnWords) (trail-columns (graphOf c) (sound c t) (marked (c .mark)) tree s low high (c .n) v (reached v l h)))
+        ∙ ap (λ (p : ℕ → Bool). columnWordsFrom p 0 columnWords) (trail-columns (graphOf c) (sound c t) (marked (c .mark)) tree s low high (c .n) v (reached v l h)))
       where
         reached : (v : ℕ) → 1 ≤ v → v ≤ c .n → trail (graphOf c) (marked (c .mark)) s (c .n) .vertices v ≡ true
         reached v l h =

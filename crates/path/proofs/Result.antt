@@ -23,8 +23,8 @@ use Rattle.star.proofs.Accepted.{Taken, taken, none-head, none-tail, cause-none
 use Rattle.table.specs.Loads.{loadedRow}
 use Rattle.table.proofs.Loads.{load-taken, loaded-taken}
 use Rattle.claim.proofs.Laws.{claimRows-marked}
-use Rattle.path.specs.Causes.{claimCauses, checkCauses, unreachedCause}
-use Rattle.path.specs.Walks.{State, claimWalk}
+use Rattle.path.specs.steps.Causes.{claimCauses, checkCauses, unreachedCause}
+use Rattle.path.specs.steps.Walks.{State, claimWalk}
 use Rattle.path.proofs.Causes.{refusal-both, refusal-one, refused-first, done-next}
 use Rattle.path.proofs.Paths.{walked, walked-joined, walked-paths, joined-tree}
 

@@ -11,16 +11,16 @@ use mathlib.Core.Path.{_≡_, refl, sym, ap, ap₂, _∙_, fun-ext, subst}
 use native.Mathlib.Decide.{ℕ-discrete}
 use native.Mathlib.Omega.{arith}
 use Rattle.graph.specs.Graph.{Graph, Sound, Inside, crosses}
-use Rattle.graph.specs.Trail.{Trail, near, far, extend, trail}
+use Rattle.graph.specs.steps.Trail.{Trail, near, far, extend, trail}
 use Rattle.graph.proofs.Trail.{near-vertex, far-vertex, trail-vertex, trail-inside}
 use Rattle.rowset.specs.Searches.{equalTo}
 use Rattle.rowset.specs.Sets.{empty, upTo, both, either, oneOf, put, uppermost}
-use Rattle.rowset.specs.Words.{columnWords, wordsFrom}
+use Rattle.rowset.specs.Words.{columnWords, columnWordsFrom}
 use Rattle.rowset.proofs.Laws.{clash, put-other, in-upTo, uppermost-cut, uppermost-some, both-inside}
 use Rattle.matrix.specs.Matrix.{columnOf, withColumn}
 use Rattle.slice.specs.Slices.{size, written}
 use Rattle.matrix.proofs.Laws.{matrixColumn-words, columnOf-same, columnOf-other, length-withColumn}
-use Rattle.path.specs.Walks.{State, nowhere, arrive, pass, along, step, steps, walk}
+use Rattle.path.specs.steps.Walks.{State, nowhere, arrive, pass, along, step, steps, walk}
 
 -- the rows of T whose end in the column e is a vertex of Q
 pub ends : (ℕ → Bool) → (ℕ → ℕ) → (ℕ → Bool) → ℕ → Bool
@@ -55,7 +55,7 @@ pub record Shows (g : Graph) (T : ℕ → Bool) (t : Trail) (x : State) : Type 0
   pub rights : x .rights ≡ ends T (g .b) (t .vertices)
   pub reached : x .reached ≡ t .vertices
   pub room : columnWords * g .n ≤ length (x .words)
-  pub columns : (v : ℕ) → t .vertices v ≡ true → columnOf (x .words) v ≡ wordsFrom (t .columns v) 0 columnWords
+  pub columns : (v : ℕ) → t .vertices v ≡ true → columnOf (x .words) v ≡ columnWordsFrom (t .columns v) 0 columnWords
 
 -- the trail with vertex v reached along the rows of p
 abbrev onTo : Trail → ℕ → (ℕ → Bool) → Trail
@@ -80,7 +80,7 @@ module _ (g : Graph) (T : ℕ → Bool) (few : g .n ≤ size) where
       fits : columnWords * v ≤ length (x .words)
       fits = omega (arith, h .room)
 
-      old : (u : ℕ) → u ≢ v → t .vertices u ≡ true → columnOf (withColumn (x .words) v p) u ≡ wordsFrom (t .columns u) 0 columnWords
+      old : (u : ℕ) → u ≢ v → t .vertices u ≡ true → columnOf (withColumn (x .words) v p) u ≡ columnWordsFrom (t .columns u) 0 columnWords
       old u s e = columnOf-other (x .words) v p u (positive u e) s ∙ h .columns u e
 
 -- the vertices from which and to which a row is taken

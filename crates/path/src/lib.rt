@@ -7,10 +7,10 @@ ghost use Rattle.refusal.specs.Outcomes.{refusalOf};
 ghost use Rattle.slice.specs.Slices.{size, component};
 ghost use Rattle.star.specs.MatrixPath.{matrixPath, matrixAfter};
 ghost use Rattle.star.specs.Refusals.{orElse, refusal};
-ghost use Rattle.checks.specs.Checks.{given};
+ghost use Rattle.star.specs.Call.{callOf};
 ghost use Rattle.table.specs.Loads.{loadedRow};
-ghost use Rattle.path.specs.Causes.{callCauses, checkCauses, unreachedCause};
-ghost use Rattle.path.specs.Walks.{endsIn, stateOf, arrive, pass, along, step, walk, claimWalk};
+ghost use Rattle.path.specs.steps.Causes.{callCauses, checkCauses, unreachedCause};
+ghost use Rattle.path.specs.steps.Walks.{endsIn, stateOf, arrive, pass, along, step, walk, claimWalk};
 use refusal::Outcome;
 use refusal::Refusal;
 use search::lent;
@@ -188,7 +188,7 @@ fn path_check(
     s: u32,
     words: usize,
 ) -> Outcome
-    ensures { λ r. ⌜ refusalOf r ≡ refusal (checkCauses (given n (now (left .entry)) (now (right .entry)) (now (weight .entry)) (now (mark .entry))) s words) ⌝ }
+    ensures { λ r. ⌜ refusalOf r ≡ refusal (checkCauses (callOf n (now (left .entry)) (now (right .entry)) (now (weight .entry)) (now (mark .entry))) s words) ⌝ }
 {
     let table = checks::table_check(n, left, right, weight, mark);
     let Outcome::Done = table else {
@@ -231,8 +231,8 @@ pub fn matrix_path(
     s: u32,
     r: &mut [u64],
 ) -> Outcome
-    ensures answer { λ o. ⌜ refusalOf o ≡ matrixPath (given n (now (left .entry)) (now (right .entry)) (now (weight .entry)) (now (mark .entry))) s (now (r .entry)) ⌝ }
-    ensures matrix { λ o. ⌜ now (r .exit) ≡ matrixAfter (given n (now (left .entry)) (now (right .entry)) (now (weight .entry)) (now (mark .entry))) s (now (r .entry)) ⌝ }
+    ensures answer { λ o. ⌜ refusalOf o ≡ matrixPath (callOf n (now (left .entry)) (now (right .entry)) (now (weight .entry)) (now (mark .entry))) s (now (r .entry)) ⌝ }
+    ensures matrix { λ o. ⌜ now (r .exit) ≡ matrixAfter (callOf n (now (left .entry)) (now (right .entry)) (now (weight .entry)) (now (mark .entry))) s (now (r .entry)) ⌝ }
 {
     let checked = path_check(n, left, right, weight, mark, s, r.len());
     let Outcome::Done = checked else {

@@ -13,7 +13,7 @@ use native.Mathlib.Decide.{decLt}
 use lib.Bits.{bitAnd, and-block, and-mask, and-zero-r}
 use lib.Pow.{split, shr-shr, mod-mod-pow, pow-mono}
 use Rattle.rowset.specs.Sets.{empty}
-use Rattle.planes.specs.Blocks.{digits, rowByte, blockOf, laneBit, wordOf}
+use Rattle.planes.specs.steps.Blocks.{fromDigits, rowByte, blockOf, laneBit, wordOf}
 use Rattle.planes.specs.Planes.{blank, plane, bitPlane}
 use Rattle.slice.specs.Slices.{size, bit, component}
 use Rattle.slice.specs.declared.Slice.{Slice}
@@ -28,19 +28,19 @@ pub index-fits : (stride offset row : ℕ) → stride < 2 ^ 32 → offset < 2 ^ 
 index-fits stride offset row hs ho hr = omega (arith, mul-le-mul (le-of-lt hs) (le-of-lt hr))
 
 -- n digits in base 256, at most eight, fit a word
-pub word-fits : (f : ℕ → ℕ) → ((k : ℕ) → f k < 256) → (s n : ℕ) → n ≤ 8 → digits 256 f s n < 2 ^ 64
+pub word-fits : (f : ℕ → ℕ) → ((k : ℕ) → f k < 256) → (s n : ℕ) → n ≤ 8 → fromDigits 256 f s n < 2 ^ 64
 word-fits f h s n q = lt-of-lt-of-le (digits-below 256 f h s n) (pow-le-pow-right {n = 256} (omega arith) {j = 8} q)
 
 -- a block with one more byte fits
-pub block-fits : (f : ℕ → ℕ) → ((k : ℕ) → f k < 256) → (l : ℕ) → 0 < l → l ≤ 8 → digits 256 f l (8 - l) * 256 + f (l - 1) < 2 ^ 64
+pub block-fits : (f : ℕ → ℕ) → ((k : ℕ) → f k < 256) → (l : ℕ) → 0 < l → l ≤ 8 → fromDigits 256 f l (8 - l) * 256 + f (l - 1) < 2 ^ 64
 block-fits f h l p q = rw (← digits-down 256 f l 8 p q) (word-fits f h (l - 1) (8 - (l - 1)) (omega arith))
 
 -- the lowest bits of the bytes of a word, taken out by a mask
-lowest : (y s t n : ℕ) → bitAnd (y / 2 ^ (8 * s)) (digits 256 (λ _. 1) t n) ≡ digits 256 (λ l. y / 2 ^ (8 * l) % 2) s n
-unfolding digits
+lowest : (y s t n : ℕ) → bitAnd (y / 2 ^ (8 * s)) (fromDigits 256 (λ _. 1) t n) ≡ fromDigits 256 (λ l. y / 2 ^ (8 * l) % 2) s n
+unfolding fromDigits
 lowest y s t zero = and-zero-r (y / 2 ^ (8 * s))
 lowest y s t (suc n) =
-    go (y / 2 ^ (8 * s)) (digits 256 (λ _. 1) (suc t) n) (digits 256 (λ l. y / 2 ^ (8 * l) % 2) (suc s) n)
+    go (y / 2 ^ (8 * s)) (fromDigits 256 (λ _. 1) (suc t) n) (fromDigits 256 (λ l. y / 2 ^ (8 * l) % 2) (suc s) n)
     (rw (shr-shr y (8 * s) 8, ← mul-suc) (lowest y (suc s) (suc t) n))
   where
     go : (z m d : ℕ) → bitAnd (z / 2 ^ 8) m ≡ d → bitAnd z (1 + 256 * m) ≡ z % 2 + 256 * d
@@ -54,13 +54,13 @@ lowest y s t (suc n) =
         z % 2 + 256 * d
         ∎
 
-taken : (x k : ℕ) → bitAnd (x / 2 ^ k) 0x0101010101010101 ≡ digits 256 (λ l. x / 2 ^ (k + 8 * l) % 2) 0 8
-unfolding digits
+taken : (x k : ℕ) → bitAnd (x / 2 ^ k) 0x0101010101010101 ≡ fromDigits 256 (λ l. x / 2 ^ (k + 8 * l) % 2) 0 8
+unfolding fromDigits
 taken x k = rw (add-zero k) (simp shr-shr at (rw div-one at (lowest (x / 2 ^ k) 0 0 8)))
 
 -- the word so far: byte l has the bits k of the bytes l of the blocks b to n − 1
 abbrev pub wordFrom : List ℕ → ℕ → ℕ → ℕ → ℕ
-wordFrom blocks k n b = digits 256 (λ l. digits 2 (laneBit blocks k l) b (n - b)) 0 8
+wordFrom blocks k n b = fromDigits 256 (λ l. fromDigits 2 (laneBit blocks k l) b (n - b)) 0 8
 
 lane-bit-below : (blocks : List ℕ) (k l b : ℕ) → laneBit blocks k l b < 2
 unfolding laneBit
@@ -69,7 +69,7 @@ lane-bit-below blocks k l b = mod-lt (getD blocks b 0 / 2 ^ (k + 8 * l)) (omega 
 -- of at most eight blocks it fits
 pub word-from-fits : (blocks : List ℕ) (k n b : ℕ) → n - b ≤ 8 → wordFrom blocks k n b < 2 ^ 64
 word-from-fits blocks k n b h =
-    word-fits (λ l. digits 2 (laneBit blocks k l) b (n - b))
+    word-fits (λ l. fromDigits 2 (laneBit blocks k l) b (n - b))
     (λ l. lt-of-lt-of-le (digits-below 2 (laneBit blocks k l) (lane-bit-below blocks k l) b (n - b)) (pow-le-pow-right {n = 2} (omega arith) {j = 8} h))
     0
     8
@@ -82,16 +82,16 @@ unfolding laneBit
 word-step blocks k n b {word} e p q =
     word * 2 + bitAnd (getD blocks (b - 1) 0 / 2 ^ k) 0x0101010101010101
     ≡⟨ (rw (e, taken (getD blocks (b - 1) 0) k, add-comm, mul-comm)) ⟩
-    digits 256 (λ l. laneBit blocks k l (b - 1)) 0 8 + 2 * wordFrom blocks k n b
-    ≡⟨ digits-add-mul 256 (λ l. laneBit blocks k l (b - 1)) (λ l. digits 2 (laneBit blocks k l) b (n - b)) 2 0 8 ⟩
-    digits 256 (λ l. laneBit blocks k l (b - 1) + 2 * digits 2 (laneBit blocks k l) b (n - b)) 0 8
+    fromDigits 256 (λ l. laneBit blocks k l (b - 1)) 0 8 + 2 * wordFrom blocks k n b
+    ≡⟨ digits-add-mul 256 (λ l. laneBit blocks k l (b - 1)) (λ l. fromDigits 2 (laneBit blocks k l) b (n - b)) 2 0 8 ⟩
+    fromDigits 256 (λ l. laneBit blocks k l (b - 1) + 2 * fromDigits 2 (laneBit blocks k l) b (n - b)) 0 8
     ≡⟨ (digits-ext 256 _ _ 0 0 8 (λ l h. rw (digits-down 2 (laneBit blocks k (0 + l)) b n p q) (rw (add-comm, mul-comm 2)))) ⟩
     wordFrom blocks k n (b - 1)
     ∎
 
 -- of no block it is 0
 pub word-none : (blocks : List ℕ) (k n : ℕ) → wordFrom blocks k n n ≡ 0
-unfolding digits
+unfolding fromDigits
 word-none blocks k n = rw (sub-self n)
 
 -- of all eight blocks it is the whole word
@@ -123,10 +123,10 @@ module _ (column : List ℕ) (stride offset : ℕ) (bytes : (i : ℕ) → getD c
         ∙ rw (zero-add l, first))
 
     -- word q of plane k has the bits k of the rows from 64 q on
-    pub word-rows : wordOf blocks k q ≡ digits 2 rowBit (8 * (8 * q)) 64
+    pub word-rows : wordOf blocks k q ≡ fromDigits 2 rowBit (8 * (8 * q)) 64
     unfolding wordOf
     word-rows =
-        digits-ext 256 _ (λ l. digits 2 rowBit (8 * l) 8) 0 (8 * q) 8 (λ l hl. digits-ext 2 _ rowBit (8 * q) (8 * (8 * q + l)) 8 (λ g hg. lane-bit-row l g hl hg))
+        digits-ext 256 _ (λ l. fromDigits 2 rowBit (8 * l) 8) 0 (8 * q) 8 (λ l hl. digits-ext 2 _ rowBit (8 * q) (8 * (8 * q + l)) 8 (λ g hg. lane-bit-row l g hl hg))
         ∙ digits-group 2 8 rowBit (8 * q) 8
 
   -- a slice of these words is plane k

@@ -4,7 +4,7 @@ ghost use mathlib.Core.Path.{_≡_};
 ghost use Prim.Native.Nat.{ℕ, _+_, _<_, _*_, _/_, _%_, _^_};
 ghost use lib.ListN.{length, getD};
 ghost use Rattle.planes.specs.Planes.{plane, bitPlane};
-ghost use Rattle.planes.specs.Blocks.{blockOf, wordOf};
+ghost use Rattle.planes.specs.steps.Blocks.{blockOf, wordOf};
 use slice::Slice;
 use slice::WORDS;
 

@@ -4,6 +4,6 @@ use Prim.Native.Nat.{ℕ, zero, suc, _+_, _*_}
 use mathlib.Core.Bool.{Bool, cond}
 
 -- the number that row i holds in the k columns after column j
-unfoldable pub number : (ℕ → ℕ → Bool) → ℕ → ℕ → ℕ → ℕ
-number c j zero i = 0
-number c j (suc k) i = 2 * number c j k i + cond (c (j + suc k) i) 1 0
+unfoldable pub inColumns : (ℕ → ℕ → Bool) → ℕ → ℕ → ℕ → ℕ
+inColumns c j zero i = 0
+inColumns c j (suc k) i = 2 * inColumns c j k i + cond (c (j + suc k) i) 1 0

@@ -14,11 +14,11 @@ wordAt p i zero = 0
 wordAt p i (suc k) = cond (p (suc i)) 1 0 + 2 * wordAt p (suc i) k
 
 -- the k words of 64 bits of a column from its word q on
-unfoldable pub wordsFrom : (ℕ → Bool) → ℕ → ℕ → List ℕ
-wordsFrom p q zero = []
-wordsFrom p q (suc k) = wordAt p (64 * q) 64 ∷ wordsFrom p (suc q) k
+unfoldable pub columnWordsFrom : (ℕ → Bool) → ℕ → ℕ → List ℕ
+columnWordsFrom p q zero = []
+columnWordsFrom p q (suc k) = wordAt p (64 * q) 64 ∷ columnWordsFrom p (suc q) k
 
 -- the words of columns 1 to n: position i of column j is bit (i − 1) mod 64 of word 16 · (j − 1) + (i − 1) / 64
 unfoldable pub matrixWords : (ℕ → ℕ → Bool) → ℕ → List ℕ
 matrixWords column zero = []
-matrixWords column (suc j) = matrixWords column j ++ wordsFrom (column (suc j)) 0 columnWords
+matrixWords column (suc j) = matrixWords column j ++ columnWordsFrom (column (suc j)) 0 columnWords

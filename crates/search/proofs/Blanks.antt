@@ -8,7 +8,7 @@ use mathlib.Core.Bool.{Bool, true, false, cond, false≢true}
 use mathlib.Core.Path.{_≡_, refl, sym, ap, _∙_, fun-ext}
 use lib.ListN.{getD}
 use lib.Pow.{high}
-use Rattle.rowset.specs.Columns.{number}
+use Rattle.rowset.specs.Columns.{inColumns}
 use Rattle.rowset.specs.Sets.{any, empty}
 use Rattle.rowset.proofs.Laws.{any-none, refuted, clash}
 use Rattle.slice.specs.Slices.{size, component}
@@ -21,13 +21,13 @@ use Rattle.search.proofs.Loops.{none, column-read, component-in}
 
 module _ (c : ℕ → ℕ → Bool) where
   -- where the first k columns hold 0 in every row, the number in k + l columns is the number in the last l
-  number-after : (k l : ℕ) → ((i : ℕ) → number c 0 k i ≡ 0) → number c k l ≡ number c 0 (k + l)
+  number-after : (k l : ℕ) → ((i : ℕ) → inColumns c 0 k i ≡ 0) → inColumns c k l ≡ inColumns c 0 (k + l)
   number-after k l h = fun-ext (λ i. rw (number-split c 0 k l i, zero-add, h i) (omega arith))
 
   -- a number below 2 ^ l holds 0 in the columns before the last l
-  small-first : (k l i : ℕ) → number c 0 (k + l) i < 2 ^ l → number c 0 k i ≡ 0
+  small-first : (k l i : ℕ) → inColumns c 0 (k + l) i < 2 ^ l → inColumns c 0 k i ≡ 0
   small-first k l i h =
-      sym (high (number c 0 k i) l (number-below c (0 + k) l i)) ∙ ap (λ n. n / 2 ^ l) (sym (number-split c 0 k l i))
+      sym (high (inColumns c 0 k i) l (number-below c (0 + k) l i)) ∙ ap (λ n. n / 2 ^ l) (sym (number-split c 0 k l i))
       ∙ div-eq-of-lt h
 
   -- at most all columns are counted, and those hold 0; the columns have only rows of 1 to m
@@ -46,18 +46,18 @@ module _ (c : ℕ → ℕ → Bool) where
     empty-bit j i e = refuted (c j i) (λ t. let (l, u) = inside j i t in clash t (any-none m (c j) e i l u))
 
     -- one more empty column on the left
-    empty-more : (j l i : ℕ) → c (suc j) i ≡ false → number c (suc j) l i ≡ 0 → number c j (suc l) i ≡ 0
+    empty-more : (j l i : ℕ) → c (suc j) i ≡ false → inColumns c (suc j) l i ≡ 0 → inColumns c j (suc l) i ≡ 0
     empty-more j l i e z = rw (← one-add l, number-split c j 1 l i, number-one c j i, e, add-one j, z) (omega arith)
 
-    empty-first : (j k i : ℕ) → number c j (emptyColumns m c j k) i ≡ 0
-    unfolding emptyColumns number
+    empty-first : (j k i : ℕ) → inColumns c j (emptyColumns m c j k) i ≡ 0
+    unfolding emptyColumns inColumns
     empty-first j zero i = refl
     empty-first j (suc k) i = go (any m (c (suc j))) refl (empty-first (suc j) k i)
       where
         go : (b : Bool)
             → any m (c (suc j)) ≡ b
-            → number c (suc j) (emptyColumns m c (suc j) k) i ≡ 0
-            → number c j (cond b 0 (suc (emptyColumns m c (suc j) k))) i ≡ 0
+            → inColumns c (suc j) (emptyColumns m c (suc j) k) i ≡ 0
+            → inColumns c j (cond b 0 (suc (emptyColumns m c (suc j) k))) i ≡ 0
         go true e h = refl
         go false e h = empty-more j (emptyColumns m c (suc j) k) i (empty-bit (suc j) i e) h
 
@@ -68,7 +68,7 @@ column-in t zero i e = absurd (false≢true e)
 column-in t (suc j) i e = component-in (getD (t .columns) j blank) i e
 
 -- The row is the number in the columns after the first k, where every row is below 2 ^ (32 − k).
-pub small-row : (t : Table) (k : ℕ) → k ≤ width → ((i : ℕ) → row t i < 2 ^ (width - k)) → number (column t) k (width - k) ≡ row t
+pub small-row : (t : Table) (k : ℕ) → k ≤ width → ((i : ℕ) → row t i < 2 ^ (width - k)) → inColumns (column t) k (width - k) ≡ row t
 unfolding row
 small-row t k h s =
     let e : k + (width - k) ≡ width = omega arith in
@@ -76,7 +76,7 @@ small-row t k h s =
 
 -- The row is the number in the columns after those that are empty on the left.
 pub empty-row : (t : Table)
-    → number (column t) (emptyColumns size (column t) 0 width) (width - emptyColumns size (column t) 0 width) ≡ row t
+    → inColumns (column t) (emptyColumns size (column t) 0 width) (width - emptyColumns size (column t) 0 width) ≡ row t
 unfolding row
 empty-row t =
     let k : ℕ = emptyColumns size (column t) 0 width in

@@ -5,11 +5,11 @@ use mathlib.Core.Bool.{Bool, true, false, not, cond, _&&_, _||_, and-true, and-f
 use mathlib.Core.Path.{_≡_, refl, sym, _∙_, fun-ext}
 use lib.Dec.{eqb}
 use borrow.Author.Tests.{eqb-true, eq-eqb}
-use Rattle.rowset.specs.Columns.{number}
+use Rattle.rowset.specs.Columns.{inColumns}
 use Rattle.rowset.specs.Searches.{smallest, largest}
 use Rattle.rowset.specs.Sets.{any}
 use Rattle.rowset.proofs.Laws.{any-none, any-found, none-any, uppermost-some, clash, extreme as foremost, extreme-in, extreme-first, in-extreme}
-use Rattle.search.specs.Steps.{preferred, extreme}
+use Rattle.search.specs.steps.Column.{preferred, extreme}
 use Rattle.search.proofs.Orders.{before, before-compare, before-neither, ahead-next}
 use Rattle.search.proofs.Columns.{compare-column}
 use Rattle.search.proofs.Steps.{kept-at, bits-ahead}
@@ -40,16 +40,16 @@ cond-at false P Q i = refl
 
 -- a row comes before another at one more column where it did, or where the two were equal and only its bit is the one of the direction
 before-column : (c : ℕ → ℕ → Bool) (j k : ℕ) (high : Bool) (a b : ℕ)
-    → before high (number c j (suc k) a) (number c j (suc k) b)
-    ≡ (before high (number c j k a) (number c j k b)
-    || eqb (number c j k a) (number c j k b)
+    → before high (inColumns c j (suc k) a) (inColumns c j (suc k) b)
+    ≡ (before high (inColumns c j k a) (inColumns c j k b)
+    || eqb (inColumns c j k a) (inColumns c j k b)
     && (cond high (c (j + suc k) a) (not (c (j + suc k) a)) && not (cond high (c (j + suc k) b) (not (c (j + suc k) b)))))
-unfolding number
+unfolding inColumns
 before-column c j k high a b =
     rw (
-      before-compare high (number c j (suc k) a) (number c j (suc k) b),
-      before-compare high (number c j k a) (number c j k b),
-      compare-column c j k a (number c j k b) (c (j + suc k) b),
+      before-compare high (inColumns c j (suc k) a) (inColumns c j (suc k) b),
+      before-compare high (inColumns c j k a) (inColumns c j k b),
+      compare-column c j k a (inColumns c j k b) (c (j + suc k) b),
       ahead-next high,
       bits-ahead high,
     )
@@ -136,11 +136,11 @@ module _ (high : Bool) (m : ℕ) (X : ℕ → Bool) (inside : (i : ℕ) → X i 
 
   -- MIN and MAX at one more column
   pub extreme-step : (c : ℕ → ℕ → Bool) (j k : ℕ)
-      → extreme high m (number c j (suc k)) X ≡ preferred m high (extreme high m (number c j k) X) (c (j + suc k))
+      → extreme high m (inColumns c j (suc k)) X ≡ preferred m high (extreme high m (inColumns c j k) X) (c (j + suc k))
   unfolding preferred
   extreme-step c j k =
-      rw (extreme-is high m (number c j (suc k)) X, extreme-is high m (number c j k) X)
+      rw (extreme-is high m (inColumns c j (suc k)) X, extreme-is high m (inColumns c j k) X)
       (fun-ext
       (λ i.
-      rw (fun-ext (kept-at high (first (number c j k)) (c (j + suc k))), cond-at)
-      (first-at (number c j k) (number c j (suc k)) _ (before-column c j k high) i)))
+      rw (fun-ext (kept-at high (first (inColumns c j k)) (c (j + suc k))), cond-at)
+      (first-at (inColumns c j k) (inColumns c j (suc k)) _ (before-column c j k high) i)))

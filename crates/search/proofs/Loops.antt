@@ -12,7 +12,7 @@ use lib.ListN.{getD, replicate}
 use lib.Pow.{shr-shr, pow-mono}
 use mir.Val.{boolByte}
 use borrow.Author.Tests.{eqb-true, eqb-false}
-use Rattle.rowset.specs.Columns.{number}
+use Rattle.rowset.specs.Columns.{inColumns}
 use Rattle.rowset.specs.Sets.{empty, upTo, any}
 use Rattle.rowset.proofs.Laws.{clash, refuted, upwards, upTo-in, any-none}
 use Rattle.rowset.specs.Searches.{equalTo, greaterThan}
@@ -21,7 +21,7 @@ use Rattle.slice.specs.declared.Slice.{Slice}
 use Rattle.table.proofs.Columns.{as-number}
 use Rattle.table.specs.Tables.{column, blank}
 use Rattle.table.specs.declared.Table.{Table}
-use Rattle.search.specs.Steps.{kept, grown, preferred, extreme}
+use Rattle.search.specs.steps.Column.{kept, grown, preferred, extreme}
 use Rattle.rowset.proofs.Numbers.{number-below}
 use Rattle.search.proofs.Steps.{match-step, great-step, great-start, kept-none, grown-none}
 use Rattle.search.proofs.Extremes.{extreme-start, extreme-step}
@@ -93,11 +93,11 @@ none-left x e = fun-ext (λ i. refuted (component x i) (λ t. let (l, u) = compo
 pub record Read (c : ℕ → ℕ → Bool) (first i r j : ℕ) : Type 0 where
   pub from : first ≤ j
   pub upto : j - first ≤ 32 - first
-  pub held : r ≡ number c first (j - first) i
+  pub held : r ≡ inColumns c first (j - first) i
 
 module _ (c : ℕ → ℕ → Bool) (first i : ℕ) where
   pub read-start : Read c first i 0 first
-  unfolding number
+  unfolding inColumns
   read-start = record { from = omega arith; upto = omega arith; held = rw sub-self }
 
   -- the number before the bit of one column more
@@ -108,8 +108,8 @@ module _ (c : ℕ → ℕ → Bool) (first i : ℕ) where
 
   -- with that bit
   module _ (r j : ℕ) (h : j < 32) (m : Read c first i r j) (b : Bool) (e : b ≡ c (j + 1) i) where
-    held-more : r * 2 + boolByte b ≡ number c first (j + 1 - first) i
-    unfolding number
+    held-more : r * 2 + boolByte b ≡ inColumns c first (j + 1 - first) i
+    unfolding inColumns
     held-more =
         rw (next-count first j (m .from), next-column c first j (m .from))
         (omega (arith, m .held, as-number b e))
@@ -122,7 +122,7 @@ module _ (c : ℕ → ℕ → Bool) (first i : ℕ) where
     pub read-more : Read c first i (r * 2 + boolByte b) (j + 1)
     read-more = record { from = omega arith; upto = omega arith; held = held-more }
 
-  pub read-all : (r j : ℕ) → 32 ≤ j → Read c first i r j → r ≡ number c first (32 - first) i
+  pub read-all : (r j : ℕ) → 32 ≤ j → Read c first i r j → r ≡ inColumns c first (32 - first) i
   read-all r j h m = let e : j - first ≡ 32 - first = omega arith in rw (← e) (m .held)
 
 -- what GREAT's rows in the running are after j columns: those that equal w in the columns read, where z₀ is what they were before the first column
@@ -130,8 +130,8 @@ pub record Running (c : ℕ → ℕ → Bool) (first w : ℕ) (z₀ z : Slice) (
   pub from : first ≤ j
   pub upto : j - first ≤ 32 - first
   pub equal : (X : ℕ → Bool)
-      → component z₀ ≡ equalTo (number c first 0) (w / 2 ^ (32 - first)) X
-      → component z ≡ equalTo (number c first (j - first)) (w / 2 ^ (32 - j)) X
+      → component z₀ ≡ equalTo (inColumns c first 0) (w / 2 ^ (32 - first)) X
+      → component z ≡ equalTo (inColumns c first (j - first)) (w / 2 ^ (32 - j)) X
 
 module _ (c : ℕ → ℕ → Bool) (first w : ℕ) (z₀ : Slice) where
   running-start : Running c first w z₀ z₀ first
@@ -159,12 +159,12 @@ module _ (c : ℕ → ℕ → Bool) (first w : ℕ) (z₀ : Slice) where
 pub record Compared (c : ℕ → ℕ → Bool) (first w : ℕ) (z₀ g z : Slice) (j : ℕ) : Type 0 where
   pub running : Running c first w z₀ z j
   pub greater : (X : ℕ → Bool)
-      → component z₀ ≡ equalTo (number c first 0) (w / 2 ^ (32 - first)) X
-      → component g ≡ greaterThan (number c first (j - first)) (w / 2 ^ (32 - j)) X
+      → component z₀ ≡ equalTo (inColumns c first 0) (w / 2 ^ (32 - first)) X
+      → component g ≡ greaterThan (inColumns c first (j - first)) (w / 2 ^ (32 - j)) X
 
 module _ (c : ℕ → ℕ → Bool) (first w : ℕ) (z₀ : Slice) where
   pub compared-start : (g : Slice) → component g ≡ empty → Compared c first w z₀ g z₀ first
-  unfolding number
+  unfolding inColumns
   compared-start g e = record { running = running-start c first w z₀; greater = λ X h. rw sub-self (e ∙ sym (great-start _ X)) }
 
   pub compared-more : (g g′ z z′ : Slice) (j : ℕ) → j < 32
@@ -187,9 +187,9 @@ module _ (c : ℕ → ℕ → Bool) (first w : ℕ) (z₀ : Slice) where
       }
 
   pub compared-all : (g z : Slice) (j : ℕ) (X : ℕ → Bool) → 32 ≤ j
-      → component z₀ ≡ equalTo (number c first 0) (w / 2 ^ (32 - first)) X
+      → component z₀ ≡ equalTo (inColumns c first 0) (w / 2 ^ (32 - first)) X
       → Compared c first w z₀ g z j
-      → component g ≡ greaterThan (number c first (32 - first)) w X
+      → component g ≡ greaterThan (inColumns c first (32 - first)) w X
   compared-all g z j X h s m =
       let e : j - first ≡ 32 - first = omega arith in
       let d : 32 - j ≡ 0 = omega arith in
@@ -200,9 +200,9 @@ module _ (c : ℕ → ℕ → Bool) (first w : ℕ) (z₀ : Slice) where
   compared-still g z j e h m = compared-more g g z z j h (rw e (sym (grown-none _ _ _))) (rw e (sym (kept-none _ _))) m
 
   pub compared-none : (g z : Slice) (j : ℕ) (X : ℕ → Bool) → j < 32 → any size (component z) ≡ false
-      → component z₀ ≡ equalTo (number c first 0) (w / 2 ^ (32 - first)) X
+      → component z₀ ≡ equalTo (inColumns c first 0) (w / 2 ^ (32 - first)) X
       → Compared c first w z₀ g z j
-      → component g ≡ greaterThan (number c first (32 - first)) w X
+      → component g ≡ greaterThan (inColumns c first (32 - first)) w X
   compared-none g z j X h e s m =
       compared-all g z 32 X (omega arith) s
       (upwards (Compared c first w z₀ g z) j 32 (omega arith) m (λ n l u h. rw add-one at (compared-still g z n (none-left z e) u h)))
@@ -211,11 +211,11 @@ module _ (c : ℕ → ℕ → Bool) (first w : ℕ) (z₀ : Slice) where
 pub record Sought (c : ℕ → ℕ → Bool) (first : ℕ) (high : Bool) (z₀ z : Slice) (j : ℕ) : Type 0 where
   pub from : first ≤ j
   pub upto : j - first ≤ 32 - first
-  pub extremes : component z ≡ extreme high size (number c first (j - first)) (component z₀)
+  pub extremes : component z ≡ extreme high size (inColumns c first (j - first)) (component z₀)
 
 module _ (c : ℕ → ℕ → Bool) (first : ℕ) (high : Bool) (z₀ : Slice) where
   pub sought-start : Sought c first high z₀ z₀ first
-  unfolding number
+  unfolding inColumns
   sought-start = record { from = omega arith; upto = omega arith; extremes = rw sub-self (sym (extreme-start high size (component z₀))) }
 
   pub sought-more : (z z′ : Slice) (j : ℕ) → j < 32
@@ -237,7 +237,7 @@ module _ (c : ℕ → ℕ → Bool) (first : ℕ) (high : Bool) (z₀ : Slice) w
 
   pub sought-all : (z : Slice) (j : ℕ) → 32 ≤ j
       → Sought c first high z₀ z j
-      → component z ≡ extreme high size (number c first (32 - first)) (component z₀)
+      → component z ≡ extreme high size (inColumns c first (32 - first)) (component z₀)
   sought-all z j h m =
       let e : j - first ≡ 32 - first = omega arith in
       rw (← e) (m .extremes)

@@ -5,10 +5,10 @@ use mathlib.Core.Bool.{Bool, true, false, not, cond, _&&_, _||_, and-assoc, and-
 use mathlib.Core.Path.{_≡_, refl, sym, fun-ext}
 use lib.Dec.{isEq, leb·suc-zero}
 use borrow.Author.Tests.{ne-eqb}
-use Rattle.rowset.specs.Columns.{number}
+use Rattle.rowset.specs.Columns.{inColumns}
 use Rattle.rowset.specs.Sets.{empty, both, without, either}
 use Rattle.rowset.specs.Searches.{equalTo, greaterThan}
-use Rattle.search.specs.Steps.{kept, grown}
+use Rattle.search.specs.steps.Column.{kept, grown}
 use Rattle.search.proofs.Orders.{before, ahead, isEq-next, ahead-next, before-compare}
 use Rattle.search.proofs.Columns.{compare-column}
 
@@ -44,21 +44,21 @@ grown-at false G Z C i = rw and-true
 
 module _ (c : ℕ → ℕ → Bool) (j k v : ℕ) (d : Bool) (X : ℕ → Bool) where
   -- MATCH: the rows equal so far whose bit is the next one of the number sought
-  pub match-step : equalTo (number c j (suc k)) (2 * v + cond d 1 0) X ≡ kept d (equalTo (number c j k) v X) (c (j + suc k))
+  pub match-step : equalTo (inColumns c j (suc k)) (2 * v + cond d 1 0) X ≡ kept d (equalTo (inColumns c j k) v X) (c (j + suc k))
   unfolding equalTo
   match-step = fun-ext (λ i. rw (compare-column c j k i v d, isEq-next, bits-equal, kept-at, and-assoc))
 
   -- GREAT: the rows that were greater, and those equal so far whose bit is 1 against 0
-  pub great-step : greaterThan (number c j (suc k)) (2 * v + cond d 1 0) X
-      ≡ grown d (greaterThan (number c j k) v X) (equalTo (number c j k) v X) (c (j + suc k))
+  pub great-step : greaterThan (inColumns c j (suc k)) (2 * v + cond d 1 0) X
+      ≡ grown d (greaterThan (inColumns c j k) v X) (equalTo (inColumns c j k) v X) (c (j + suc k))
   unfolding equalTo greaterThan before
   great-step =
       fun-ext
       (λ i.
       rw (
         grown-at,
-        before-compare true (number c j (suc k) i) (2 * v + cond d 1 0),
-        before-compare true (number c j k i) v,
+        before-compare true (inColumns c j (suc k) i) (2 * v + cond d 1 0),
+        before-compare true (inColumns c j k i) v,
         compare-column c j k i v d,
         ahead-next true,
         bits-ahead true,

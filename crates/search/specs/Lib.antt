@@ -1,4 +1,4 @@
-pub mod Steps
 pub mod Blanks
 pub mod Counts
 pub mod Trials
+pub mod steps

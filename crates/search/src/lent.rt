@@ -10,13 +10,13 @@ use slice::Slice;
 use table::Table;
 ghost use mathlib.Core.Path.{_≡_};
 ghost use Prim.Native.Nat.{_-_};
-ghost use Rattle.rowset.specs.Columns.{number};
+ghost use Rattle.rowset.specs.Columns.{inColumns};
 ghost use Rattle.rowset.specs.Searches.{equalTo, greaterThan, smallest};
 ghost use Rattle.matrix.specs.Matrix.{matrixColumn};
 ghost use Rattle.slice.specs.Slices.{size, component};
 ghost use Rattle.table.specs.Tables.{width, column};
-ghost use Rattle.search.specs.Counts.{equalRight, readOf};
-ghost use Rattle.search.specs.Steps.{extreme};
+ghost use Rattle.search.specs.Counts.{equalRight, readWithin};
+ghost use Rattle.search.specs.steps.Column.{extreme};
 
 // The words of a column, of a table, and the bits of a word.
 const COLUMN: usize = 16;
@@ -66,7 +66,7 @@ fn bit_at(columns: &[u64], j: usize, i: usize) -> bool
 
 // ROW that leaves out the first columns: the number that row i holds in the others.
 pub fn row_from(columns: &[u64], first: usize, i: usize) -> u32
-    ensures { λ r. ⌜ r ≡ number (matrixColumn (now (columns .entry))) first (width - first) i ⌝ }
+    ensures { λ r. ⌜ r ≡ inColumns (matrixColumn (now (columns .entry))) first (width - first) i ⌝ }
 {
     let mut r: u32 = 0;
     let mut j = first;
@@ -80,7 +80,7 @@ pub fn row_from(columns: &[u64], first: usize, i: usize) -> u32
 // MATCH of w's last digits in the columns that are not left out, from column 32 to the left; it stops where no row is left in the running.
 pub fn match_right(columns: &[u64], first: usize, w: u32, x: Slice) -> Matched
     ensures rows { λ r. ⌜ component (r .rows) ≡ equalRight (matrixColumn (now (columns .entry))) w (width - first) (component x) ⌝ }
-    ensures read { λ r. ⌜ r .read ≡ readOf (width - first) size (matrixColumn (now (columns .entry))) w (component x) ⌝ }
+    ensures read { λ r. ⌜ r .read ≡ readWithin (width - first) size (matrixColumn (now (columns .entry))) w (component x) ⌝ }
 {
     let count = if first < WIDTH { WIDTH - first } else { 0 };
     let mut z = x;
@@ -101,7 +101,7 @@ pub fn match_right(columns: &[u64], first: usize, w: u32, x: Slice) -> Matched
 
 // MATCH that leaves out the first columns.
 pub fn match_from(columns: &[u64], first: usize, w: u32, x: Slice) -> Slice
-    ensures { λ r. ⌜ component r ≡ equalTo (number (matrixColumn (now (columns .entry))) first (width - first)) w (component x) ⌝ }
+    ensures { λ r. ⌜ component r ≡ equalTo (inColumns (matrixColumn (now (columns .entry))) first (width - first)) w (component x) ⌝ }
 {
     let found = match_right(columns, first, w, begin(first, w, x));
     found.rows
@@ -109,7 +109,7 @@ pub fn match_from(columns: &[u64], first: usize, w: u32, x: Slice) -> Slice
 
 // GREAT that leaves out the first columns. Beside the rows found greater, g, it carries MATCH's rows that are equal so far, z, and stops where there are none.
 pub fn great_from(columns: &[u64], first: usize, w: u32, x: Slice) -> Slice
-    ensures { λ r. ⌜ component r ≡ greaterThan (number (matrixColumn (now (columns .entry))) first (width - first)) w (component x) ⌝ }
+    ensures { λ r. ⌜ component r ≡ greaterThan (inColumns (matrixColumn (now (columns .entry))) first (width - first)) w (component x) ⌝ }
 {
     let mut g = Slice::empty();
     let mut z = begin(first, w, x);
@@ -130,7 +130,7 @@ pub fn great_from(columns: &[u64], first: usize, w: u32, x: Slice) -> Slice
 
 // MAX where `high` is true and MIN where it is not, leaving out the first columns.
 pub fn extreme_from(columns: &[u64], first: usize, high: bool, x: Slice) -> Slice
-    ensures { λ r. ⌜ component r ≡ extreme high size (number (matrixColumn (now (columns .entry))) first (width - first)) (component x) ⌝ }
+    ensures { λ r. ⌜ component r ≡ extreme high size (inColumns (matrixColumn (now (columns .entry))) first (width - first)) (component x) ⌝ }
 {
     let mut z = x;
     let mut j = first;
@@ -143,7 +143,7 @@ pub fn extreme_from(columns: &[u64], first: usize, high: bool, x: Slice) -> Slic
 
 // MIN that leaves out the first columns.
 pub fn min_from(columns: &[u64], first: usize, x: Slice) -> Slice
-    ensures { λ r. ⌜ component r ≡ smallest size (number (matrixColumn (now (columns .entry))) first (width - first)) (component x) ⌝ }
+    ensures { λ r. ⌜ component r ≡ smallest size (inColumns (matrixColumn (now (columns .entry))) first (width - first)) (component x) ⌝ }
 {
     extreme_from(columns, first, false, x)
 }

@@ -5,13 +5,13 @@ use slice::Slice;
 use table::Table;
 ghost use mathlib.Core.Path.{_≡_};
 ghost use Prim.Native.Nat.{_-_, _/_, _^_};
-ghost use Rattle.rowset.specs.Columns.{number};
+ghost use Rattle.rowset.specs.Columns.{inColumns};
 ghost use Rattle.rowset.specs.Searches.{equalTo, greaterThan, smallest, largest};
 ghost use Rattle.slice.specs.Slices.{size, component};
 ghost use Rattle.table.specs.Tables.{width, column, row};
 ghost use Rattle.search.specs.Blanks.{emptyColumns};
 ghost use Rattle.search.specs.Counts.{columnsRead};
-ghost use Rattle.search.specs.Steps.{kept, preferred, grown, extreme};
+ghost use Rattle.search.specs.steps.Column.{kept, preferred, grown, extreme};
 
 pub mod lent; // lent.rt: a table's columns, lent, and the searches over them
 
@@ -78,7 +78,7 @@ fn begin(first: usize, w: u32, x: Slice) -> Slice
 
 // MATCH that leaves out the first columns.
 pub fn match_from(t: Table, first: usize, w: u32, x: Slice) -> Slice
-    ensures { λ r. ⌜ component r ≡ equalTo (number (column t) first (width - first)) w (component x) ⌝ }
+    ensures { λ r. ⌜ component r ≡ equalTo (inColumns (column t) first (width - first)) w (component x) ⌝ }
 {
     let stored = lent::columns_of(t);
     lent::match_from(&stored.columns, first, w, x)
@@ -102,7 +102,7 @@ pub fn match_count(t: Table, w: u32, x: Slice) -> Matched
 
 // GREAT that leaves out the first columns.
 pub fn great_from(t: Table, first: usize, w: u32, x: Slice) -> Slice
-    ensures { λ r. ⌜ component r ≡ greaterThan (number (column t) first (width - first)) w (component x) ⌝ }
+    ensures { λ r. ⌜ component r ≡ greaterThan (inColumns (column t) first (width - first)) w (component x) ⌝ }
 {
     let stored = lent::columns_of(t);
     lent::great_from(&stored.columns, first, w, x)
@@ -117,7 +117,7 @@ pub fn great(t: Table, w: u32, x: Slice) -> Slice
 
 // MAX where `high` is true and MIN where it is not, leaving out the first columns.
 fn extreme_from(t: Table, first: usize, high: bool, x: Slice) -> Slice
-    ensures { λ r. ⌜ component r ≡ extreme high size (number (column t) first (width - first)) (component x) ⌝ }
+    ensures { λ r. ⌜ component r ≡ extreme high size (inColumns (column t) first (width - first)) (component x) ⌝ }
 {
     let stored = lent::columns_of(t);
     lent::extreme_from(&stored.columns, first, high, x)
@@ -125,14 +125,14 @@ fn extreme_from(t: Table, first: usize, high: bool, x: Slice) -> Slice
 
 // MIN that leaves out the first columns.
 pub fn min_from(t: Table, first: usize, x: Slice) -> Slice
-    ensures { λ r. ⌜ component r ≡ smallest size (number (column t) first (width - first)) (component x) ⌝ }
+    ensures { λ r. ⌜ component r ≡ smallest size (inColumns (column t) first (width - first)) (component x) ⌝ }
 {
     extreme_from(t, first, false, x)
 }
 
 // MAX that leaves out the first columns.
 pub fn max_from(t: Table, first: usize, x: Slice) -> Slice
-    ensures { λ r. ⌜ component r ≡ largest size (number (column t) first (width - first)) (component x) ⌝ }
+    ensures { λ r. ⌜ component r ≡ largest size (inColumns (column t) first (width - first)) (component x) ⌝ }
 {
     extreme_from(t, first, true, x)
 }

@@ -25,10 +25,10 @@ unfoldable pub written : (ℕ → Bool) → ℕ → Bool → ℕ → Bool
 written p k b = cond (upTo size k) (cond b (put p k) (takeOut p k)) p
 
 -- a slice as it is stored: sixteen words of 64 bits
-pub record Stored (x : Slice) : Type 0 where
+pub record SixteenWords (x : Slice) : Type 0 where
   pub sixteen : length (x .words) ≡ 16
   pub fits : (k : ℕ) → k < 16 → getD (x .words) k 0 < 2 ^ 64
 
 -- The theorem that a slice is its components: two stored slices with the same components are equal.
 abbrev pub SameComponents : Type 0
-SameComponents = (x y : Slice) → Stored x → Stored y → component x ≡ component y → x ≡ y
+SameComponents = (x y : Slice) → SixteenWords x → SixteenWords y → component x ≡ component y → x ≡ y

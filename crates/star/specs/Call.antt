@@ -17,6 +17,10 @@ pub record Call : Type 0 where
   pub weight : List ℕ
   pub mark : List ℕ
 
+-- the call with this n and these columns
+abbrev pub callOf : (n : ℕ) → (left right weight mark : List ℕ) → Call
+callOf n left right weight mark = record { n = n; left = left; right = right; weight = weight; mark = mark }
+
 -- m, the number of edge rows: the length of the left column
 abbrev pub rowsOf : Call → ℕ
 rowsOf c = length (c .left)

@@ -42,14 +42,14 @@ unfoldable pub doorReturns : List ℕ → ℕ
 doorReturns answer = cond (wellLent answer) 1 0
 
 -- the lent answer with these fields written, for CST and for MST1
-unfoldable pub written : List ℕ → Fields → List ℕ
-written answer f = cond (wellLent answer) (fieldBytes f) answer
+unfoldable pub answerAfter : List ℕ → Fields → List ℕ
+answerAfter answer f = cond (wellLent answer) (fieldBytes f) answer
 
 unfoldable pub cstDoor : Call → List ℕ → List ℕ
-cstDoor c answer = written answer (fields (cst c))
+cstDoor c answer = answerAfter answer (fields (cst c))
 
 unfoldable pub mst1Door : Call → List ℕ → List ℕ
-mst1Door c answer = written answer (fields (mst1 c))
+mst1Door c answer = answerAfter answer (fields (mst1 c))
 
 -- the mark column after MST1 was called through the door; CST writes no mark
 unfoldable pub mst1DoorMarks : Call → List ℕ → List ℕ

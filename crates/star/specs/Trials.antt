@@ -12,18 +12,18 @@ use Rattle.star.specs.MatrixPath.{matrixPath, matrixAfter}
 use Rattle.star.specs.Mst1.{mst1, mst1Marks}
 
 -- what a trial gives: an answer alone; the builder's answer with the marks afterwards; or MatrixPath's answer with the matrix afterwards
-pub data Outcome : Type 0 where
-  checked : Answer → Outcome
-  built : Answer → List ℕ → Outcome
-  filled : Option Refusal → List ℕ → Outcome
+pub data Result : Type 0 where
+  checked : Answer → Result
+  built : Answer → List ℕ → Result
+  filled : Option Refusal → List ℕ → Result
 
-abbrev checks : Call → Outcome
+abbrev checks : Call → Result
 checks c = checked (cst c)
 
-abbrev builds : Call → Outcome
+abbrev builds : Call → Result
 builds c = built (mst1 c) (mst1Marks c)
 
-abbrev fills : Call → ℕ → List ℕ → Outcome
+abbrev fills : Call → ℕ → List ℕ → Result
 fills c s R = filled (matrixPath c s R) (matrixAfter c s R)
 
 -- a weight below 256 as four bytes
@@ -81,7 +81,7 @@ abbrev column : ℕ → List ℕ
 column word = word ∷ replicate 15 0
 
 -- what the definitions give
-abbrev pub given : List Outcome
+abbrev pub given : List Result
 given =
     builds (yard (9 ∷ 9 ∷ 9 ∷ 9 ∷ 9 ∷ []))
     ∷ checks (yard (1 ∷ 1 ∷ 1 ∷ 0 ∷ 0 ∷ []))
@@ -101,7 +101,7 @@ given =
 -- what the trials say: rows 1, 2, 4 with weight 12; lighter, out 1, in 4, saving 1; passed, 12; refused 10, place 4; refused 9;
 -- columns {1, 2}, {2}, Θ, {1, 2, 4}, and the words after them as they were; weight 0 and passed with 0; refused 11; lighter, out 1, in 2, saving 2; passed, 11.
 -- Two more: the Stem is built without row 4, whose ends are both in the fragment; and of the heavier rows 1 and 2 the uppermost goes out, not the heaviest
-abbrev pub expected : List Outcome
+abbrev pub expected : List Result
 expected =
     built (passed 12) (1 ∷ 1 ∷ 0 ∷ 1 ∷ 0 ∷ [])
     ∷ checked (lighter 1 4 1)

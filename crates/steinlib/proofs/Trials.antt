@@ -7,13 +7,13 @@ use Rattle.star.specs.Call.{weightOf}
 use Rattle.star.specs.Door.{bytesOf}
 use Rattle.star.specs.Refusals.{cause, causeAt, badVertices, tooManyRows, badEnds, tooHeavy, badRow, orElse, refusal}
 use Rattle.steinlib.specs.Import.{bounded, readText, tableOf, badColumns, badEdges, importCauses, sizes, answered, imported, filled, columnsOf, importRefusal, leftAfter, rightAfter, weightAfter}
-use Rattle.steinlib.specs.Reader.{nothingRead, withGraph, withNodes, withEdges, endOf, withRow, when, counted, number, nextSection, named, skipLine, graphLine, next, isClosed, follow, readFrom}
+use Rattle.steinlib.specs.Reader.{nothingRead, withGraph, withNodes, withEdges, endOf, withRow, when, counted, numberThen, nextSection, named, skipLine, graphLine, next, isClosed, follow, readFrom}
 use Rattle.steinlib.specs.Trials.{TrialsHold}
 use Rattle.words.specs.Bytes.{bytes, within, classOf, ofWords, upper}
 use Rattle.words.specs.Names.{same, is}
-use Rattle.words.specs.Numbers.{digits, isEmpty, decimal, numberOf}
+use Rattle.words.specs.Numbers.{allDigits, isEmpty, decimal, numberOf}
 use Rattle.words.specs.Text.{after, isFirst, begins, run, prepend, wordsFrom, words}
 
 pub trials-hold : TrialsHold
-unfolding little inRow firstOf uppermost weightOf bytesOf cause causeAt badVertices tooManyRows badEnds tooHeavy badRow orElse refusal bounded readText tableOf badColumns badEdges importCauses sizes answered imported filled columnsOf importRefusal leftAfter rightAfter weightAfter nothingRead withGraph withNodes withEdges endOf withRow when counted number nextSection named skipLine graphLine next isClosed follow readFrom bytes within classOf ofWords upper same is digits isEmpty decimal numberOf after isFirst begins run prepend wordsFrom words
+unfolding little inRow firstOf uppermost weightOf bytesOf cause causeAt badVertices tooManyRows badEnds tooHeavy badRow orElse refusal bounded readText tableOf badColumns badEdges importCauses sizes answered imported filled columnsOf importRefusal leftAfter rightAfter weightAfter nothingRead withGraph withNodes withEdges endOf withRow when counted numberThen nextSection named skipLine graphLine next isClosed follow readFrom bytes within classOf ofWords upper same is allDigits isEmpty decimal numberOf after isFirst begins run prepend wordsFrom words
 trials-hold = (refl, refl)

@@ -4,16 +4,16 @@ use Prim.Native.Nat.{ℕ}
 use mathlib.Core.Bool.{Bool, true, false, cond}
 use mathlib.Core.List.{List}
 use lib.ListN.{length}
-use Rattle.star.specs.Door.{Fields, wellLent, written}
-use Rattle.steinlib.specs.Import.{Answer, refused, taken, imported, leftAfter, rightAfter, weightAfter}
+use Rattle.star.specs.Door.{Fields, wellLent, answerAfter}
+use Rattle.steinlib.specs.Import.{ImportAnswer, untaken, taken, imported, leftAfter, rightAfter, weightAfter}
 
 -- kind 0 is refused, with the number and, in bytes 8 to 15, the place; kind 1 is read, with n in bytes 2 and 3 and m in bytes 4 and 5
-unfoldable pub fields : Answer → Fields
-fields (refused r) = record { kind = 0; number = r .number; out = 0; into = 0; amount = r .place }
-fields (taken n m) = record { kind = 1; number = 0; out = n; into = m; amount = 0 }
+unfoldable pub importFields : ImportAnswer → Fields
+importFields (untaken r) = record { kind = 0; number = r .number; out = 0; into = 0; amount = r .place }
+importFields (taken n m) = record { kind = 1; number = 0; out = n; into = m; amount = 0 }
 
 unfoldable pub importDoor : List ℕ → List ℕ → List ℕ → List ℕ → List ℕ → List ℕ
-importDoor text left right weight answer = written answer (fields (imported text (length left) (length right) (length weight)))
+importDoor text left right weight answer = answerAfter answer (importFields (imported text (length left) (length right) (length weight)))
 
 -- each lent column after the call; an answer of another length than sixteen bytes leaves them as they were
 unfoldable pub leftDoor : List ℕ → List ℕ → List ℕ → List ℕ → List ℕ → List ℕ

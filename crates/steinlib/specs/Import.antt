@@ -43,19 +43,19 @@ importCauses (whole t) l r w =
     badEdges t ∷ badVertices (t .nodes) ∷ tooManyRows (t .rows) ∷ badColumns l r w ∷ badRow (tableOf t) ∷ []
 
 -- what an import answers: the refusal, or n and m
-pub data Answer : Type 0 where
-  refused : Refusal → Answer
-  taken : ℕ → ℕ → Answer
+pub data ImportAnswer : Type 0 where
+  untaken : Refusal → ImportAnswer
+  taken : ℕ → ℕ → ImportAnswer
 
-unfoldable pub sizes : Reading → Answer
-sizes (broken place) = refused (record { number = 12; place = place })
+unfoldable pub sizes : Reading → ImportAnswer
+sizes (broken place) = untaken (record { number = 12; place = place })
 sizes (whole t) = taken (t .nodes) (t .rows)
 
-unfoldable pub answered : Option Refusal → Reading → Answer
+unfoldable pub answered : Option Refusal → Reading → ImportAnswer
 answered none x = sizes x
-answered (some r) x = refused r
+answered (some r) x = untaken r
 
-unfoldable pub imported : List ℕ → ℕ → ℕ → ℕ → Answer
+unfoldable pub imported : List ℕ → ℕ → ℕ → ℕ → ImportAnswer
 imported text l r w = answered (refusal (importCauses (readText text) l r w)) (readText text)
 
 -- a lent column afterwards: the rows that were read, and below them what it held; a refusal changes nothing

@@ -90,8 +90,8 @@ unfoldable pub counted : Option ℕ → (ℕ → Stand × Read) → Next
 counted none f = none
 counted (some k) f = some (f k)
 
-unfoldable pub number : Word → (ℕ → Stand × Read) → Next
-number w f = cond (w .first) none (counted (numberOf (w .letters)) f)
+unfoldable pub numberThen : Word → (ℕ → Stand × Read) → Next
+numberThen w f = cond (w .first) none (counted (numberOf (w .letters)) f)
 
 -- the first word of a line between sections: SECTION, or EOF once a Graph has been read
 unfoldable pub nextSection : Read → Word → Next
@@ -118,13 +118,13 @@ next skipping r w = cond (w .first) (some (skipLine w, r)) none
 next skipped r w = cond (w .first) (some (skipLine w, r)) (some (skipped, r))
 next ending r w = cond (w .first) (nextSection r w) (some (skipped, r))
 next nodes r w = when (w .first && is "Nodes" w) (nodeCount, r)
-next nodeCount r w = number w (λ k. (edges, withNodes r k))
+next nodeCount r w = numberThen w (λ k. (edges, withNodes r k))
 next edges r w = when (w .first && is "Edges" w) (edgeCount, r)
-next edgeCount r w = number w (λ k. (lines, withEdges r k))
+next edgeCount r w = numberThen w (λ k. (lines, withEdges r k))
 next lines r w = cond (w .first) (graphLine r w) none
-next leftEnd r w = number w (λ a. (rightEnd a, r))
-next (rightEnd a) r w = number w (λ b. (price a b, r))
-next (price a b) r w = number w (λ c. (lines, withRow r a b c))
+next leftEnd r w = numberThen w (λ a. (rightEnd a, r))
+next (rightEnd a) r w = numberThen w (λ b. (price a b, r))
+next (price a b) r w = numberThen w (λ c. (lines, withRow r a b c))
 next closed r w = none
 
 -- what reading comes to: the layout is broken at a place, or the text is read whole

@@ -6,14 +6,14 @@ use mathlib.Core.List.{List, [], _∷_}
 use mathlib.Core.Path.{_≡_}
 use lib.ListN.{replicate, take}
 use Rattle.refusal.specs.declared.Refusal.{Refusal}
-use Rattle.steinlib.specs.Import.{Answer, refused, taken, imported, leftAfter, rightAfter, weightAfter}
+use Rattle.steinlib.specs.Import.{ImportAnswer, untaken, taken, imported, leftAfter, rightAfter, weightAfter}
 use Rattle.words.specs.Bytes.{bytes}
 
 -- an import into columns of 1,024 rows, and one into a left column that is one byte short
-abbrev proper : String → Answer
+abbrev proper : String → ImportAnswer
 proper text = imported (bytes text) 1024 1024 4096
 
-abbrev short : String → Answer
+abbrev short : String → ImportAnswer
 short text = imported (bytes text) 1023 1024 4096
 
 -- the refusal with this number and place
@@ -21,7 +21,7 @@ abbrev because : ℕ → ℕ → Refusal
 because number place = record { number = number; place = place }
 
 -- what the definitions give
-abbrev given : List Answer
+abbrev given : List ImportAnswer
 given =
     proper "33D32945 STP File, STP Format Version 1.0\n\nSECTION Comment\nName \"Street graph\"\nEND\n\nSECTION Graph\nNodes 3\nEdges 2\nE 1 2 5\nE 2 3 7\nEND\n\nEOF\n"  -- a whole file, with a section that is skipped
     ∷ proper "33d32945\nSeCtIoN gRaPh\nnodes 2\nEDGES 1\ne 1 2 0\nend\neof"  -- names in either case, and EOF without a line end
@@ -53,35 +53,35 @@ given =
     ∷ []
 
 -- what they should give
-abbrev expected : List Answer
+abbrev expected : List ImportAnswer
 expected =
     taken 3 2  -- a whole file, with a section that is skipped
     ∷ taken 2 1  -- names in either case, and EOF without a line end
     ∷ taken 1 0  -- CR and LF, tabs, blanks before a word, empty lines first
     ∷ taken 1 0  -- in a section that is skipped END x, EOF and SECTION close nothing
     ∷ taken 2 1  -- zeros in front of a number
-    ∷ refused (because 12 0)  -- another first word
-    ∷ refused (because 12 0)  -- an empty text
-    ∷ refused (because 12 3)  -- no word at all
-    ∷ refused (because 12 9)  -- EOF without a Graph, though a word follows it
-    ∷ refused (because 12 67)  -- a second Graph
-    ∷ refused (because 12 67)  -- a second Graph is told before a third word
-    ∷ refused (because 12 60)  -- no EOF
-    ∷ refused (because 12 64)  -- a word after EOF
-    ∷ refused (because 12 25)  -- a third word on the line of SECTION
-    ∷ refused (because 12 20)  -- a line that ends too soon, and empty lines after it
-    ∷ refused (because 12 19)  -- a line that ends too soon, and no word after it
-    ∷ refused (because 12 45)  -- an E line without a price
-    ∷ refused (because 12 47)  -- an E line with a word too many
-    ∷ refused (because 12 31)  -- an E line before Edges
-    ∷ refused (because 12 43)  -- END x in Graph
-    ∷ refused (because 12 45)  -- a word that is no number
-    ∷ refused (because 12 45)  -- a number too large
-    ∷ refused (because 5 1)  -- the largest number is a price that the table's check refuses
-    ∷ refused (because 4 2)  -- an end above 255, whose last byte alone would be a vertex
-    ∷ refused (because 13 0)  -- more or fewer E lines than Edges says, before n
-    ∷ refused (because 1 0)  -- n above 255, before the columns
-    ∷ refused (because 3 0)  -- columns of another length
+    ∷ untaken (because 12 0)  -- another first word
+    ∷ untaken (because 12 0)  -- an empty text
+    ∷ untaken (because 12 3)  -- no word at all
+    ∷ untaken (because 12 9)  -- EOF without a Graph, though a word follows it
+    ∷ untaken (because 12 67)  -- a second Graph
+    ∷ untaken (because 12 67)  -- a second Graph is told before a third word
+    ∷ untaken (because 12 60)  -- no EOF
+    ∷ untaken (because 12 64)  -- a word after EOF
+    ∷ untaken (because 12 25)  -- a third word on the line of SECTION
+    ∷ untaken (because 12 20)  -- a line that ends too soon, and empty lines after it
+    ∷ untaken (because 12 19)  -- a line that ends too soon, and no word after it
+    ∷ untaken (because 12 45)  -- an E line without a price
+    ∷ untaken (because 12 47)  -- an E line with a word too many
+    ∷ untaken (because 12 31)  -- an E line before Edges
+    ∷ untaken (because 12 43)  -- END x in Graph
+    ∷ untaken (because 12 45)  -- a word that is no number
+    ∷ untaken (because 12 45)  -- a number too large
+    ∷ untaken (because 5 1)  -- the largest number is a price that the table's check refuses
+    ∷ untaken (because 4 2)  -- an end above 255, whose last byte alone would be a vertex
+    ∷ untaken (because 13 0)  -- more or fewer E lines than Edges says, before n
+    ∷ untaken (because 1 0)  -- n above 255, before the columns
+    ∷ untaken (because 3 0)  -- columns of another length
     ∷ []
 
 -- the first rows of the three columns after an import into columns of nines: the rows that were read, and then what was there

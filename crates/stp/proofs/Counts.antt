@@ -7,12 +7,12 @@ use mathlib.Core.List.{List}
 use mathlib.Core.Option.{none, some}
 use mathlib.Core.Path.{_≡_, refl, ap, _∙_}
 use native.Mathlib.Omega.{arith}
-use Rattle.steinlib.specs.Reader.{Read, Stand, broken, when, counted, number, next}
+use Rattle.steinlib.specs.Reader.{Read, Stand, broken, when, counted, numberThen, next}
 use Rattle.stp.specs.declared.lines.Counted.{Counted}
 use Rattle.stp.specs.declared.lines.Found.{Found}
 use Rattle.stp.specs.declared.lines.Step.{Step}
-use Rattle.stp.specs.Lines.{Expects, Reached, NumberRead, CountRead, numbered}
-use Rattle.stp.specs.Steps.{readOn, resumed}
+use Rattle.stp.specs.steps.Lines.{Expects, Reached, NumberRead, CountRead, numbered}
+use Rattle.stp.specs.steps.Reading.{readOn, resumed}
 use Rattle.stp.proofs.Reading.{NextWord, part, wordOf, number-begun, name-begun, read-refused, read-taken}
 use Rattle.words.specs.Names.{same}
 use Rattle.words.specs.Numbers.{numberOf}
@@ -27,16 +27,16 @@ module _ {text : List ℕ} {at : ℕ} {x : Span} (n : NextWord text at false x) 
   refused-reached = record { low = n .low; high = omega (arith, n .order, n .high); on = λ e. absurd (true≢false e) }
 
   -- the next word is no number on this line
-  pub number-refused : ((f : ℕ → Stand × Read) → number (wordOf text x) f ≡ none) → NumberRead text at (noNumber (x .from))
+  pub number-refused : ((f : ℕ → Stand × Read) → numberThen (wordOf text x) f ≡ none) → NumberRead text at (noNumber (x .from))
   unfolding numbered
   number-refused h = record { reached = refused-reached; reads = λ s r f a. read-refused n s r (a .unclosed) (a .word (wordOf text x) ∙ h f) }
 
   pub number-first : x .first ≡ true → NumberRead text at (noNumber (x .from))
-  unfolding number
+  unfolding numberThen
   number-first e = number-refused (λ f. rw e)
 
   pub number-missing : numberOf (part text x) ≡ none → NumberRead text at (noNumber (x .from))
-  unfolding number counted
+  unfolding numberThen counted
   number-missing e = number-refused (λ f. go (x .first) f)
     where
       go : (b : Bool) (f : ℕ → Stand × Read) → cond b none (counted (numberOf (part text x)) f) ≡ none
@@ -45,7 +45,7 @@ module _ {text : List ℕ} {at : ℕ} {x : Span} (n : NextWord text at false x) 
 
   -- the next word is a number
   pub number-taken : {v : ℕ} → x .first ≡ false → numberOf (part text x) ≡ some v → NumberRead text at (record { broken = false; at = x .to; value = v })
-  unfolding numbered number counted
+  unfolding numbered numberThen counted
   number-taken {v} l e =
       let b : x .from < x .to = number-begun n e in
       record {

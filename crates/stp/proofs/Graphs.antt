@@ -12,8 +12,8 @@ use Rattle.steinlib.specs.Reader.{Read, Stand, broken, withNodes, withEdges, en
 use Rattle.stp.specs.declared.lines.Counted.{Counted}
 use Rattle.stp.specs.declared.lines.Found.{Found}
 use Rattle.stp.specs.declared.lines.Step.{Step}
-use Rattle.stp.specs.Lines.{Awaits, Expects, NumberRead, CountRead, numbered, lineResumed}
-use Rattle.stp.specs.Steps.{readOn, readOf, resumed}
+use Rattle.stp.specs.steps.Lines.{Awaits, Expects, NumberRead, CountRead, numbered, lineResumed}
+use Rattle.stp.specs.steps.Reading.{readOn, readOf, resumed}
 use Rattle.stp.proofs.Counts.{number-stops, number-leads}
 use Rattle.stp.proofs.Reading.{NextWord, part, name-begun, read-refused, read-taken}
 use Rattle.stp.proofs.Skips.{end}

@@ -10,15 +10,14 @@ use mathlib.Core.Logic.{_≢_}
 use mathlib.Core.Option.{Option, none, some}
 use mathlib.Core.Path.{_≡_, refl, sym, ap, _∙_}
 use native.Mathlib.Omega.{arith}
-use Rattle.checks.specs.Checks.{given}
 use Rattle.refusal.specs.declared.Refusal.{Refusal}
-use Rattle.star.specs.Call.{Call}
+use Rattle.star.specs.Call.{Call, callOf}
 use Rattle.star.specs.Refusals.{maxRows, cause, badVertices, tooManyRows, badLengths, badRow, tableCauses, orElse, refusal}
 use Rattle.star.proofs.Accepted.{none-head, none-tail, none-cons, none-both, none-nil, none-cause, cause-none, refusal-append}
-use Rattle.steinlib.specs.Import.{maxText, bounded, readText, tableOf, badColumns, badEdges, importCauses, refused, taken, sizes, answered, filled, columnsOf}
+use Rattle.steinlib.specs.Import.{maxText, bounded, readText, tableOf, badColumns, badEdges, importCauses, untaken, taken, sizes, answered, filled, columnsOf}
 use Rattle.steinlib.specs.Reader.{Read, Reading, broken, whole, opening, nothingRead, readFrom}
 use Rattle.words.specs.Text.{words}
-use Rattle.stp.specs.Steps.{finished}
+use Rattle.stp.specs.steps.Reading.{finished}
 use Rattle.stp.specs.declared.lines.Step.{Step}
 
 -- causes of which one applies decide before later ones
@@ -37,13 +36,13 @@ module _ (n m : ℕ) (size : none ≡ refusal (badVertices n ∷ tooManyRows m �
   few-rows = ltb-false maxRows m (cause-none _ 2 0 (none-head _ _ (none-tail _ _ (sym size))))
 
   module _ (left right weight : List ℕ) (l : length left ≡ m) (r : length right ≡ m) (w : length weight ≡ 4 * m) where
-    pub table-rows : refusal (tableCauses (given n left right weight left)) ≡ refusal (badRow (given n left right weight left) ∷ [])
+    pub table-rows : refusal (tableCauses (callOf n left right weight left)) ≡ refusal (badRow (callOf n left right weight left) ∷ [])
     unfolding tableCauses badLengths
     table-rows = refusal-append (badVertices n ∷ tooManyRows (length left) ∷ badLengths c ∷ []) (badRow c ∷ [])
         (none-both _ _ (none-head _ _ (sym size)) (none-both _ _ (rw l (none-head _ _ (none-tail _ _ (sym size)))) (none-both _ _ lengths none-nil)))
       where
         c : Call
-        c = given n left right weight left
+        c = callOf n left right weight left
 
         lengths : badLengths c ≡ none
         lengths = none-cause _ 3 0 (rw (l, r, w, eq-eqb m m refl, eq-eqb (4 * m) (4 * m) refl))
@@ -83,7 +82,7 @@ text-short text h = rw (le-ltb _ _ h)
 -- ── What follows the refusal, if there is one ──
 
 module _ {R : Option Refusal} (x : Reading) where
-  pub answered-some : (y : Refusal) → some y ≡ R → refused y ≡ answered R x
+  pub answered-some : (y : Refusal) → some y ≡ R → untaken y ≡ answered R x
   unfolding answered
   answered-some y e = rw (← e)
 

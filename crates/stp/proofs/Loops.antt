@@ -10,8 +10,8 @@ use native.Mathlib.Omega.{arith}
 use Rattle.steinlib.specs.Reader.{Read, Stand, broken, sections}
 use Rattle.stp.specs.declared.lines.Line.{Line}
 use Rattle.stp.specs.declared.lines.Step.{Step}
-use Rattle.stp.specs.Lines.{Onward, lineResumed}
-use Rattle.stp.specs.Steps.{readOn, resumed}
+use Rattle.stp.specs.steps.Lines.{Onward, lineResumed}
+use Rattle.stp.specs.steps.Reading.{readOn, resumed}
 use Rattle.stp.proofs.Reading.{NextWord}
 use Rattle.words.specs.declared.Span.{Span}
 

@@ -16,7 +16,7 @@ use Rattle.words.proofs.Spans.{span-bounds, span-after, span-end, span-word}
 use Rattle.words.specs.Spans.{spanOf}
 use Rattle.words.specs.Text.{Word, wordsAt}
 use Rattle.words.specs.declared.Span.{Span}
-use Rattle.stp.specs.Steps.{readOn}
+use Rattle.stp.specs.steps.Reading.{readOn}
 
 -- the bytes of a word of the text, and the word
 abbrev pub part : List ℕ → Span → List ℕ

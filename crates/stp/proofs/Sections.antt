@@ -15,8 +15,8 @@ use Rattle.words.specs.Bytes.{bytes}
 use Rattle.words.specs.Names.{same, is}
 use Rattle.words.specs.Text.{wordsAt}
 use Rattle.words.specs.declared.Span.{Span}
-use Rattle.stp.specs.Steps.{resumed, finished, lineStand, lineRead}
-use Rattle.stp.specs.Sections.{headed}
+use Rattle.stp.specs.steps.Reading.{resumed, finished, lineStand, lineRead}
+use Rattle.stp.specs.steps.Sections.{headed}
 use Rattle.stp.specs.declared.Heading.{Heading}
 use Rattle.stp.specs.declared.lines.Found.{Found}
 use Rattle.stp.specs.declared.lines.Step.{Step}

@@ -10,7 +10,7 @@ use Rattle.stp.proofs.Reading.{NextWord, part, name-begun, read-end, re
 use Rattle.words.specs.Bytes.{bytes}
 use Rattle.words.specs.Names.{same, is}
 use Rattle.words.specs.declared.Span.{Span}
-use Rattle.stp.specs.Steps.{readOn}
+use Rattle.stp.specs.steps.Reading.{readOn}
 
 -- the word END
 abbrev pub end : List ℕ

@@ -7,14 +7,14 @@ use mathlib.Core.Option.{Option}
 use mathlib.Core.Path.{_≡_}
 use Rattle.refusal.specs.declared.Refusal.{Refusal}
 use Rattle.star.specs.Refusals.{refusal}
-use Rattle.steinlib.specs.Import.{Answer, refused, taken, importCauses, answered, filled, columnsOf}
+use Rattle.steinlib.specs.Import.{ImportAnswer, untaken, taken, importCauses, answered, filled, columnsOf}
 use Rattle.steinlib.specs.Reader.{Reading}
 use Rattle.stp.specs.declared.Imported.{Imported}
 use Rattle.stp.specs.declared.Imported.the-variants.{Taken, Refused}
 
-unfoldable pub answerOf : Imported → Answer
+unfoldable pub answerOf : Imported → ImportAnswer
 answerOf (Taken s) = taken (s .n) (s .m)
-answerOf (Refused r) = refused r
+answerOf (Refused r) = untaken r
 
 -- the refusal of a text that was read, with the lent columns
 abbrev pub refusalFor : Reading → List ℕ → List ℕ → List ℕ → Option Refusal

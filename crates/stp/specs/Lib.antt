@@ -1,4 +1,2 @@
-pub mod Steps
-pub mod Sections
 pub mod Answers
-pub mod Lines
+pub mod steps

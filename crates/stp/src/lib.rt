@@ -12,8 +12,8 @@ ghost use Rattle.steinlib.specs.Import.{imported, maxText, readText, tableOf, b
 ghost use Rattle.steinlib.specs.Reader.{Read, nothingRead, whole, opening, sections, naming, closed, readFrom};
 ghost use Rattle.words.specs.Names.{same};
 ghost use Rattle.words.specs.Text.{words, wordsAt};
-ghost use Rattle.stp.specs.Sections.{headed};
-ghost use Rattle.stp.specs.Steps.{readOf, resumed, finished, lineStand, lineRead};
+ghost use Rattle.stp.specs.steps.Sections.{headed};
+ghost use Rattle.stp.specs.steps.Reading.{readOf, resumed, finished, lineStand, lineRead};
 ghost use Rattle.stp.specs.Answers.{answerOf, Settled};
 use lines::Found;
 use lines::ROWS;

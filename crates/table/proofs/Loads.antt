@@ -12,7 +12,7 @@ use native.Mathlib.Omega.{arith}
 use lib.Dec.{leb, eqb, eqb·suc-zero}
 use lib.ListN.{length, getD, List·getD-eq-default}
 use borrow.Author.Tests.{le-leb, lt-leb, lt-ltb, le-ltb, eq-eqb, ne-eqb}
-use Rattle.rowset.specs.Columns.{number}
+use Rattle.rowset.specs.Columns.{inColumns}
 use Rattle.rowset.specs.Sets.{empty, upTo}
 use Rattle.rowset.specs.Bytes.{little, inRow}
 use Rattle.planes.specs.Planes.{plane, bitPlane}
@@ -23,8 +23,8 @@ use Rattle.slice.proofs.Bits.{bit-of-zero}
 use Rattle.slice.proofs.Sets.{upTo-inside, upTo-below, upTo-above}
 use Rattle.slice.proofs.Stores.{getD-within}
 use Rattle.table.specs.Tables.{blank, column, row}
-use Rattle.table.specs.Loads.{refused, loadRefusal, loadedRow, BytesHandedIn, QuadsHandedIn}
-use Rattle.table.specs.Steps.{byteIn, upperBytes}
+use Rattle.table.specs.Loads.{loadRefused, loadRefusal, loadedRow, BytesHandedIn, QuadsHandedIn}
+use Rattle.table.specs.steps.Loading.{byteIn, upperBytes}
 use Rattle.table.specs.declared.Table.{Table}
 use Rattle.rowset.proofs.Numbers.{number-split}
 use Rattle.table.proofs.Columns.{number-ext, number-bits}
@@ -57,16 +57,16 @@ module _ (t : Table) (p : Planes) (r : Table) (right : (j : ℕ) → j < 32 → 
   unfolding row byteIn
   appended small = fun-ext go
     where
-      left : (i : ℕ) → number (column r) 0 24 i ≡ number (column t) 8 24 i
+      left : (i : ℕ) → inColumns (column r) 0 24 i ≡ inColumns (column t) 8 24 i
       left i = number-ext (column r) (column t) 0 8 24 i (λ k l h. rw (zero-add k, moved-column k l (omega arith), le-leb k 24 h))
 
-      last : (i : ℕ) → number (column r) 24 8 i ≡ number (λ j. plane p (8 - j)) 0 8 i
+      last : (i : ℕ) → inColumns (column r) 24 8 i ≡ inColumns (λ j. plane p (8 - j)) 0 8 i
       last i = number-ext (column r) (λ j. plane p (8 - j)) 24 0 8 i
           (λ k l h.
           let e : 32 - (24 + k) ≡ 8 - (0 + k) = omega arith in
           rw (moved-column (24 + k) (omega arith) (omega arith), lt-leb (24 + k) 24 (omega arith), e))
 
-      go : (i : ℕ) → number (column r) 0 32 i ≡ 256 * number (column t) 0 32 i + number (λ j. plane p (8 - j)) 0 8 i
+      go : (i : ℕ) → inColumns (column r) 0 32 i ≡ 256 * inColumns (column t) 0 32 i + inColumns (λ j. plane p (8 - j)) 0 8 i
       go i = omega (arith, number-split (column r) 0 24 8 i, number-split (column t) 0 8 24 i, left i, last i, small i)
 
 -- the byte in a row of the planes of a column
@@ -81,7 +81,7 @@ module _ (l : List ℕ) (bytes : (i : ℕ) → getD l i 0 < 256) where
       back : (k : ℕ) → k < 8 → 8 - (0 + (8 - k)) ≡ k
       back k h = omega arith
 
-      go : (u : Bool) → upTo size i ≡ u → number (λ j. plane p (8 - j)) 0 8 i ≡ cond u byte 0
+      go : (u : Bool) → upTo size i ≡ u → inColumns (λ j. plane p (8 - j)) 0 8 i ≡ cond u byte 0
       go true f = number-bits (λ j. plane p (8 - j)) 0 8 byte i (bytes (offset + stride * (i - 1))) (λ k h. rw (back k h, e, f))
       go false f = number-bits (λ j. plane p (8 - j)) 0 8 0 i (omega arith) (λ k h. rw (back k h, e, f, bit-of-zero))
 
@@ -153,41 +153,41 @@ upper-all l k h = fun-ext go
     go (suc i) = by-cases (decLt size (suc i)) (past i) (within i)
 
 -- which columns are refused, and which are taken
-pub load-long : (k : ℕ) (l : List ℕ) → k * size < length l → loadRefusal k l ≡ refused 2
+pub load-long : (k : ℕ) (l : List ℕ) → k * size < length l → loadRefusal k l ≡ loadRefused 2
 unfolding loadRefusal
 load-long k l h = rw (lt-ltb (k * size) (length l) h)
 
-pub load-uneven : (k : ℕ) (l : List ℕ) → length l ≤ k * size → (length l % k ≡ 0 → ⊥) → loadRefusal k l ≡ refused 3
+pub load-uneven : (k : ℕ) (l : List ℕ) → length l ≤ k * size → (length l % k ≡ 0 → ⊥) → loadRefusal k l ≡ loadRefused 3
 unfolding loadRefusal
 load-uneven k l h n = rw (le-ltb (k * size) (length l) h, ne-eqb (length l % k) 0 n)
 
-pub load-taken : (k : ℕ) (l : List ℕ) → length l ≤ k * size → length l % k ≡ 0 → loadRefusal k l ≡ refused 0
+pub load-taken : (k : ℕ) (l : List ℕ) → length l ≤ k * size → length l % k ≡ 0 → loadRefusal k l ≡ loadRefused 0
 unfolding loadRefusal
 load-taken k l h e = rw (le-ltb (k * size) (length l) h, eq-eqb (length l % k) 0 e)
 
 -- a refused load gives zeros, and any other the numbers handed in
-pub loaded-refused : (k : ℕ) (l : List ℕ) (n : ℕ) → loadRefusal k l ≡ refused (suc n) → loadedRow k l ≡ (λ i. 0)
+pub loaded-refused : (k : ℕ) (l : List ℕ) (n : ℕ) → loadRefusal k l ≡ loadRefused (suc n) → loadedRow k l ≡ (λ i. 0)
 unfolding loadedRow
 loaded-refused k l n e = fun-ext (λ i. rw (e, eqb·suc-zero n))
 
-pub loaded-taken : (k : ℕ) (l : List ℕ) → loadRefusal k l ≡ refused 0 → loadedRow k l ≡ inRow k l
+pub loaded-taken : (k : ℕ) (l : List ℕ) → loadRefusal k l ≡ loadRefused 0 → loadedRow k l ≡ inRow k l
 unfolding loadedRow
 loaded-taken k l e = fun-ext (λ i. rw e)
 
 -- After loading, ROW gives each row as the number handed in.
 pub bytes-handed-in : (l : List ℕ) (t : Table) → length l ≤ 1024 → row t ≡ loadedRow 1 l → BytesHandedIn l t
 unfolding inRow little
-bytes-handed-in l t h e = record { loaded = λ i q. number i ∙ rw (one-mul, add-zero); rest = λ i q. number i ∙ little-past l (1 * i) 1 (omega arith) }
+bytes-handed-in l t h e = record { loaded = λ i q. inColumns i ∙ rw (one-mul, add-zero); rest = λ i q. inColumns i ∙ little-past l (1 * i) 1 (omega arith) }
   where
-    number : (i : ℕ) → row t (i + 1) ≡ little l (1 * i) 1
-    number i = rw (e ∙ loaded-taken 1 l (load-taken 1 l (omega arith) (omega arith)), add-one)
+    inColumns : (i : ℕ) → row t (i + 1) ≡ little l (1 * i) 1
+    inColumns i = rw (e ∙ loaded-taken 1 l (load-taken 1 l (omega arith) (omega arith)), add-one)
 
 pub quads-handed-in : (l : List ℕ) (t : Table) → length l ≤ 4096 → length l % 4 ≡ 0 → row t ≡ loadedRow 4 l → QuadsHandedIn l t
 unfolding inRow little
-quads-handed-in l t h m e = record { loaded = λ i q. number i ∙ simp towards-suc (omega arith); rest = λ i q. number i ∙ little-past l (4 * i) 4 q }
+quads-handed-in l t h m e = record { loaded = λ i q. inColumns i ∙ simp towards-suc (omega arith); rest = λ i q. inColumns i ∙ little-past l (4 * i) 4 q }
   where
-    number : (i : ℕ) → row t (i + 1) ≡ little l (4 * i) 4
-    number i = rw (e ∙ loaded-taken 4 l (load-taken 4 l h m), add-one)
+    inColumns : (i : ℕ) → row t (i + 1) ≡ little l (4 * i) 4
+    inColumns i = rw (e ∙ loaded-taken 4 l (load-taken 4 l h m), add-one)
 
 -- a row loaded from k bytes is below 256 ^ k
 pub loaded-below : (l : List ℕ) → ((i : ℕ) → getD l i 0 < 256) → (k i : ℕ) → loadedRow k l i < 256 ^ k

@@ -1,3 +1,3 @@
 pub mod Tables
 pub mod Loads
-pub mod Steps
+pub mod steps

@@ -13,13 +13,13 @@ use Rattle.table.specs.Tables.{row}
 use Rattle.table.specs.declared.Table.{Table}
 
 -- the refusal record with this number and place 0; number 0 says that nothing is refused
-abbrev pub refused : ℕ → Refusal
-refused n = record { number = n; place = 0 }
+abbrev pub loadRefused : ℕ → Refusal
+loadRefused n = record { number = n; place = 0 }
 
 -- The refusal of a column with k bytes a row. A column of over 1,024 bytes, or over 4,096 where a row has four, is refused 2, place 0;
 -- then one whose length is not a multiple of k is refused 3, place 0.
 unfoldable pub loadRefusal : ℕ → List ℕ → Refusal
-loadRefusal k l = cond (ltb (k * size) (length l)) (refused 2) (cond (eqb (length l % k) 0) (refused 0) (refused 3))
+loadRefusal k l = cond (ltb (k * size) (length l)) (loadRefused 2) (cond (eqb (length l % k) 0) (loadRefused 0) (loadRefused 3))
 
 -- The number in row i after a load with k bytes a row. Where the column is taken it is the number handed in, least significant byte first,
 -- and 0 in the rows past the column's end, which were never loaded; a refused load gives the table of zeros.

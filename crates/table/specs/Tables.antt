@@ -3,7 +3,7 @@
 use Prim.Native.Nat.{ℕ, zero, suc}
 use mathlib.Core.Bool.{Bool}
 use lib.ListN.{getD}
-use Rattle.rowset.specs.Columns.{number}
+use Rattle.rowset.specs.Columns.{inColumns}
 use Rattle.rowset.specs.Sets.{empty}
 pub use Rattle.planes.specs.Planes.{blank}
 use Rattle.slice.specs.Slices.{component}
@@ -20,4 +20,4 @@ column t (suc j) = component (getD (t .columns) j blank)
 
 -- the number in row i: ROW, 0 outside 1 to 1,024
 unfoldable pub row : Table → ℕ → ℕ
-row t i = number (column t) 0 width i
+row t i = inColumns (column t) 0 width i

@@ -4,8 +4,8 @@ ghost use Prim.Native.Nat.{ℕ, _+_, _*_, _≤_, _<_, _^_};
 ghost use Rattle.rowset.specs.Sets.{empty};
 ghost use Rattle.slice.specs.Slices.{component};
 ghost use Rattle.table.specs.Tables.{column, row};
-ghost use Rattle.table.specs.Loads.{refused, loadRefusal, loadedRow};
-ghost use Rattle.table.specs.Steps.{byteIn, upperBytes};
+ghost use Rattle.table.specs.Loads.{loadRefused, loadRefusal, loadedRow};
+ghost use Rattle.table.specs.steps.Loading.{byteIn, upperBytes};
 use planes::Planes;
 use refusal::Refusal;
 use slice::Slice;
@@ -102,7 +102,7 @@ fn filled(column: &[u8], count: u32) -> Table
 
 // A load that is refused: the table of zeros.
 fn declined(number: u32) -> Loaded
-    ensures refusal { λ r. ⌜ r .refusal ≡ refused number ⌝ }
+    ensures refusal { λ r. ⌜ r .refusal ≡ loadRefused number ⌝ }
     ensures rows { λ r. ⌜ row (r .table) ≡ (λ i. 0) ⌝ }
 {
     Loaded {

@@ -13,7 +13,7 @@ use native.Mathlib.Numerals.{add-one}
 use native.Mathlib.Omega.{arith}
 use Rattle.words.specs.Bytes.{within, classOf, ofWords, upper}
 use Rattle.words.specs.Names.{same}
-use Rattle.words.specs.Numbers.{maxNumber, digits, isEmpty, decimal, numberOf}
+use Rattle.words.specs.Numbers.{maxNumber, allDigits, isEmpty, decimal, numberOf}
 use Rattle.words.specs.Spans.{firstAfter, gapFrom, endFrom}
 
 module _ (text : List ℕ) (i : ℕ) where
@@ -72,7 +72,7 @@ module _ (s t : List ℕ) (i : ℕ) (inv : same (drop i s) (drop i t) ≡ same s
 
 -- the number that is read after the value v
 unfoldable pub reading : ℕ → List ℕ → Option ℕ
-reading v w = cond (digits w && leb (decimal v w) maxNumber) (some (decimal v w)) none
+reading v w = cond (allDigits w && leb (decimal v w) maxNumber) (some (decimal v w)) none
 
 pub number-empty : (w : List ℕ) → length w ≡ 0 → numberOf w ≡ none
 unfolding numberOf isEmpty
@@ -93,7 +93,7 @@ decimal-grows (b ∷ t) v = omega (arith, decimal-grows t (10 * v + (b - 48)))
 -- a value that is too large stays so
 pub reading-large : (w l : List ℕ) (v : ℕ) → reading v l ≡ numberOf w → maxNumber < v → none ≡ numberOf w
 unfolding reading
-reading-large w l v inv h = go (digits l) ∙ (rw large at inv)
+reading-large w l v inv h = go (allDigits l) ∙ (rw large at inv)
   where
     large : leb (decimal v l) maxNumber ≡ false
     large = lt-leb (decimal v l) maxNumber (omega (arith, decimal-grows l v))
@@ -104,15 +104,15 @@ reading-large w l v inv h = go (digits l) ∙ (rw large at inv)
 
 module _ (w : List ℕ) (i v : ℕ) (inv : reading v (drop i w) ≡ numberOf w) where
   pub reading-more : i < length w → within 48 57 (getD w i 0) ≡ true → reading (10 * v + (getD w i 0 - 48)) (drop (i + 1) w) ≡ numberOf w
-  unfolding reading digits decimal
+  unfolding reading allDigits decimal
   reading-more h d = rw (add-one i) (rw (drop-cons w i 0 h, d) at inv)
 
   pub reading-stop : i < length w → within 48 57 (getD w i 0) ≡ false → none ≡ numberOf w
-  unfolding reading digits decimal
+  unfolding reading allDigits decimal
   reading-stop h d = rw (drop-cons w i 0 h, d) at inv
 
   pub reading-last : length w ≤ i → v ≤ maxNumber → some v ≡ numberOf w
-  unfolding reading digits decimal
+  unfolding reading allDigits decimal
   reading-last h m = rw (drop-of-length-le w h, le-leb v maxNumber m) at inv
 
 -- the bounds of a digit

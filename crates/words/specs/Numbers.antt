@@ -12,9 +12,9 @@ abbrev pub maxNumber : ℕ
 maxNumber = 4294967295
 
 -- digits alone
-unfoldable pub digits : List ℕ → Bool
-digits [] = true
-digits (b ∷ t) = within 48 57 b && digits t
+unfoldable pub allDigits : List ℕ → Bool
+allDigits [] = true
+allDigits (b ∷ t) = within 48 57 b && allDigits t
 
 unfoldable pub isEmpty : List ℕ → Bool
 isEmpty [] = true
@@ -27,4 +27,4 @@ decimal v (b ∷ t) = decimal (10 * v + (b - 48)) t
 
 -- the number that a word is; none where it has no byte, is not digits alone, or is too large
 unfoldable pub numberOf : List ℕ → Option ℕ
-numberOf w = cond (not (isEmpty w) && digits w && leb (decimal 0 w) maxNumber) (some (decimal 0 w)) none
+numberOf w = cond (not (isEmpty w) && allDigits w && leb (decimal 0 w) maxNumber) (some (decimal 0 w)) none

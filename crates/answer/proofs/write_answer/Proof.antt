@@ -13,7 +13,7 @@ use native.Mathlib.Omega.{arith}
 use Rattle.answer.proofs.write_answer.Statement.{statement}
 use Rattle.answer.proofs.write_answer.Tie as tie
 use Rattle.answer.specs.Records.{fieldsOf}
-use Rattle.star.specs.Door.{fieldBytes, wellLent, written}
+use Rattle.star.specs.Door.{fieldBytes, wellLent, answerAfter}
 
 -- one byte more is copied
 copy-more : (s d : List ℕ) (i : ℕ) → i < length s → i < length d → take i d ≡ take i s → take (i + 1) (set d i (getD s i 0)) ≡ take (i + 1) s
@@ -30,7 +30,7 @@ abbrev μ-loop : tie.MeasureT-loop
 μ-loop answer₀ bytes i₀ answer i = 16 - i
 
 returns : tie.Need-returns Inv-loop μ-loop
-unfolding written wellLent
+unfolding answerAfter wellLent
 returns c = rw (ne-eqb (length (c .before .before .args .answer .now)) 16 (c .if1 .taken))
 
 loop-holds : tie.Need-loop-holds Inv-loop μ-loop
@@ -45,7 +45,7 @@ loop-again c = (
 )
 
 returns-2 : tie.Need-returns-2 Inv-loop μ-loop
-unfolding written wellLent
+unfolding answerAfter wellLent
 returns-2 c =
     rw (eq-eqb (length (c .before .before .before .before .before .args .answer .now)) 16 (omega arith))
     (copy-all (c .before .before .bytes-of .result) (c .before .loop .answer) (c .before .loop .i) (omega arith) (omega arith) (c .before .loop .inv .3) ∙ c .before .before .bytes-of .ensures)

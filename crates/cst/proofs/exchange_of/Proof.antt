@@ -1,6 +1,6 @@
 -- `cst::exchange_of` meets its contract: both rows fit 32 bits, and the difference of their weights does not wrap. Assumes nothing.
 use borrow.Author.Needs.{needs}
-use Rattle.cst.specs.Paths.{exchangeOf}
+use Rattle.cst.specs.steps.Paths.{exchangeOf}
 use Rattle.cst.proofs.exchange_of.Statement.{statement}
 use Rattle.cst.proofs.exchange_of.Tie as tie
 

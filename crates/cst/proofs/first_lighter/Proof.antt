@@ -9,7 +9,7 @@ use Rattle.slice.specs.Slices.{size, component}
 use Rattle.table.specs.Loads.{loadedRow}
 use Rattle.cst.proofs.Paths.{heavier-out, exchange-found, none-found}
 use Rattle.cst.proofs.Sets.{passed-over, fewer}
-use Rattle.cst.specs.Paths.{rowsAfter, someHeavier, firstHeavier}
+use Rattle.cst.specs.steps.Paths.{rowsAfter, someHeavier, firstHeavier}
 use Rattle.cst.proofs.first_lighter.Statement.{statement}
 use Rattle.cst.proofs.first_lighter.Tie as tie
 

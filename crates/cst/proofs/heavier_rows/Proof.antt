@@ -1,6 +1,6 @@
 -- `cst::heavier_rows` meets its contract: what each call ensures, put together. Assumes nothing.
 use borrow.Author.Needs.{needs}
-use Rattle.cst.specs.Paths.{heavierIn}
+use Rattle.cst.specs.steps.Paths.{heavierIn}
 use Rattle.cst.proofs.heavier_rows.Statement.{statement}
 use Rattle.cst.proofs.heavier_rows.Tie as tie
 

@@ -11,7 +11,7 @@ use lib.Seq.{paste, paste-zero, paste-suc}
 use mir.Syntax.{w64}
 use mir.Val.{Fits}
 use Rattle.rowset.specs.Words.{columnWords}
-use Rattle.slice.specs.Slices.{component, Stored}
+use Rattle.slice.specs.Slices.{component, SixteenWords}
 use Rattle.matrix.proofs.Laws.{hasColumn-below, hasColumn-above, withColumn-outside, withColumn-paste, slice-words}
 use Rattle.matrix.proofs.write_column.Statement.{statement}
 use Rattle.matrix.proofs.write_column.Tie as tie
@@ -54,7 +54,7 @@ returns-3 c =
     let all : l .k ≡ 16 = omega arith in
     let words : length (a .t3 .words) ≡ 16 = search needs in
     let small : (k : ℕ) → Fits w64 (getD (a .t3 .words) k 0) = λ k. search needs in
-    let stored : Stored (a .t3) = record { sixteen = words; fits = λ k h. small k .fits } in
+    let stored : SixteenWords (a .t3) = record { sixteen = words; fits = λ k h. small k .fits } in
     l .inv .1
     ∙ ap₂ (λ (n : ℕ) (ws : List ℕ). paste (a .matrix .now) (columnWords * (a .j - 1)) ws n) all (slice-words (a .t3) stored)
     ∙ sym (withColumn-paste (a .matrix .now) (a .j) (omega arith) (omega arith) (component (a .t3)))

@@ -8,7 +8,7 @@ use borrow.Author.Needs.{needs}
 use Rattle.slice.specs.Slices.{component}
 use Rattle.mst1.proofs.Growth.{rowIn, row-stored, filled-row, grows-none, grows-whole, cheapest-row, extend-reached}
 use Rattle.mst1.proofs.Steps.{next-none}
-use Rattle.mst1.specs.Growth.{graphBy, Reached}
+use Rattle.mst1.specs.steps.Growth.{graphBy, Reached}
 use Rattle.mst1.proofs.grow_from.Statement.{statement}
 use Rattle.mst1.proofs.grow_from.Tie as tie
 

@@ -1,6 +1,6 @@
 -- `path::arrive` meets its contract: each part of the state is what its call ensures.
 -- Assumes nothing.
-use Rattle.path.specs.Walks.{arrive}
+use Rattle.path.specs.steps.Walks.{arrive}
 use borrow.Author.Needs.{needs}
 use Rattle.path.proofs.arrive.Statement.{statement}
 use Rattle.path.proofs.arrive.Tie as tie

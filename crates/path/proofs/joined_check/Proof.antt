@@ -2,7 +2,7 @@
 -- Assumes nothing.
 use Rattle.checks.proofs.Laws.{some-cause}
 use Rattle.path.proofs.Causes.{unreached-within, unreached-beyond}
-use Rattle.path.specs.Causes.{unreachedCause}
+use Rattle.path.specs.steps.Causes.{unreachedCause}
 use Rattle.refusal.specs.Outcomes.{refusalOf}
 use Rattle.star.specs.Refusals.{causeAt}
 use borrow.Author.Needs.{needs}

@@ -1,6 +1,6 @@
 -- `path::pass` meets its contract, by what its calls ensure.
 -- Assumes nothing.
-use Rattle.path.specs.Walks.{pass}
+use Rattle.path.specs.steps.Walks.{pass}
 use borrow.Author.Needs.{needs}
 use Rattle.path.proofs.pass.Statement.{statement}
 use Rattle.path.proofs.pass.Tie as tie

@@ -1,6 +1,6 @@
 -- `path::step` meets its contract, by what its calls ensure.
 -- Assumes nothing.
-use Rattle.path.specs.Walks.{step}
+use Rattle.path.specs.steps.Walks.{step}
 use borrow.Author.Needs.{needs}
 use Rattle.path.proofs.step.Statement.{statement}
 use Rattle.path.proofs.step.Tie as tie

@@ -1,7 +1,7 @@
 -- `path::walk` meets its contract. The loop's invariant: the state is that after `k` steps from where the loop begins. The measure is what is left of the steps.
 -- Assumes nothing.
 use Prim.Native.Nat.{_-_, _^_, _≤_, _<_}
-use Rattle.path.specs.Walks.{State, endsIn, stateOf, nowhere, steps, walk}
+use Rattle.path.specs.steps.Walks.{State, endsIn, stateOf, nowhere, steps, walk}
 use Rattle.slice.specs.Slices.{component}
 use borrow.Author.Needs.{needs}
 use lib.ListN.{length}

@@ -5,7 +5,7 @@ use Prim.Native.Nat.{ℕ, _+_, _*_, _-_, _^_, _≤_, _<_}
 use denote.Ref.{now}
 use native.Mathlib.Omega.{arith}
 use borrow.Author.Needs.{needs}
-use Rattle.planes.specs.Blocks.{digits, rowByte, blockOf}
+use Rattle.planes.specs.steps.Blocks.{fromDigits, rowByte, blockOf}
 use Rattle.planes.proofs.Digits.{digits-down}
 use Rattle.planes.proofs.Words.{index-fits, block-fits}
 use Rattle.planes.proofs.block.Statement.{statement}
@@ -13,7 +13,7 @@ use Rattle.planes.proofs.block.Tie as tie
 
 abbrev Inv-loop : tie.InvT-loop
 Inv-loop column stride offset first block₀ l₀ block l =
-    (l ≤ 8) × (block ≡ digits 256 (λ l. rowByte column stride offset (first + 8 * l)) l (8 - l))
+    (l ≤ 8) × (block ≡ fromDigits 256 (λ l. rowByte column stride offset (first + 8 * l)) l (8 - l))
 
 abbrev μ-loop : tie.MeasureT-loop
 μ-loop column stride offset first block₀ l₀ block l = l
@@ -35,7 +35,7 @@ place : (c : tie.In-loop Inv-loop μ-loop) →
 place c = index-fits _ _ _ (omega arith) (omega arith) (omega arith)
 
 loop-holds : tie.Need-loop-holds Inv-loop μ-loop
-unfolding digits
+unfolding fromDigits
 loop-holds c = search needs
 
 sub-l : tie.Need-sub-l Inv-loop μ-loop

@@ -3,7 +3,7 @@
 use mathlib.Core.Path.{_≡_, refl}
 use Prim.Native.Nat.{_+_, _*_, _-_, _/_, _%_}
 use native.Mathlib.Omega.{arith}
-use Rattle.planes.specs.Blocks.{blockOf}
+use Rattle.planes.specs.steps.Blocks.{blockOf}
 use Rattle.slice.proofs.Stores.{Filled, filled-none, filled-more, filled-all}
 use Rattle.planes.proofs.gather.Statement.{statement}
 use Rattle.planes.proofs.gather.Tie as tie

@@ -3,7 +3,7 @@
 use mathlib.Core.Path.{_≡_, refl}
 use Prim.Native.Nat.{_-_}
 use native.Mathlib.Omega.{arith}
-use Rattle.planes.specs.Blocks.{wordOf}
+use Rattle.planes.specs.steps.Blocks.{wordOf}
 use Rattle.slice.proofs.Stores.{Filled, filled-none, filled-more, filled-all}
 use Rattle.planes.proofs.plane.Statement.{statement}
 use Rattle.planes.proofs.plane.Tie as tie

@@ -1,7 +1,7 @@
 -- `search::grow` meets its contract, in each of its two cases.
 -- Assumes nothing.
 use borrow.Author.Needs.{needs}
-use Rattle.search.specs.Steps.{grown}
+use Rattle.search.specs.steps.Column.{grown}
 use Rattle.search.proofs.grow.Statement.{statement}
 use Rattle.search.proofs.grow.Tie as tie
 

@@ -1,7 +1,7 @@
 -- `search::keep` meets its contract, in each of its two cases.
 -- Assumes nothing.
 use borrow.Author.Needs.{needs}
-use Rattle.search.specs.Steps.{kept}
+use Rattle.search.specs.steps.Column.{kept}
 use Rattle.search.proofs.keep.Statement.{statement}
 use Rattle.search.proofs.keep.Tie as tie
 

@@ -1,7 +1,7 @@
 -- `search::prefer` meets its contract, in each of its two cases.
 -- Assumes nothing.
 use borrow.Author.Needs.{needs}
-use Rattle.search.specs.Steps.{preferred}
+use Rattle.search.specs.steps.Column.{preferred}
 use Rattle.search.proofs.prefer.Statement.{statement}
 use Rattle.search.proofs.prefer.Tie as tie
 

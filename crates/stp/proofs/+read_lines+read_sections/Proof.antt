@@ -17,8 +17,8 @@ use Rattle.stp.proofs.read_sections.Kinds as read-sections-kinds
 use Rattle.stp.proofs.+read_lines+read_sections.Lts-read_sections as read-sections-lts
 use Rattle.stp.proofs.open_section.Reads as open-section-reads
 use Rattle.stp.proofs.section_lines.Reads as section-lines-reads
-use Rattle.stp.specs.Sections.{headed}
-use Rattle.stp.specs.Steps.{readOf, finished}
+use Rattle.stp.specs.steps.Sections.{headed}
+use Rattle.stp.specs.steps.Reading.{readOf, finished}
 use Rattle.stp.proofs.Sections.{resumed-stopped, resumed-on, headed-shut, headed-begun}
 use Rattle.stp.proofs.+read_lines+read_sections.{statement}
 use Rattle.stp.proofs.+read_lines+read_sections.Tie.{close}

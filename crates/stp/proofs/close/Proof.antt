@@ -2,7 +2,7 @@
 use borrow.Author.Needs.{needs}
 use mathlib.Core.Path.{refl}
 use native.Mathlib.Omega.{arith}
-use Rattle.stp.specs.Steps.{finished}
+use Rattle.stp.specs.steps.Reading.{finished}
 use Rattle.stp.proofs.Reading.{next-word}
 use Rattle.stp.proofs.Sections.{closed-read}
 use Rattle.stp.proofs.close.Statement.{statement}

@@ -5,7 +5,7 @@ use mathlib.Core.Option.{none}
 use mathlib.Core.Path.{_≡_, sym, ap, _∙_}
 use Rattle.refusal.specs.Outcomes.{refusalOf}
 use Rattle.star.specs.Refusals.{badVertices, tooManyRows, refusal}
-use Rattle.stp.specs.Steps.{readOf}
+use Rattle.stp.specs.steps.Reading.{readOf}
 use Rattle.stp.proofs.Importing.{broken-refused, edges-refused, size-first, size-taken}
 use Rattle.stp.proofs.import_check.Statement.{statement}
 use Rattle.stp.proofs.import_check.Tie as tie

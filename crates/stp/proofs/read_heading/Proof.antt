@@ -6,7 +6,7 @@ use mathlib.Core.Path.{refl, sym, ap, _∙_}
 use native.Mathlib.Omega.{arith}
 use Rattle.words.specs.Bytes.{bytes}
 use Rattle.words.proofs.Spans.{words-start}
-use Rattle.stp.specs.Steps.{resumed}
+use Rattle.stp.specs.steps.Reading.{resumed}
 use Rattle.stp.proofs.Reading.{NextWord, next-word}
 use Rattle.stp.proofs.Sections.{resumed-broken, opening-refused, opening-taken}
 use Rattle.stp.proofs.read_heading.Statement.{statement}

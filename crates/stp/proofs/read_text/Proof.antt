@@ -3,7 +3,7 @@ use borrow.Author.Needs.{needs}
 use mathlib.Core.Path.{refl, sym, ap, _∙_}
 use native.Mathlib.Omega.{arith}
 use Rattle.steinlib.specs.Reader.{nothingRead}
-use Rattle.stp.specs.Steps.{readOf}
+use Rattle.stp.specs.steps.Reading.{readOf}
 use Rattle.stp.proofs.Importing.{text-long, text-short}
 use Rattle.stp.proofs.Sections.{finished-broken, resumed-broken, resumed-on}
 use Rattle.stp.proofs.read_text.Statement.{statement}

@@ -10,7 +10,7 @@ use native.Mathlib.Omega.{arith}
 use Rattle.refusal.specs.Outcomes.{refusalOf}
 use Rattle.star.proofs.Accepted.{none-cons}
 use Rattle.steinlib.specs.Import.{tableOf}
-use Rattle.stp.specs.Steps.{readOf}
+use Rattle.stp.specs.steps.Reading.{readOf}
 use Rattle.stp.proofs.Importing.{few-rows, table-rows, columns-right, columns-first}
 use Rattle.stp.proofs.rows_check.Statement.{statement}
 use Rattle.stp.proofs.rows_check.Tie as tie

@@ -2,7 +2,7 @@
 use borrow.Author.Needs.{needs}
 use mathlib.Core.Path.{refl, sym, ap, _∙_}
 use native.Mathlib.Omega.{arith}
-use Rattle.stp.specs.Steps.{resumed, lineStand, lineRead}
+use Rattle.stp.specs.steps.Reading.{resumed, lineStand, lineRead}
 use Rattle.stp.proofs.section_lines.Statement.{statement}
 use Rattle.stp.proofs.section_lines.Tie as tie
 

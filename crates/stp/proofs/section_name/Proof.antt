@@ -6,7 +6,7 @@ use mathlib.Core.Logic.{inl, inr, ⊎-elim}
 use mathlib.Core.Path.{refl, sym, ap, _∙_}
 use native.Mathlib.Omega.{arith}
 use Rattle.words.specs.Bytes.{bytes}
-use Rattle.stp.specs.Sections.{headed}
+use Rattle.stp.specs.steps.Sections.{headed}
 use Rattle.stp.proofs.Reading.{NextWord, next-word}
 use Rattle.stp.proofs.Sections.{Unopened, unopened-step, finished-broken, name-first, name-missing, name-again, name-taken}
 use Rattle.stp.proofs.section_name.Statement.{statement}

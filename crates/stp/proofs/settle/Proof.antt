@@ -9,7 +9,7 @@ use native.Mathlib.Omega.{arith}
 use Rattle.refusal.specs.Outcomes.{refusalOf}
 use Rattle.steinlib.specs.Reader.{Read}
 use Rattle.stp.specs.Answers.{answerOf, refusalFor}
-use Rattle.stp.specs.Steps.{readOf, finished}
+use Rattle.stp.specs.steps.Reading.{readOf, finished}
 use Rattle.stp.proofs.Importing.{Clear, clear, whole-columns, whole-sizes, answered-some, answered-none, filled-some, filled-none}
 use Rattle.stp.proofs.settle.Statement.{statement}
 use Rattle.stp.proofs.settle.Tie as tie

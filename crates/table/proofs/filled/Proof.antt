@@ -5,7 +5,7 @@ use mathlib.Core.Path.{_≡_, sym, _∙_, fun-ext}
 use native.Mathlib.Omega.{arith}
 use borrow.Author.Needs.{needs}
 use Rattle.table.specs.Tables.{row}
-use Rattle.table.specs.Steps.{upperBytes}
+use Rattle.table.specs.steps.Loading.{upperBytes}
 use Rattle.table.proofs.Loads.{upper-none, upper-more, upper-below}
 use Rattle.table.proofs.filled.Statement.{statement}
 use Rattle.table.proofs.filled.Tie as tie

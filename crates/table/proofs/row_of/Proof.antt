@@ -9,7 +9,7 @@ use lib.ListN.{length}
 use lib.Pow.{pow-mono}
 use mir.Val.{boolByte}
 use borrow.Author.Needs.{needs}
-use Rattle.rowset.specs.Columns.{number}
+use Rattle.rowset.specs.Columns.{inColumns}
 use Rattle.slice.proofs.Stores.{length-unmap}
 use Rattle.table.specs.Tables.{column, row}
 use Rattle.table.specs.declared.Table.{Table}
@@ -20,7 +20,7 @@ use Rattle.table.proofs.row_of.Statement.{statement}
 use Rattle.table.proofs.row_of.Tie as tie
 
 abbrev Inv-loop : tie.InvT-loop
-Inv-loop i t r₀ j₀ r j = (j ≤ 32) × (r ≡ number (column t) 0 j i)
+Inv-loop i t r₀ j₀ r j = (j ≤ 32) × (r ≡ inColumns (column t) 0 j i)
 
 abbrev μ-loop : tie.MeasureT-loop
 μ-loop i t r₀ j₀ r j = 32 - j
@@ -28,8 +28,8 @@ abbrev μ-loop : tie.MeasureT-loop
 -- with one column more r is the number in the first j + 1 columns, which fits
 grown : (c : tie.After-get Inv-loop μ-loop) →
     c .before .before .before .loop .r * 2 + boolByte (c .get .result)
-    ≡ number (column (c .before .before .before .before .args .t1)) 0 (c .before .before .before .loop .j + 1) (c .before .before .before .before .args .i)
-unfolding number
+    ≡ inColumns (column (c .before .before .before .before .args .t1)) 0 (c .before .before .before .loop .j + 1) (c .before .before .before .before .args .i)
+unfolding inColumns
 grown c =
     let t = c .before .before .before .before .args .t1 in
     let i = c .before .before .before .before .args .i in
@@ -38,11 +38,11 @@ grown c =
     let bit : c .get .result ≡ column t (suc j) i = c .get .ensures ∙ ap (λ f. f i) (column-at t j _ (omega arith)) in
     rw (add-one, zero-add) (omega (arith, as-number (c .get .result) bit))
 
-fits : (t : Table) (i j n : ℕ) → j ≤ n → number (column t) 0 j i < 2 ^ n
+fits : (t : Table) (i j n : ℕ) → j ≤ n → inColumns (column t) 0 j i < 2 ^ n
 fits t i j n h = lt-of-lt-of-le (number-below (column t) 0 j i) (pow-mono h)
 
 loop-holds : tie.Need-loop-holds Inv-loop μ-loop
-unfolding number
+unfolding inColumns
 loop-holds c = search needs
 
 mul-r : tie.Need-mul-r Inv-loop μ-loop

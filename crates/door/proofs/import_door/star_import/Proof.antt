@@ -6,11 +6,11 @@ use mathlib.Core.Path.{refl, ap, _∙_}
 use native.Mathlib.Omega.{arith}
 use Rattle.door.proofs.import_door.star_import.Statement.{statement}
 use Rattle.door.proofs.import_door.star_import.Tie as tie
-use Rattle.star.specs.Door.{written, wellLent, doorReturns}
-use Rattle.steinlib.specs.Door.{fields, importDoor, leftDoor, rightDoor, weightDoor}
+use Rattle.star.specs.Door.{answerAfter, wellLent, doorReturns}
+use Rattle.steinlib.specs.Door.{importFields, importDoor, leftDoor, rightDoor, weightDoor}
 
 returns : tie.Need-returns
-unfolding doorReturns wellLent importDoor written leftDoor rightDoor weightDoor
+unfolding doorReturns wellLent importDoor answerAfter leftDoor rightDoor weightDoor
 returns c = rw (ne-eqb (length (c .before .before .before .before .before .before .args .answer .now)) 16 (λ e. omega arith)) (refl, (refl, (refl, (refl, refl))))
 
 returns-2 : tie.Need-returns-2
@@ -18,7 +18,7 @@ unfolding doorReturns wellLent importDoor leftDoor rightDoor weightDoor
 returns-2 c =
     rw (eq-eqb (length (c .before .before .before .before .before .before .before .before .before .before .before .before .before .before .before .before .before .before .before .before .before .args .answer .now)) 16 (omega arith)) (
       refl,
-      (c .before .before .write-answer .ensures ∙ ap (written _) (c .before .before .before .before .of-imported .ensures ∙ ap fields (c .before .before .before .before .before .before .before .before .before .before .before .import .ensures .0)), c .before .before .before .before .before .before .before .before .before .before .before .import .ensures .1),
+      (c .before .before .write-answer .ensures ∙ ap (answerAfter _) (c .before .before .before .before .of-imported .ensures ∙ ap importFields (c .before .before .before .before .before .before .before .before .before .before .before .import .ensures .0)), c .before .before .before .before .before .before .before .before .before .before .before .import .ensures .1),
     )
 
 pub star-import-spec : {M : Type 1} → statement M

@@ -5,7 +5,7 @@ use native.Mathlib.Omega.{arith}
 use borrow.Author.Needs.{needs}
 use borrow.Author.Tests.{not-true}
 use mathlib.Core.Path.{sym, _∙_}
-use Rattle.rowset.specs.Columns.{number}
+use Rattle.rowset.specs.Columns.{inColumns}
 use Rattle.matrix.specs.Matrix.{matrixColumn}
 use Rattle.search.proofs.Loops.{Compared, compared-start, compared-more, compared-none, compared-all}
 use Rattle.search.proofs.lent.great_from.Statement.{statement}
@@ -18,13 +18,13 @@ abbrev μ-loop : tie.MeasureT-loop
 μ-loop words first w g₀ z₀ j₀ g z j = 32 - j
 
 returns : tie.Need-returns Inv-loop μ-loop
-unfolding number
+unfolding inColumns
 returns c =
     let empty = not-true _ (sym (c .before .zero .ensures) ∙ c .if1 .taken) in
     compared-none _ _ _ _ _ _ _ _ (omega arith) empty (c .before .before .before .before .begin .ensures) (c .before .before .before .loop .inv)
 
 returns-2 : tie.Need-returns-2 Inv-loop μ-loop
-unfolding number
+unfolding inColumns
 returns-2 c = compared-all _ _ _ _ _ _ _ _ (omega arith) (c .before .before .begin .ensures) (c .before .loop .inv)
 
 loop-again : tie.Need-loop-again Inv-loop μ-loop

@@ -6,7 +6,7 @@ use native.Mathlib.Omega.{arith}
 use Rattle.steinlib.specs.Reader.{Read, lines}
 use Rattle.stp.proofs.Counts.{stopped}
 use Rattle.stp.proofs.Graphs.{left-stops, right-stops, price-stops, price-leads, row-read}
-use Rattle.stp.specs.Steps.{readOn, resumed}
+use Rattle.stp.specs.steps.Reading.{readOn, resumed}
 use Rattle.stp.proofs.lines.edge.Statement.{statement}
 use Rattle.stp.proofs.lines.edge.Tie as tie
 

@@ -7,8 +7,8 @@ use mathlib.Core.Path.{_≡_, refl, sym, _∙_}
 use native.Mathlib.Omega.{arith}
 use Rattle.steinlib.specs.Reader.{lines}
 use Rattle.stp.proofs.Loops.{Lies, lies-more, left-over, left-less, resumes-more, resumes-over}
-use Rattle.stp.specs.Lines.{lineResumed}
-use Rattle.stp.specs.Steps.{readOn, readOf, resumed}
+use Rattle.stp.specs.steps.Lines.{lineResumed}
+use Rattle.stp.specs.steps.Reading.{readOn, readOf, resumed}
 use Rattle.stp.proofs.lines.edge_lines.Statement.{statement}
 use Rattle.stp.proofs.lines.edge_lines.Tie as tie
 

@@ -8,8 +8,8 @@ use native.Mathlib.Omega.{arith}
 use Rattle.stp.proofs.Graphs.{e-name, line-later, line-edge, line-end, line-other, edge-resumed}
 use Rattle.stp.proofs.Loops.{line-stops, onward-stops, onward-over, onward-edge}
 use Rattle.stp.proofs.Reading.{NextWord, next-word, name-begun}
-use Rattle.stp.specs.Lines.{lineResumed}
-use Rattle.stp.specs.Steps.{resumed}
+use Rattle.stp.specs.steps.Lines.{lineResumed}
+use Rattle.stp.specs.steps.Reading.{resumed}
 use Rattle.stp.specs.declared.lines.Found.{Found}
 use Rattle.stp.proofs.lines.graph_line.Statement.{statement}
 use Rattle.stp.proofs.lines.graph_line.Tie as tie

@@ -6,7 +6,7 @@ use native.Mathlib.Omega.{arith}
 use Rattle.steinlib.specs.Reader.{withGraph, withNodes, withEdges}
 use Rattle.stp.proofs.Counts.{stopped}
 use Rattle.stp.proofs.Graphs.{nodes-stops, edges-stops, edges-leads}
-use Rattle.stp.specs.Steps.{readOf}
+use Rattle.stp.specs.steps.Reading.{readOf}
 use Rattle.stp.proofs.lines.graph_lines.Statement.{statement}
 use Rattle.stp.proofs.lines.graph_lines.Tie as tie
 

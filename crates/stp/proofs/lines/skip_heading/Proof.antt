@@ -13,7 +13,7 @@ use Rattle.stp.proofs.Reading.{NextWord, next-word}
 use Rattle.stp.proofs.Skips.{heading-on, heading-over, heading-end}
 use Rattle.stp.proofs.lines.skip_heading.Statement.{statement}
 use Rattle.stp.proofs.lines.skip_heading.Tie as tie
-use Rattle.stp.specs.Steps.{readOn}
+use Rattle.stp.specs.steps.Reading.{readOn}
 
 abbrev Inv-loop : tie.InvT-loop
 Inv-loop text at p₀ w₀ p w =

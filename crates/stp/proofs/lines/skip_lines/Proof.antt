@@ -10,8 +10,8 @@ use Rattle.steinlib.specs.Reader.{Read, skipping, skipped}
 use Rattle.stp.proofs.Loops.{Lies, lies-more, left-over, left-less, resumes-more, resumes-over, step-stops}
 use Rattle.stp.proofs.Reading.{NextWord, next-word}
 use Rattle.stp.proofs.Skips.{name-line-on, name-line-over}
-use Rattle.stp.specs.Lines.{lineResumed}
-use Rattle.stp.specs.Steps.{readOn, resumed}
+use Rattle.stp.specs.steps.Lines.{lineResumed}
+use Rattle.stp.specs.steps.Reading.{readOn, resumed}
 use Rattle.stp.proofs.lines.skip_lines.Statement.{statement}
 use Rattle.stp.proofs.lines.skip_lines.Tie as tie
 

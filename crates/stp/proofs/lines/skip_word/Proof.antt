@@ -7,8 +7,8 @@ use mathlib.Core.Path.{refl, sym, _∙_}
 use Rattle.stp.proofs.Loops.{line-stops, onward-stops, onward-over, onward-more}
 use Rattle.stp.proofs.Reading.{NextWord, next-word, begun-word}
 use Rattle.stp.proofs.Skips.{skipped-end, skipped-later, skipped-other, skipped-ending, ending-alone, ending-last, ending-more}
-use Rattle.stp.specs.Lines.{lineResumed}
-use Rattle.stp.specs.Steps.{resumed}
+use Rattle.stp.specs.steps.Lines.{lineResumed}
+use Rattle.stp.specs.steps.Reading.{resumed}
 use Rattle.stp.proofs.lines.skip_word.Statement.{statement}
 use Rattle.stp.proofs.lines.skip_word.Tie as tie
 

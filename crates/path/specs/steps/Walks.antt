@@ -3,7 +3,7 @@
 use Prim.Native.Nat.{ℕ, zero, suc, _-_}
 use mathlib.Core.Bool.{Bool, true, cond}
 use mathlib.Core.List.{List}
-use Rattle.rowset.specs.Columns.{number}
+use Rattle.rowset.specs.Columns.{inColumns}
 use Rattle.rowset.specs.Searches.{equalTo}
 use Rattle.rowset.specs.Sets.{empty, either, oneOf, uppermost}
 use Rattle.matrix.specs.Matrix.{matrixColumn, withColumn}
@@ -32,7 +32,7 @@ stateOf x words =
 
 -- the ends in a table of bytes, of which the words are given: the numbers in its last eight columns
 abbrev pub endsIn : List ℕ → ℕ → ℕ
-endsIn words = number (matrixColumn words) 24 (width - 24)
+endsIn words = inColumns (matrixColumn words) 24 (width - 24)
 
 -- no vertex is reached
 unfoldable pub nowhere : List ℕ → State

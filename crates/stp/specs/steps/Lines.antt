@@ -5,17 +5,17 @@ use mathlib.Core.Bool.{true, false, cond, _&&_}
 use mathlib.Core.List.{List}
 use mathlib.Core.Path.{_≡_}
 use lib.ListN.{length}
-use Rattle.steinlib.specs.Reader.{Read, Stand, Reading, sections, broken, when, number, next, isClosed}
+use Rattle.steinlib.specs.Reader.{Read, Stand, Reading, sections, broken, when, numberThen, next, isClosed}
 use Rattle.stp.specs.declared.lines.Counted.{Counted}
 use Rattle.stp.specs.declared.lines.Line.{Line}
-use Rattle.stp.specs.Steps.{readOn, resumed}
+use Rattle.stp.specs.steps.Reading.{readOn, resumed}
 use Rattle.words.specs.Names.{same}
 use Rattle.words.specs.Text.{Word}
 
 -- where the reader stands, a number comes next, which leads to f
 pub record Awaits (s : Stand) (r : Read) (f : ℕ → Stand × Read) : Type 0 where
   pub unclosed : isClosed s ≡ false
-  pub word : (w : Word) → next s r w ≡ number w f
+  pub word : (w : Word) → next s r w ≡ numberThen w f
 
 -- where the reader stands, a line comes next that begins with a name, which leads to s'
 pub record Expects (name : List ℕ) (s : Stand) (r : Read) (s' : Stand) : Type 0 where

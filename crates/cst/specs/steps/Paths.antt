@@ -6,7 +6,7 @@ use mathlib.Core.List.{List}
 use mathlib.Core.Option.{none}
 use mathlib.Core.Path.{_≡_}
 use Rattle.rowset.specs.Bytes.{inRow}
-use Rattle.rowset.specs.Columns.{number}
+use Rattle.rowset.specs.Columns.{inColumns}
 use Rattle.rowset.specs.Searches.{greaterThan}
 use Rattle.rowset.specs.Sets.{both, oneOf, any, uppermost}
 use Rattle.matrix.specs.Matrix.{matrixColumn}
@@ -20,7 +20,7 @@ use Rattle.cst.specs.declared.Exchange.{Exchange}
 
 -- the number in each row of a table's words, read from the columns after the first ones
 abbrev pub rowsAfter : List ℕ → ℕ → ℕ → ℕ
-rowsAfter words first = number (matrixColumn words) first (width - first)
+rowsAfter words first = inColumns (matrixColumn words) first (width - first)
 
 -- of the xor of the columns of row i's ends, the rows whose number in the table of weights f is greater than row i's weight
 unfoldable pub heavierIn : (f : ℕ → ℕ) → (matrix left right weight : List ℕ) → ℕ → ℕ → Bool

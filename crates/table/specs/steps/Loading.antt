@@ -4,7 +4,7 @@ use Prim.Native.Nat.{ℕ, _+_, _-_, _*_}
 use mathlib.Core.Bool.{cond}
 use mathlib.Core.List.{List}
 use Rattle.rowset.specs.Bytes.{little}
-use Rattle.rowset.specs.Columns.{number}
+use Rattle.rowset.specs.Columns.{inColumns}
 use Rattle.rowset.specs.Sets.{upTo}
 use Rattle.planes.specs.Planes.{plane}
 use Rattle.slice.specs.Slices.{size}
@@ -12,7 +12,7 @@ use Rattle.planes.specs.declared.Planes.{Planes}
 
 -- the byte in row i of eight planes, of which the last is the most significant
 unfoldable pub byteIn : Planes → ℕ → ℕ
-byteIn p i = number (λ j. plane p (8 - j)) 0 8 i
+byteIn p i = inColumns (λ j. plane p (8 - j)) 0 8 i
 
 -- the number in row i of 1 to 1,024 of a column with k bytes a row, without its lowest j bytes
 unfoldable pub upperBytes : List ℕ → ℕ → ℕ → ℕ → ℕ

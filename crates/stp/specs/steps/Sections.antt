@@ -6,7 +6,7 @@ use mathlib.Core.List.{List}
 use lib.ListN.{length}
 use Rattle.steinlib.specs.Reader.{Read, Reading, readFrom}
 use Rattle.words.specs.Text.{wordsAt}
-use Rattle.stp.specs.Steps.{finished, lineStand, lineRead}
+use Rattle.stp.specs.steps.Reading.{finished, lineStand, lineRead}
 use Rattle.stp.specs.declared.Heading.{Heading}
 
 -- the lines of the section that has opened, or the end of reading
