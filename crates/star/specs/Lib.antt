@@ -1,5 +1,6 @@
 pub mod Call
 pub mod Refusals
+pub mod Accepted
 pub mod MatrixPath
 pub mod Cst
 pub mod Mst1
