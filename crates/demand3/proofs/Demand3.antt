@@ -39,16 +39,16 @@ unfolding inRow
 byte-none l = refl
 
 -- a refusal is not none, and the answers are told apart
-apart : (r : Refusal) → _≡_ {A = Option Refusal} (some r) none → ⊥
+pub apart : (r : Refusal) → _≡_ {A = Option Refusal} (some r) none → ⊥
 apart r e = let z : _≡_ {A = ℕ} 0 1 = cc in omega arith
 
-refused-passed : {x : Answer} {r : Refusal} {weight : ℕ} → x ≡ refused r → x ≡ passed weight → ⊥
+pub refused-passed : {x : Answer} {r : Refusal} {weight : ℕ} → x ≡ refused r → x ≡ passed weight → ⊥
 refused-passed e h = let z : _≡_ {A = ℕ} 0 1 = cc in omega arith
 
-refused-lighter : {x : Answer} {r : Refusal} {out into saving : ℕ} → x ≡ refused r → x ≡ lighter out into saving → ⊥
+pub refused-lighter : {x : Answer} {r : Refusal} {out into saving : ℕ} → x ≡ refused r → x ≡ lighter out into saving → ⊥
 refused-lighter e h = let z : _≡_ {A = ℕ} 0 1 = cc in omega arith
 
-passed-lighter : {x : Answer} {weight out into saving : ℕ} → x ≡ passed weight → x ≡ lighter out into saving → ⊥
+pub passed-lighter : {x : Answer} {weight out into saving : ℕ} → x ≡ passed weight → x ≡ lighter out into saving → ⊥
 passed-lighter e h = let z : _≡_ {A = ℕ} 0 1 = cc in omega arith
 
 length-exchanged : (l : List ℕ) (out into : ℕ) → length (exchanged l out into) ≡ length l
@@ -378,6 +378,23 @@ grown-passed c a f z = least-passed d b least ∙ ap (λ S. passed (sum (rowsOf 
 
     least : LeastClaim d
     least = least-claim d b (claim-tree c a (f .chosen) t) (subst (λ (S : ℕ → Bool). Least (graphOf c) (weightOf c) S) (sym rows) (built-least (graphOf c) (ok c a) (weightOf c) f z))
+
+-- the table with the marks that were built is accepted
+pub built-accepted : (c : Call) → Accepted c → (weight : ℕ) → mst1 c ≡ passed weight → Accepted (withClaim c (mst1Marks c))
+built-accepted c a weight e =
+    elim (growth c a) [
+      | unbuilt z x ↦ absurd (refused-passed x e)
+      | grown f z x k ↦ accepted-claim c (mst1Marks c) (ap length k ∙ claimOf-length (rowsOf c) (f .chosen) ∙ sym (taken c a .mark-length)) a
+    ]
+
+-- the builder's answer is no exchange
+pub built-lighter : (c : Call) (out into saving : ℕ) → mst1 c ≡ lighter out into saving → ⊥
+unfolding mst1 built
+built-lighter c out into saving e = go (refusal (mst1Causes c)) e
+  where
+    go : (o : Option Refusal) → built c o ≡ lighter out into saving → ⊥
+    go none h = passed-lighter refl h
+    go (some r) h = refused-lighter refl h
 
 -- what is built is passed, with the weight that was stated
 built-passed : (c : Call) → Accepted c → (weight : ℕ) → mst1 c ≡ passed weight → cst (withClaim c (mst1Marks c)) ≡ passed weight
