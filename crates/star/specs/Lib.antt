@@ -6,3 +6,5 @@ pub mod Cst
 pub mod Mst1
 pub mod Door
 pub mod Trials
+pub mod RefusalTrials
+pub mod AnswerTrials
