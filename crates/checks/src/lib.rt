@@ -1,17 +1,15 @@
 // The checks that every procedure makes of a table, and CST and MatrixPath of a claim: causes 1 to 6 and 9, each for columns of any bytes and any lengths.
 // Rows are counted from 1; 0 is no row, and a byte past a column's end reads 0.
 ghost use Prim.Native.Nat.{ℕ, _≤_};
-ghost use mathlib.Core.Bool.{_||_};
 ghost use mathlib.Core.List.{List, [], _∷_, _++_};
 ghost use mathlib.Core.Path.{_≡_};
-ghost use lib.Dec.{ltb};
 ghost use lib.ListN.{length, getD};
 ghost use Rattle.rowset.specs.Bytes.{inRow};
 ghost use Rattle.rowset.specs.Sets.{uppermost, count};
 ghost use Rattle.refusal.specs.Outcomes.{refusalOf};
 ghost use Rattle.star.specs.Call.{marked, callOf};
-ghost use Rattle.star.specs.Refusals.{maxRows, maxVertices, cause, causeAt, orElse, badVertices, tooManyRows, wrongLengths, wrongEnds, wrongMark, wrongCount, badClaim, rowCauses, tableCauses, refusal};
-ghost use Rattle.checks.specs.steps.Rows.{faulty, otherByte};
+ghost use Rattle.star.specs.Refusals.{maxRows, cause, causeAt, orElse, refusal, badVertices, tooManyRows, wrongLengths, wrongEnds, wrongByte, wrongCount, badClaim, rowCauses, tableCauses};
+ghost use Rattle.checks.specs.steps.Rows.{faulty};
 use refusal::Outcome;
 use refusal::Refusal;
 
@@ -173,7 +171,7 @@ pub fn table_check(n: u32, left: &[u8], right: &[u8], weight: &[u8], mark: &[u8]
 // The uppermost of the first m bytes of a claim that is other than 0 and 1, 0 where there is none.
 fn first_bad_mark(m: usize, mark: &[u8]) -> usize
     requires { ⌜ m ≤ maxRows ⌝ }
-    ensures { λ r. ⌜ r ≡ uppermost m (otherByte (now (mark .entry))) ⌝ }
+    ensures { λ r. ⌜ r ≡ uppermost m (wrongByte (now (mark .entry))) ⌝ }
 {
     let mut i = 1;
     while i <= m {

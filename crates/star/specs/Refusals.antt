@@ -69,11 +69,11 @@ badRow c =
     causeAt (cond (badEnds c i) 4 5) i
 
 -- 6: a claim byte other than 0 and 1
-abbrev pub wrongMark : (m : ℕ) → (mark : List ℕ) → Option Refusal
-wrongMark m mark = causeAt 6 (uppermost m (λ i. ltb 1 (inRow 1 mark i)))
+abbrev pub wrongByte : (mark : List ℕ) → ℕ → Bool
+wrongByte mark i = ltb 1 (inRow 1 mark i)
 
 unfoldable pub badClaim : Call → Option Refusal
-badClaim c = wrongMark (rowsOf c) (c .mark)
+badClaim c = causeAt 6 (uppermost (rowsOf c) (wrongByte (c .mark)))
 
 -- 7: s is 0 or above n
 abbrev pub wrongSource : (n s : ℕ) → Option Refusal

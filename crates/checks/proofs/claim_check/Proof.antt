@@ -6,9 +6,8 @@ use lib.ListN.{length}
 use mathlib.Core.Path.{sym, ap, _∙_}
 use native.Mathlib.Omega.{arith}
 use Rattle.refusal.specs.Outcomes.{refusalOf}
-use Rattle.star.specs.Refusals.{maxRows, causeAt, badClaim}
+use Rattle.star.specs.Refusals.{maxRows, causeAt, wrongByte, badClaim}
 use Rattle.star.proofs.Accepted.{taken}
-use Rattle.checks.specs.steps.Rows.{otherByte}
 use Rattle.checks.proofs.Laws.{uppermost-bound, refused-first, done-next, claim-in-order}
 use Rattle.checks.proofs.claim_check.Statement.{statement}
 use Rattle.checks.proofs.claim_check.Tie as tie
@@ -27,7 +26,7 @@ first-bad-mark-requires c κs = rows c
 cast-refused-at : tie.Need-cast-refused-at
 cast-refused-at c =
     let x = c .before .before .before .before .before .before .before .before .args in
-    omega (arith, rows (c .before), uppermost-bound _ _ (otherByte (x .mark .now)) (c .first-bad-mark .ensures))
+    omega (arith, rows (c .before), uppermost-bound _ _ (wrongByte (x .mark .now)) (c .first-bad-mark .ensures))
 
 returns-2 : tie.Need-returns-2
 unfolding badClaim

@@ -3,13 +3,13 @@
 use Prim.Native.Nat.{_+_, _-_, _≤_}
 use borrow.Author.Tests.{lt-ltb, le-ltb}
 use native.Mathlib.Omega.{arith}
-use Rattle.checks.specs.steps.Rows.{otherByte}
+use Rattle.star.specs.Refusals.{wrongByte}
 use Rattle.checks.proofs.Laws.{Passed, passed-none, passed-more, passed-found, passed-all}
 use Rattle.checks.proofs.first_bad_mark.Statement.{statement}
 use Rattle.checks.proofs.first_bad_mark.Tie as tie
 
 abbrev Inv-loop : tie.InvT-loop
-Inv-loop m mark i₀ i = (1 ≤ i) × (i ≤ m + 1) × Passed (otherByte mark) i
+Inv-loop m mark i₀ i = (1 ≤ i) × (i ≤ m + 1) × Passed (wrongByte mark) i
 
 abbrev μ-loop : tie.MeasureT-loop
 μ-loop m mark i₀ i = m + 1 - i

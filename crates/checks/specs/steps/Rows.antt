@@ -1,4 +1,4 @@
--- The rows that the checks look for from the top.
+-- The rows that the table's check looks for from the top.
 -- Assumes nothing.
 use Prim.Native.Nat.{ℕ}
 use lib.Dec.{ltb}
@@ -10,7 +10,3 @@ use Rattle.star.specs.Refusals.{maxWeight, wrongEnds}
 -- the rows with wrong ends or a weight above the largest
 abbrev pub faulty : ℕ → (left right weight : List ℕ) → ℕ → Bool
 faulty n left right weight i = wrongEnds n (inRow 1 left i) (inRow 1 right i) || ltb maxWeight (inRow 4 weight i)
-
--- the bytes of a claim other than 0 and 1
-abbrev pub otherByte : List ℕ → ℕ → Bool
-otherByte mark i = ltb 1 (inRow 1 mark i)
