@@ -1,10 +1,9 @@
--- `path::first` meets its contract, in each of its cases.
--- Assumes nothing.
+-- `checks::first` meets its contract, in each of its cases. Assumes nothing.
 use Rattle.refusal.specs.Outcomes.{refusalOf}
 use Rattle.star.specs.Refusals.{orElse}
 use borrow.Author.Needs.{needs}
-use Rattle.path.proofs.first.Statement.{statement}
-use Rattle.path.proofs.first.Tie as tie
+use Rattle.checks.proofs.first.Statement.{statement}
+use Rattle.checks.proofs.first.Tie as tie
 
 returns : tie.Need-returns
 unfolding refusalOf orElse
