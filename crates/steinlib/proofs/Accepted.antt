@@ -3,7 +3,7 @@
 -- Assumes nothing.
 use Prim.Native.Nat.{ℕ, _*_, _≤_, min}
 use mathlib.Core.Bool.{Bool, true, false, not, cond, _&&_, _||_, true≢false}
-use mathlib.Core.List.{List, [], _∷_, _++_}
+use mathlib.Core.List.{List, [], _∷_}
 use mathlib.Core.Option.{Option, none, some}
 use mathlib.Core.Path.{_≡_, refl, sym, ap, _∙_}
 use borrow.Author.Tests.{ltb-false, le-ltb, eqb-true, eqb-false, eq-eqb, not-false}
@@ -12,13 +12,13 @@ use lib.ListN.{length, take, drop, length-append, length-take, length-drop}
 use lib.Seq.{take-at, drop-at}
 use native.Mathlib.Omega.{arith}
 use Rattle.refusal.specs.declared.Refusal.{Refusal}
-use Rattle.star.specs.Call.{Call, callOf, weightOf}
+use Rattle.star.specs.Call.{callOf, weightOf}
 use Rattle.star.specs.Door.{bytesOf}
 use Rattle.star.specs.Refusals.{maxVertices, maxRows, cause, badVertices, tooManyRows, badLengths, badEnds, tooHeavy, badRow, tableCauses, orElse, refusal, Accepted}
 use Rattle.star.proofs.Accepted.{none-head, none-tail, none-both, none-nil, cause-none, none-cause}
-use Rattle.steinlib.specs.Accepted.{Taken, Untaken, ImportHolds}
-use Rattle.steinlib.specs.Import.{maxText, bounded, readText, tableOf, badColumns, badEdges, importCauses, ImportAnswer, untaken, taken, sizes, answered, imported, filled, columnsOf, importRefusal, leftAfter, rightAfter, weightAfter}
-use Rattle.steinlib.specs.Reader.{Read, nothingRead, withGraph, withNodes, withEdges, withRow, Stand, opening, heading, sections, naming, skipping, skipped, ending, nodes, nodeCount, edges, edgeCount, lines, leftEnd, rightEnd, price, closed, Next, when, counted, numberThen, nextSection, named, skipLine, graphLine, next, Reading, broken, whole, isClosed, follow, readFrom}
+use Rattle.steinlib.specs.Accepted.{Taken, ImportHolds}
+use Rattle.steinlib.specs.Import.{maxText, bounded, readText, tableOf, badColumns, badEdges, importCauses, untaken, taken, sizes, answered, imported, filled, columnsOf, importRefusal, leftAfter, rightAfter, weightAfter}
+use Rattle.steinlib.specs.Reader.{Read, nothingRead, withGraph, withNodes, withEdges, withRow, Stand, opening, heading, sections, naming, skipping, skipped, ending, nodes, nodeCount, edges, edgeCount, lines, leftEnd, rightEnd, price, closed, Next, when, counted, numberThen, nextSection, named, graphLine, next, Reading, broken, whole, isClosed, follow, readFrom}
 use Rattle.words.specs.Names.{is}
 use Rattle.words.specs.Numbers.{numberOf}
 use Rattle.words.specs.Text.{Word, words}

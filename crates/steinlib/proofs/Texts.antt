@@ -3,12 +3,12 @@
 -- Assumes nothing.
 use Prim.Native.Nat.{ℕ, zero, suc, _+_, _*_, _≤_, _<_}
 use Prim.Native.String.{String}
-use mathlib.Core.Bool.{Bool, true, false, _||_}
+use mathlib.Core.Bool.{true, false, _||_}
 use mathlib.Core.List.{List, [], _∷_, _++_, append-nil}
 use mathlib.Core.Option.{none}
 use mathlib.Core.Path.{_≡_, refl, sym, ap, _∙_}
 use borrow.Author.Tests.{le-ltb, lt-ltb}
-use lib.ListN.{length, getD, take, drop, replicate, length-append, length-replicate, getD-replicate}
+use lib.ListN.{length, take, replicate, length-append, length-replicate, getD-replicate}
 use lib.Seq.{take-all, drop-length}
 use native.Mathlib.Omega.{arith}
 use Rattle.rowset.specs.Bytes.{little, inRow}
@@ -18,8 +18,8 @@ use Rattle.star.specs.Call.{Call, callOf, rowsOf, weightOf}
 use Rattle.star.specs.Door.{bytesOf}
 use Rattle.star.specs.Refusals.{maxRows, cause, causeAt, badVertices, tooManyRows, badEnds, tooHeavy, badRow, orElse, refusal}
 use Rattle.star.proofs.Accepted.{none-both, none-nil}
-use Rattle.steinlib.specs.Import.{maxText, untaken, taken, bounded, readText, tableOf, badColumns, badEdges, importCauses, sizes, answered, imported, filled, columnsOf, importRefusal, leftAfter, rightAfter, weightAfter}
-use Rattle.steinlib.specs.Reader.{Read, opening, lines, whole, nothingRead, withGraph, withNodes, withEdges, endOf, withRow, when, counted, numberThen, nextSection, named, skipLine, graphLine, next, isClosed, follow, readFrom}
+use Rattle.steinlib.specs.Import.{maxText, untaken, taken, bounded, readText, tableOf, badColumns, badEdges, importCauses, sizes, answered, imported, filled, columnsOf, importRefusal, leftAfter, rightAfter}
+use Rattle.steinlib.specs.Reader.{Read, opening, lines, whole, nothingRead, withGraph, withNodes, withEdges, endOf, withRow, when, counted, numberThen, nextSection, named, graphLine, next, isClosed, follow, readFrom}
 use Rattle.steinlib.specs.Trials.{spaced, LengthsHold, linesOf, counting, RowsHold}
 use Rattle.words.specs.Bytes.{bytes, within, classOf, ofWords, upper}
 use Rattle.words.specs.Names.{same, is}

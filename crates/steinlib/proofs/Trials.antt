@@ -1,6 +1,6 @@
 -- The trials of the import hold: the definitions compute to what each trial says.
 -- Assumes nothing.
-use mathlib.Core.Path.{_≡_, refl}
+use mathlib.Core.Path.{refl}
 use Rattle.rowset.specs.Bytes.{little, inRow}
 use Rattle.rowset.specs.Sets.{firstOf, uppermost}
 use Rattle.star.specs.Call.{weightOf}
