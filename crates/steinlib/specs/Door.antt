@@ -1,7 +1,7 @@
 -- The door of the import: the sixteen bytes of its answer, and the lent columns afterwards. A place can be 65,536, which two bytes do not hold, so it stands in the last eight.
 -- Assumes nothing.
 use Prim.Native.Nat.{ℕ}
-use mathlib.Core.Bool.{Bool, true, false, cond}
+use mathlib.Core.Bool.{cond}
 use mathlib.Core.List.{List}
 use lib.ListN.{length}
 use Rattle.star.specs.Door.{Fields, wellLent, answerAfter}

@@ -1,7 +1,7 @@
 -- The import: the refusals of a text in their order, what is answered, and the three lent columns afterwards.
 -- Assumes nothing.
 use Prim.Native.Nat.{ℕ, _*_}
-use mathlib.Core.Bool.{Bool, true, false, not, cond, _||_}
+use mathlib.Core.Bool.{Bool, true, false, not, _||_}
 use mathlib.Core.List.{List, [], _∷_, _++_}
 use mathlib.Core.Option.{Option, none, some}
 use lib.Dec.{eqb, ltb}
@@ -24,7 +24,7 @@ bounded false text = readFrom (length text) opening nothingRead (words text)
 unfoldable pub readText : List ℕ → Reading
 readText text = bounded (ltb maxText (length text)) text
 
--- the table that was read; no mark is read, and the checks of the table look at the length of the marks alone
+-- the table that was read. No mark is read; the left column stands in for the marks, which the check of the rows does not look at
 unfoldable pub tableOf : Read → Call
 tableOf r = record { n = r .nodes; left = r .left; right = r .right; weight = r .weight; mark = r .left }
 

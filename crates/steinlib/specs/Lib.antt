@@ -1,4 +1,5 @@
 pub mod Reader
 pub mod Import
 pub mod Door
+pub mod Accepted
 pub mod Trials

@@ -14,7 +14,7 @@ use Rattle.words.specs.Numbers.{numberOf}
 use Rattle.words.specs.Text.{Word}
 
 -- what is read so far: whether a Graph has begun, what Nodes and Edges say, the number of E lines, and the columns of their rows in file order;
--- the columns have 1,024 rows, and further rows are counted only
+-- the columns have 1,024 rows at most, and further rows are counted only
 pub record Read : Type 0 where
   pub graph : Bool
   pub nodes : ℕ

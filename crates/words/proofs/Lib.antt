@@ -1,3 +1,4 @@
 pub mod Classes
 pub mod Loops
 pub mod Spans
+pub mod Trials

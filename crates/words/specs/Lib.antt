@@ -4,3 +4,4 @@ pub mod Names
 pub mod Numbers
 pub mod Answers
 pub mod Spans
+pub mod Trials

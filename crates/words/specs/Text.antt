@@ -1,5 +1,5 @@
 -- The words of a text, with their places and lines: a word is a run of bytes other than blanks and line ends.
--- Assumes atStart.
+-- Assumes nothing.
 use Prim.Native.Nat.{ℕ, suc}
 use mathlib.Core.Bool.{Bool, true, false, cond}
 use mathlib.Core.List.{List, [], _∷_}

@@ -61,7 +61,7 @@ fn of_words(c: Class) -> bool
     }
 }
 
-// Whether no word of the line stands before the byte that follows: `first` says it of a blank or a line end of the class.
+// Whether no word of the line stands before the next byte, where `first` says it of this one, a blank or a line end of the class.
 fn first_after(c: Class, first: bool) -> bool
     ensures { λ r. ⌜ r ≡ firstAfter c first ⌝ }
 {
@@ -71,7 +71,7 @@ fn first_after(c: Class, first: bool) -> bool
     }
 }
 
-// The first byte of the next word at or after a place of the text, past blanks and line ends; the text's length where no word is left.
+// The first byte of the next word at or after a place of the text, past blanks and line ends; the text's length where no word is left, or the place itself if it is past that.
 fn word_start(text: &[u8], at: usize, first: bool) -> Start
     ensures { λ r. ⌜ r ≡ gapFrom at first (drop at (now (text .entry))) ⌝ }
 {
@@ -88,7 +88,7 @@ fn word_start(text: &[u8], at: usize, first: bool) -> Start
     Start { at: from, first: f }
 }
 
-// The first blank or line end at or after a place of the text; its length where there is none.
+// The first blank or line end at or after a place of the text; its length where there is none, or the place itself if it is past that.
 fn word_end(text: &[u8], at: usize) -> usize
     ensures { λ r. ⌜ r ≡ endFrom at (drop at (now (text .entry))) ⌝ }
 {
