@@ -29,4 +29,4 @@ refusal-trials-hold = refl
 
 pub answer-trials-hold : AnswerTrialsHold
 unfolding xor cheapest choose first next fragment treeOf tree crosses withEnds step grow joined between heavier improves rowIn rowOut onPath little inRow greaterThan smallest empty upTo both oneOf without put takeOut any firstOf uppermost sum count graphOf weightOf marked claimWeight claimFrom claimOf judged verdict cst wordAt columnWordsFrom matrixWords pathColumn matrixPath matrixOr matrixAfter chosenRows treeRows built mst1 builtMarks mst1Marks cause causeAt badVertices tooManyRows badLengths badEnds tooHeavy badRow badClaim badSource shortMatrix badCount unjoined isNone noTree tableCauses matrixPathCauses cstCauses mst1Causes orElse refusal exchanged fields bytesOf fieldBytes readBack wellLent doorReturns answerAfter cstDoor mst1Door mst1DoorMarks
-answer-trials-hold = (refl, refl, refl, refl)
+answer-trials-hold = (refl, refl, refl, refl, refl)

@@ -6,7 +6,7 @@ use mathlib.Core.Option.{none}
 use mathlib.Core.Path.{_≡_}
 use lib.ListN.{replicate}
 use Rattle.rowset.specs.Words.{matrixWords}
-use Rattle.star.specs.Call.{Call, callOf, exchanged}
+use Rattle.star.specs.Call.{Call, callOf, withClaim, exchanged}
 use Rattle.star.specs.Cst.{passed, lighter}
 use Rattle.star.specs.Door.{Fields, fieldBytes, readBack, doorReturns, cstDoor, mst1Door, mst1DoorMarks}
 use Rattle.star.specs.MatrixPath.{pathColumn}
@@ -89,10 +89,14 @@ expectedBytes =
     ∷ (0 ∷ 1 ∷ 1 ∷ 1 ∷ 0 ∷ [])
     ∷ []
 
--- sixteen bytes read back: the kind, the number, two bytes each for out and in, and the last eight for the amount
+-- the same table with another claim
+abbrev pub OtherClaim : Type 0
+OtherClaim = withClaim (yard []) (1 ∷ []) ≡ yard (1 ∷ [])
+
+-- bytes read back: the kind, the number, two bytes each for out and in, and eight for the amount
 abbrev pub ReadBack : Type 0
 ReadBack =
-    readBack (2 ∷ 3 ∷ 2 ∷ 1 ∷ 255 ∷ 3 ∷ 9 ∷ 9 ∷ 1 ∷ 2 ∷ 3 ∷ 4 ∷ 5 ∷ 6 ∷ 7 ∷ 8 ∷ [])
+    readBack (2 ∷ 3 ∷ 2 ∷ 1 ∷ 255 ∷ 3 ∷ 9 ∷ 9 ∷ 1 ∷ 2 ∷ 3 ∷ 4 ∷ 5 ∷ 6 ∷ 7 ∷ 8 ∷ 9 ∷ [])
     ≡ record { kind = 2; number = 3; out = 258; into = 1023; amount = 578437695752307201 }
 
 -- row 961 alone is marked: the columns of vertices 1 and 2
@@ -103,4 +107,4 @@ LastWord =
 
 -- the theorem: each trial gives what it should
 abbrev pub AnswerTrialsHold : Type 0
-AnswerTrialsHold = (given ≡ expected) × (givenBytes ≡ expectedBytes) × ReadBack × LastWord
+AnswerTrialsHold = (given ≡ expected) × (givenBytes ≡ expectedBytes) × OtherClaim × ReadBack × LastWord
