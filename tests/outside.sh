@@ -52,12 +52,14 @@ if command -v valgrind >/dev/null; then
     done
 fi
 
-# The console and its pictures.
+# The console, its pictures, and what C programmers get.
 star=$(realpath "$build/star")
 bash tests/console.sh "$star" | tee "$work/console"
 add "$work/console"
 python3 -B tests/picture.py "$star" | tee "$work/picture"
 add "$work/picture"
+bash tests/library.sh | tee "$work/library"
+add "$work/library"
 
 echo "$passed passed, $failed failed"
 [ "$failed" = 0 ]
