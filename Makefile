@@ -19,10 +19,10 @@ VERSION := $(shell sed -n 's/^\#define STAR_VERSION "\(.*\)"/\1/p' include/star.
 all: $(BUILD)/star
 
 # rt proves the core before it writes the archive, and does nothing where nothing has changed. On a fresh machine that takes minutes: a line
-# a crate is shown, and all that rt prints is kept in a log. The status stands in the log's last line.
+# a crate that is proved is shown, and all that rt prints is kept in a log. The status stands in the log's last line.
 define PROVE
 @mkdir -p target; began=$$(date +%s); log=target/make-$(2).log; echo "proving what has changed; the log is $$log"; \
-{ rt $(1) 2>&1; echo "status $$?"; } | tee $$log | grep --line-buffered '^rt: '; \
+{ rt $(1) 2>&1; echo "status $$?"; } | tee $$log | grep --line-buffered '^rt: ' | grep --line-buffered -v 'unchanged since'; \
 tail -n 1 $$log | grep -q '^status 0$$' || { tail -n 40 $$log; exit 1; }; \
 echo "proved ($$(($$(date +%s) - began)) s in all)"
 endef

@@ -97,8 +97,9 @@ static int picture(struct table *t, struct output *o, void (*paint)(FILE *, cons
     } else if (table_marks(t) == 0) {
         say(&p.words, "No trench is marked.");
     } else {
-        refusal_words(&p.words, t, a);
         status = refused(t, a);
+        t->file = NULL; /* the picture says it without the file's name */
+        refusal_words(&p.words, t, a);
     }
     to = output_open(o);
     if (!to) return EXIT_UNWRITTEN;

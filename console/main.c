@@ -81,6 +81,7 @@ static int options(struct request *r, char **words) {
         else if (strncmp(word, "-o", 2) == 0) {
             r->out.file = word[2] ? word + 2 : *++words;
             if (!r->out.file) return misused("no file follows", "-o");
+            if (strcmp(r->out.file, "-") == 0) r->out.file = NULL;
         } else return misused("unknown option", word);
     }
     return 0;
@@ -122,7 +123,6 @@ int main(int count, char **words) {
     struct request r = {NULL, NULL, NULL, {NULL, NULL}, 0};
     struct message version = {{0}, 0};
     int status;
-    output_guard();
     if (count < 2) {
         fputs(HELP, stderr);
         return EXIT_USAGE;

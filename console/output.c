@@ -1,19 +1,8 @@
 /* Output whose errors are told. */
-#define _POSIX_C_SOURCE 200809L
 #include "output.h"
 
 #include <errno.h>
-#include <fcntl.h>
 #include <string.h>
-#include <unistd.h>
-
-void output_guard(void) {
-    /* A closed stream is opened the wrong way round, so that reading from it or writing to it still fails; messages are dropped. */
-    static const int modes[3] = {O_WRONLY, O_RDONLY, O_WRONLY};
-    int i;
-    for (i = 0; i < 3; i++)
-        if (fcntl(i, F_GETFD) == -1 && open("/dev/null", modes[i]) != i) return;
-}
 
 static void complain(const struct output *o) {
     fprintf(stderr, "%s: it could not be written: %s\n", o->file ? o->file : "standard output", errno ? strerror(errno) : "no reason given");

@@ -9,9 +9,6 @@ struct output {
     FILE *to;         /* NULL before it is opened */
 };
 
-/* Takes care that no file is opened in the place of a standard stream that the caller has closed. */
-void output_guard(void);
-
 /* Opens the output when there is something to write, so that a file is left as it was where there is nothing. Says what is wrong on
    standard error, and returns NULL. */
 FILE *output_open(struct output *o);

@@ -12,7 +12,7 @@
 enum { KEPT = STAR_MAX_ROWS + 1 };
 
 struct table {
-    const char *file;    /* the file's name, for messages */
+    const char *file;    /* the file's name, for messages; NULL for none */
     uint32_t n;          /* junctions */
     size_t m;            /* trenches in the file; those after the first KEPT are counted and not kept */
     uint8_t left[KEPT];  /* a junction above 255 is stored as 0, which the door refuses */

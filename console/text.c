@@ -75,6 +75,7 @@ void say(struct message *to, const char *format, ...) {
 }
 
 void say_place(struct message *to, const char *file, size_t line) {
+    if (!file) return;
     say(to, "%.200s:", file);
     if (line > 0) say(to, "%zu:", line);
     say(to, " ");

@@ -39,7 +39,7 @@ struct message {
 
 void say(struct message *to, const char *format, ...);
 
-/* 'FILE:LINE: ', or 'FILE: ' for line 0. */
+/* 'FILE:LINE: ', or 'FILE: ' for line 0; nothing where there is no name. */
 void say_place(struct message *to, const char *file, size_t line);
 
 /* A piece of a text, cut after 40 bytes; bytes that cannot be printed stand as \xNN. Quoted: in quotation marks. */

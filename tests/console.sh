@@ -80,7 +80,7 @@ for picture in draw dot; do
     [ ! -s "$work/out" ]
     verdict "$picture-no-picture" $?
     try "$picture-ring" 2 '^Refused \(10\)' '' $picture "$work/ring.txt"
-    grep -q 'Refused (10): .*junction 4' "$work/out"
+    grep -q 'Refused (10): the marked trenches do not reach junction 4' "$work/out"
     verdict "$picture-ring-words" $?
     try "$picture-passed" 0 'Passed. Total 12' '' $picture $yard
     try "$picture-lighter" 0 'A cheaper set exists, for 1 less: take out trench 1 ' '' $picture $dear
@@ -180,6 +180,7 @@ verdict option-end $?
 try output 0 '^exit 0' '' check $yard -o "$work/verdict.txt"
 grep -q 'Total 12' "$work/verdict.txt" && [ "$(wc -l <"$work/all")" = 1 ]
 verdict output-file $?
+try output-dash 0 'Total 12' '' check -o - $yard
 try output-joined 0 '^exit 0' '' draw "-o$work/joined.svg" $yard
 [ -s "$work/joined.svg" ]
 verdict output-joined-file $?
@@ -207,7 +208,7 @@ for colour in c62828 1565c0 222222 9e9e9e; do
     grep -q "$colour" "$work/all" && grep -q "$colour" "$work/draw.svg"
     verdict "colour $colour" $?
 done
-grep -q '  1 -- 4 \[label="4: 4", color="#1565c0", penwidth=5\];' "$work/all"
+grep -q '  1 -- 4 \[label="4: 4", color="#1565c0", fontcolor="#1565c0", penwidth=5\];' "$work/all"
 verdict dot-line $?
 if command -v neato >/dev/null; then
     neato -Tsvg "$work/all" >"$work/neato.svg"
