@@ -238,79 +238,99 @@ module _ (k e : ℕ) (few : k ≤ maxRows) where
   unfolding tableOf begun equal-rows
   good-read = rw (more-nodes k (begun 2 e), left-equal, right-equal, weight-equal) (good-rows k (replicate k 1))
 
--- 1,024 rows
-most-read : readText (counting "Nodes 2\nEdges 1024\n" 1024) ≡ whole (more 1024 (begun 2 1024))
-most-read = counting-read "Nodes 2\nEdges 1024\n" 2 1024 opens-most 1024 (omega arith)
-
-most-lines : badEdges (more 1024 (begun 2 1024)) ≡ none
-unfolding badEdges cause begun
-most-lines = rw (more-rows 1024 (begun 2 1024), more-edges 1024 (begun 2 1024))
-
-most-nodes : badVertices (more 1024 (begun 2 1024) .nodes) ≡ none
-unfolding badVertices cause begun
-most-nodes = rw (more-nodes 1024 (begun 2 1024))
-
-most-rows : tooManyRows (more 1024 (begun 2 1024) .rows) ≡ none
-unfolding tooManyRows cause begun
-most-rows = rw (more-rows 1024 (begun 2 1024))
-
-most-columns : badColumns 1024 1024 4096 ≡ none
-unfolding badColumns cause
-most-columns = refl
-
-none-applies : refusal (importCauses (whole (more 1024 (begun 2 1024))) 1024 1024 4096) ≡ none
-unfolding importCauses
-none-applies =
-    none-both _ _ most-lines
-    (none-both _ _ most-nodes (none-both _ _ most-rows (none-both _ _ most-columns (none-both _ _ (good-read 1024 1024 (omega arith)) none-nil))))
-
-most-taken : imported (counting "Nodes 2\nEdges 1024\n" 1024) 1024 1024 4096 ≡ taken 2 1024
-unfolding imported answered sizes begun
-most-taken = rw (most-read, none-applies, more-rows 1024 (begun 2 1024), more-nodes 1024 (begun 2 1024))
-
 -- a column that the rows fill whole
 filled-whole : (column lent : List ℕ) → length column ≡ length lent → filled none column lent ≡ column
 unfolding filled
 filled-whole column lent h = rw (h, drop-length lent) (append-nil column)
 
-most-left : (left right weight : List ℕ) → length left ≡ 1024 → length right ≡ 1024 → length weight ≡ 4096 →
-    leftAfter (counting "Nodes 2\nEdges 1024\n" 1024) left right weight ≡ replicate 1024 1
-unfolding leftAfter importRefusal columnsOf
-most-left left right weight l r w =
-    rw (l, r, w, most-read, none-applies, left-equal 1024 1024 (omega arith))
-    (filled-whole (replicate 1024 1) left (length-replicate {A = ℕ} 1024 1 ∙ sym l))
+-- what is answered of a text that is read whole, by its counts; these are stated for any text, so that no refused step computes a large one
+module _ (text : List ℕ) (t : Read) (x : readText text ≡ whole t) where
+  unsaid-refused : t .rows ≡ 1025 → t .edges ≡ 1024 → imported text 1024 1024 4096 ≡ untaken (record { number = 13; place = 0 })
+  unfolding imported importCauses badEdges cause refusal orElse answered
+  unsaid-refused m e = rw (x, m, e)
 
-most-right : (left right weight : List ℕ) → length left ≡ 1024 → length right ≡ 1024 → length weight ≡ 4096 →
-    rightAfter (counting "Nodes 2\nEdges 1024\n" 1024) left right weight ≡ replicate 1024 2
-unfolding rightAfter importRefusal columnsOf
-most-right left right weight l r w =
-    rw (l, r, w, most-read, none-applies, right-equal 1024 1024 (omega arith))
-    (filled-whole (replicate 1024 2) right (length-replicate {A = ℕ} 1024 2 ∙ sym r))
+  nodes-refused : t .rows ≡ 1025 → t .edges ≡ 1025 → t .nodes ≡ 0 → imported text 1024 1024 4096 ≡ untaken (record { number = 1; place = 0 })
+  unfolding imported importCauses badEdges badVertices cause refusal orElse answered
+  nodes-refused m e n = rw (x, m, e, n)
 
--- 1,025 rows
-more-many : (l : ℕ) → imported (counting "Nodes 2\nEdges 1025\n" 1025) l 1024 4096 ≡ untaken (record { number = 2; place = 0 })
-unfolding imported importCauses badEdges badVertices tooManyRows cause refusal orElse answered begun
-more-many l =
-    rw (counting-read "Nodes 2\nEdges 1025\n" 2 1025 opens-more 1025 (omega arith), more-rows 1025 (begun 2 1025), more-edges 1025 (begun 2 1025), more-nodes 1025 (begun 2 1025))
+  rows-refused : (l : ℕ) → t .rows ≡ 1025 → t .edges ≡ 1025 → t .nodes ≡ 2 → imported text l 1024 4096 ≡ untaken (record { number = 2; place = 0 })
+  unfolding imported importCauses badEdges badVertices tooManyRows cause refusal orElse answered
+  rows-refused l m e n = rw (x, m, e, n)
 
-more-none : imported (counting "Nodes 0\nEdges 1025\n" 1025) 1024 1024 4096 ≡ untaken (record { number = 1; place = 0 })
-unfolding imported importCauses badEdges badVertices cause refusal orElse answered begun
-more-none =
-    rw (counting-read "Nodes 0\nEdges 1025\n" 0 1025 opens-none 1025 (omega arith), more-rows 1025 (begun 0 1025), more-edges 1025 (begun 0 1025), more-nodes 1025 (begun 0 1025))
+  module _ (m : t .rows ≡ 1024) (e : t .edges ≡ 1024) (n : t .nodes ≡ 2) (good : badRow (tableOf t) ≡ none) where
+    none-applies : refusal (importCauses (whole t) 1024 1024 4096) ≡ none
+    unfolding importCauses badEdges badVertices tooManyRows badColumns cause
+    none-applies = none-both _ _ (rw (m, e)) (none-both _ _ (rw n) (none-both _ _ (rw m) (none-both _ _ refl (none-both _ _ good none-nil))))
 
-more-unsaid : imported (counting "Nodes 2\nEdges 1024\n" 1025) 1024 1024 4096 ≡ untaken (record { number = 13; place = 0 })
-unfolding imported importCauses badEdges cause refusal orElse answered begun
-more-unsaid =
-    rw (counting-read "Nodes 2\nEdges 1024\n" 2 1024 opens-most 1025 (omega arith), more-rows 1025 (begun 2 1024), more-edges 1025 (begun 2 1024))
+    rows-taken : imported text 1024 1024 4096 ≡ taken 2 1024
+    unfolding imported answered sizes
+    rows-taken = rw (x, none-applies, m, n)
+
+    module _ (left right weight : List ℕ) (l : length left ≡ 1024) (r : length right ≡ 1024) (w : length weight ≡ 4096) where
+      left-whole : length (t .left) ≡ 1024 → leftAfter text left right weight ≡ t .left
+      unfolding leftAfter importRefusal columnsOf
+      left-whole h = rw (l, r, w, x, none-applies) (filled-whole (t .left) left (h ∙ sym l))
+
+      right-whole : length (t .right) ≡ 1024 → rightAfter text left right weight ≡ t .right
+      unfolding rightAfter importRefusal columnsOf
+      right-whole h = rw (l, r, w, x, none-applies) (filled-whole (t .right) right (h ∙ sym r))
+
+-- 1,024 lines of E, as many as Edges says
+module _ (k : ℕ) (is : k ≡ 1024) where
+  most-read : readText (counting "Nodes 2\nEdges 1024\n" k) ≡ whole (more k (begun 2 1024))
+  most-read = counting-read "Nodes 2\nEdges 1024\n" 2 1024 opens-most k (omega arith)
+
+  most-rows : more k (begun 2 1024) .rows ≡ 1024
+  unfolding begun
+  most-rows = omega (arith, more-rows k (begun 2 1024))
+
+  most-taken : imported (counting "Nodes 2\nEdges 1024\n" k) 1024 1024 4096 ≡ taken 2 1024
+  unfolding begun
+  most-taken = rows-taken _ _ most-read most-rows (more-edges k (begun 2 1024)) (more-nodes k (begun 2 1024)) (good-read k 1024 (omega arith))
+
+  module _ (left right weight : List ℕ) (l : length left ≡ 1024) (r : length right ≡ 1024) (w : length weight ≡ 4096) where
+    most-left : leftAfter (counting "Nodes 2\nEdges 1024\n" k) left right weight ≡ replicate k 1
+    unfolding begun
+    most-left =
+        left-whole _ _ most-read most-rows (more-edges k (begun 2 1024)) (more-nodes k (begun 2 1024)) (good-read k 1024 (omega arith)) left right weight l r w
+        (ap length (left-equal k 1024 (omega arith)) ∙ length-replicate {A = ℕ} k 1 ∙ is)
+        ∙ left-equal k 1024 (omega arith)
+
+    most-right : rightAfter (counting "Nodes 2\nEdges 1024\n" k) left right weight ≡ replicate k 2
+    unfolding begun
+    most-right =
+        right-whole _ _ most-read most-rows (more-edges k (begun 2 1024)) (more-nodes k (begun 2 1024)) (good-read k 1024 (omega arith)) left right weight l r w
+        (ap length (right-equal k 1024 (omega arith)) ∙ length-replicate {A = ℕ} k 2 ∙ is)
+        ∙ right-equal k 1024 (omega arith)
+
+-- 1,025 lines of E
+module _ (k : ℕ) (is : k ≡ 1025) where
+  more-is : (n e : ℕ) → more k (begun n e) .rows ≡ 1025
+  unfolding begun
+  more-is n e = omega (arith, more-rows k (begun n e))
+
+  more-refused : (l : ℕ) → imported (counting "Nodes 2\nEdges 1025\n" k) l 1024 4096 ≡ untaken (record { number = 2; place = 0 })
+  unfolding begun
+  more-refused l =
+      rows-refused _ _ (counting-read "Nodes 2\nEdges 1025\n" 2 1025 opens-more k (omega arith)) l (more-is 2 1025) (more-edges k (begun 2 1025)) (more-nodes k (begun 2 1025))
+
+  more-none : imported (counting "Nodes 0\nEdges 1025\n" k) 1024 1024 4096 ≡ untaken (record { number = 1; place = 0 })
+  unfolding begun
+  more-none =
+      nodes-refused _ _ (counting-read "Nodes 0\nEdges 1025\n" 0 1025 opens-none k (omega arith)) (more-is 0 1025) (more-edges k (begun 0 1025)) (more-nodes k (begun 0 1025))
+
+  more-unsaid : imported (counting "Nodes 2\nEdges 1024\n" k) 1024 1024 4096 ≡ untaken (record { number = 13; place = 0 })
+  unfolding begun
+  more-unsaid = unsaid-refused _ _ (counting-read "Nodes 2\nEdges 1024\n" 2 1024 opens-most k (omega arith)) (more-is 2 1024) (more-edges k (begun 2 1024))
 
 pub rows-hold : RowsHold
 rows-hold =
     record {
-      most-taken = most-taken;
-      most-left = most-left _ _ _ refl refl refl;
-      most-right = most-right _ _ _ refl refl refl;
-      more = more-many 1024;
-      more-short = more-many 1023;
-      more-nodes = more-none;
-      more-lines = more-unsaid;
+      most-taken = most-taken 1024 refl;
+      most-left = most-left 1024 refl _ _ _ refl refl refl;
+      most-right = most-right 1024 refl _ _ _ refl refl refl;
+      more = more-refused 1025 refl 1024;
+      more-short = more-refused 1025 refl 1023;
+      more-nodes = more-none 1025 refl;
+      more-lines = more-unsaid 1025 refl;
     }
