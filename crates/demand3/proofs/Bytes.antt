@@ -1,31 +1,33 @@
 -- The sixteen bytes mean what they should: what is read back is the answer's own fields, and over an accepted table demand 3 says what they are worth.
 -- Assumes nothing.
-use Prim.Native.Nat.{ℕ, zero, suc, _+_, _*_, _/_, _%_, _^_, _≤_, _<_}
+use Prim.Native.Nat.{ℕ, _+_, _*_, _/_, _%_, _^_, _≤_, _<_}
 use borrow.Author.Tests.{ltb-false, eqb-true, eq-eqb, ne-eqb}
 use lib.Dec.{eqb}
+use lib.IntN.{ℤ}
 use lib.ListN.{length}
-use mathlib.Core.Bool.{Bool, true, false, cond, _||_}
+use lib.Signed.{mag}
+use mathlib.Core.Bool.{Bool, true, false, cond}
 use mathlib.Core.List.{List, [], _∷_, _++_}
 use mathlib.Core.Logic.{_↔_, ⊎-elim}
 use mathlib.Core.Option.{Option, none, some}
 use mathlib.Core.Path.{_≡_, refl, sym, ap, _∙_, subst}
 use native.Mathlib.Decide.{ℕ-discrete}
-use native.Mathlib.Nat.{suc-mul, mul-le-mul-right}
 use native.Mathlib.Omega.{arith}
 use Rattle.demand3.proofs.Demand3.{apart, refused-passed, refused-lighter, passed-lighter, built-accepted, built-lighter, demand3}
 use Rattle.demand3.specs.Bytes.{Written, CheckedMeans, BuiltMeans, TableDeclined, CstCall, Mst1Call, CstDoorMeans, Mst1DoorMeans}
 use Rattle.demand3.specs.Demand3.{ClaimTree, LeastClaim, WorthExchange, Fault, bad-byte, bad-count, cut-off, Holds}
 use Rattle.refusal.specs.declared.Refusal.{Refusal}
 use Rattle.rowset.proofs.Laws.{uppermost-some}
-use Rattle.rowset.specs.Bytes.{little}
-use Rattle.rowset.specs.Sets.{uppermost, sum}
+use Rattle.rowset.proofs.Signed.{bits-back, bits-small, total-small}
+use Rattle.rowset.specs.Bytes.{little, inRow}
+use Rattle.rowset.specs.Integers.{toBits, total}
 use Rattle.star.proofs.Accepted.{some-cons, some-cause, some-causeAt, none-nil, cause-none, none-head, accepted-means}
 use Rattle.star.specs.Accepted.{AcceptedTable}
 use Rattle.star.specs.Call.{Call, rowsOf, weightOf, claimWeight, withClaim}
 use Rattle.star.specs.Cst.{Answer, refused, passed, lighter, verdict, cst}
 use Rattle.star.specs.Door.{Fields, fields, bytesOf, fieldBytes, readBack, wellLent, doorReturns, answerAfter, cstDoor, mst1Door, mst1DoorMarks}
 use Rattle.star.specs.Mst1.{built, mst1, builtMarks, mst1Marks}
-use Rattle.star.specs.Refusals.{maxRows, cause, badVertices, tooManyRows, badLengths, badEnds, tooHeavy, badRow, tableCauses, cstCauses, mst1Causes, orElse, refusal, Accepted}
+use Rattle.star.specs.Refusals.{maxRows, cause, badVertices, tooManyRows, badLengths, badEnds, badRow, tableCauses, cstCauses, mst1Causes, orElse, refusal, Accepted}
 
 -- fields that fit their bytes
 record Fits (f : Fields) : Type 0 where
@@ -33,7 +35,7 @@ record Fits (f : Fields) : Type 0 where
   number : f .number < 256
   out : f .out < 65536
   into : f .into < 65536
-  amount : f .amount < 18446744073709551616
+  amount : mag (f .amount) < 9223372036854775808
 
 one-byte : (x : ℕ) → x < 256 → x % 256 + 256 * 0 ≡ x
 one-byte x h = omega arith
@@ -50,22 +52,12 @@ field-bytes f h =
     record {
       sixteen = refl;
       unused = refl;
-      fields = rw (one-byte (f .kind) (h .kind), one-byte (f .number) (h .number), two-bytes (f .out) (h .out), two-bytes (f .into) (h .into), eight (f .amount) (h .amount));
+      fields = rw (one-byte (f .kind) (h .kind), one-byte (f .number) (h .number), two-bytes (f .out) (h .out), two-bytes (f .into) (h .into), eight (toBits 64 (f .amount)) (bits-small 63 (f .amount) (h .amount)), bits-back 63 (f .amount) (h .amount));
     }
 
--- a sum of at most m terms, each at most b
-sum-bound : (m b : ℕ) (w : ℕ → ℕ) (p : ℕ → Bool) → ((i : ℕ) → 1 ≤ i → i ≤ m → w i ≤ b) → sum m w p ≤ m * b
-unfolding sum
-sum-bound zero b w p h = omega arith
-sum-bound (suc m) b w p h = term (p (suc m)) (sum-bound m b w p (λ i l u. h i l (omega arith)))
-  where
-    term : (q : Bool) → sum m w p ≤ m * b → sum m w p + cond q (w (suc m)) 0 ≤ suc m * b
-    term true e = omega (arith, h (suc m) (omega arith) (omega arith), suc-mul m b)
-    term false e = omega (arith, suc-mul m b)
-
--- a refusal of the table has a number of 1 to 5, and its place is 0 or a row
+-- a refusal of the table has a number of 1 to 4, and its place is 0 or a row
 record TableRefusal (r : Refusal) : Type 0 where
-  number : (1 ≤ r .number) × (r .number ≤ 5)
+  number : (1 ≤ r .number) × (r .number ≤ 4)
   place : r .place ≤ 1024
 
 module _ (c : Call) (r : Refusal) where
@@ -78,18 +70,14 @@ module _ (c : Call) (r : Refusal) where
       ⊎-elim (row (k .0)) (λ y. absurd (apart r (sym (y .1) ∙ none-nil))) (some-cons _ _ r (z .1)))
       (some-cons _ _ r (k .1))) (some-cons _ _ r (h .1))) (some-cons _ _ r e)
     where
-      plain : (k : ℕ) → (1 ≤ k) × (k ≤ 5) → (b : Bool) → cause b k 0 ≡ some r → TableRefusal r
+      plain : (k : ℕ) → (1 ≤ k) × (k ≤ 4) → (b : Bool) → cause b k 0 ≡ some r → TableRefusal r
       plain k l b e = subst TableRefusal (some-cause b k 0 r e .1) (record { number = l; place = omega arith })
-
-      either-number : (b : Bool) → (1 ≤ cond b 4 5) × (cond b 4 5 ≤ 5)
-      either-number true = (omega arith, omega arith)
-      either-number false = (omega arith, omega arith)
 
       row : tooManyRows (rowsOf c) ≡ none → badRow c ≡ some r → TableRefusal r
       row few e =
           let (j, u, q) = some-causeAt _ _ r e in
-          let low = uppermost-some (rowsOf c) j (λ k. badEnds c k || tooHeavy c k) u .1 in
-          subst TableRefusal q (record { number = either-number (badEnds c (uppermost (rowsOf c) (λ k. badEnds c k || tooHeavy c k))); place = omega (arith, ltb-false maxRows (rowsOf c) (cause-none _ 2 0 few)) })
+          let low = uppermost-some (rowsOf c) j (badEnds c) u .1 in
+          subst TableRefusal q (record { number = (omega arith, omega arith); place = omega (arith, ltb-false maxRows (rowsOf c) (cause-none _ 2 0 few)) })
 
   -- where the table is refused, so is the call
   refused-first : (ys : List (Option Refusal)) (xs : List (Option Refusal)) → refusal xs ≡ some r → refusal (xs ++ ys) ≡ some r
@@ -137,8 +125,9 @@ module _ (c : Call) (a : Accepted c) where
   in-words = accepted-means c .0 a
 
   -- every weight of a set of rows fits 64 bits
-  weight-fits : (p : ℕ → Bool) → sum (rowsOf c) (weightOf c) p < 18446744073709551616
-  weight-fits p = omega (arith, sum-bound (rowsOf c) 2147483647 (weightOf c) p (λ i l u. in-words .weights i (l, u)), mul-le-mul-right 2147483647 (in-words .rows))
+  weight-fits : (p : ℕ → Bool) → mag (total (rowsOf c) (weightOf c) p) < 9223372036854775808
+  unfolding weightOf
+  weight-fits p = total-small (rowsOf c) (inRow 4 (c .weight)) p (omega (arith, in-words .rows))
 
   fault-fits : (r : Refusal) → Fault c r → Fits (fields (refused r))
   unfolding fields
@@ -146,23 +135,20 @@ module _ (c : Call) (a : Accepted c) where
   fault-fits r (bad-count clean wrong) = record { kind = omega arith; number = omega arith; out = omega arith; into = omega arith; amount = omega arith }
   fault-fits r (cut-off clean right v vertex away others) = record { kind = omega arith; number = omega arith; out = omega (arith, in-words .vertices .1); into = omega arith; amount = omega arith }
 
-  passed-fits : (weight : ℕ) → weight < 18446744073709551616 → Fits (fields (passed weight))
+  passed-fits : (weight : ℤ) → mag weight < 9223372036854775808 → Fits (fields (passed weight))
   unfolding fields
   passed-fits weight h = record { kind = omega arith; number = omega arith; out = omega arith; into = omega arith; amount = h }
 
   worth-fits : (out into saving : ℕ) → WorthExchange c out into saving → Fits (fields (lighter out into saving))
-  unfolding fields claimWeight
+  unfolding fields
   worth-fits out into saving w =
       record {
         kind = omega arith;
         number = omega arith;
         out = omega (arith, w .out-row, in-words .rows);
         into = omega (arith, w .in-row, in-words .rows);
-        amount = omega (arith, w .weight, claim-fits);
+        amount = omega (arith, w .small);
       }
-    where
-      claim-fits : claimWeight c < 18446744073709551616
-      claim-fits = weight-fits _
 
   -- the fields of CST's answer fit
   cst-fits : Fits (fields (cst c))
@@ -227,7 +213,7 @@ module _ (c : Call) (a : Accepted c) where
             passed = (λ k. absurd (omega arith), λ l. absurd (not-least l));
             weight = λ k. absurd (omega arith);
             lighter = (λ k. (worth .claim-tree, not-least), λ t. refl);
-            exchange = λ k. worth;
+            exchange = λ k. (saving, refl, worth);
             declined = (λ k. absurd (omega arith), λ n. absurd (n (worth .claim-tree)));
             fault = λ k. absurd (omega arith);
           }

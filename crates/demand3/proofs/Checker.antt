@@ -1,7 +1,6 @@
 -- What CST's two rows say of a claim that is a spanning tree: there is none to bring in exactly where the tree is good, and otherwise the exchange is lighter.
 -- Assumes nothing.
 use Prim.Native.Nat.{ℕ, suc}
-use borrow.Author.Tests.{ltb-false}
 use mathlib.Core.Bool.{true, false, and-eq-true-iff}
 use mathlib.Core.Path.{_≡_, sym, _∙_, ap}
 use native.Mathlib.Omega.{arith}
@@ -12,8 +11,9 @@ use Rattle.graph.specs.Least.{Good}
 use Rattle.graph.specs.Tree.{SpanningTree, onPath}
 use Rattle.rowset.proofs.Laws.{refuted, uppermost-some, uppermost-none, uppermost-zero, any-found, any-none}
 use Rattle.rowset.proofs.Members.{without-in, in-without}
-use Rattle.rowset.proofs.Searches.{greaterThan-in}
-use Rattle.rowset.specs.Searches.{greaterThan}
+use Rattle.rowset.proofs.Integers.{integers, ltZ-false}
+use Rattle.rowset.proofs.IntegerSearches.{greaterThanℤ-in}
+use Rattle.rowset.specs.Searches.{greaterThanℤ}
 use Rattle.rowset.specs.Sets.{upTo, without, uppermost}
 use Rattle.star.specs.Call.{Call, rowsOf, graphOf, weightOf, marked}
 use Rattle.star.specs.Cst.{between, heavier, improves, rowIn, rowOut}
@@ -29,7 +29,7 @@ module _ (c : Call) (ok : Sound (graphOf c)) (tree : SpanningTree (graphOf c) (m
   improving-exchange : (e f : ℕ) → graphOf c .rows f ≡ true → marked (c .mark) f ≡ false → heavier c f e ≡ true → Lighter (graphOf c) (weightOf c) (marked (c .mark)) e f
   unfolding heavier
   improving-exchange e f r out h =
-      let (path, heavy) = greaterThan-in (weightOf c) (weightOf c f) (between c f) e h in
+      let (path, heavy) = greaterThanℤ-in (weightOf c) (weightOf c f) (between c f) e h in
       lighter-exchange (graphOf c) ok (weightOf c) (marked (c .mark)) tree e f r out (ap (λ p. p e) (sym (between-path f r)) ∙ path) heavy
 
   improving : (f : ℕ) → improves c f ≡ true → Lighter (graphOf c) (weightOf c) (marked (c .mark)) (uppermost (rowsOf c) (heavier c f)) f
@@ -42,12 +42,12 @@ module _ (c : Call) (ok : Sound (graphOf c)) (tree : SpanningTree (graphOf c) (m
 
   -- no row to bring in exactly where the tree is good
   pub none-good : rowIn c ≡ 0 → Good (graphOf c) (weightOf c) (marked (c .mark))
-  unfolding rowIn improves heavier greaterThan graphOf
+  unfolding rowIn improves heavier greaterThanℤ graphOf
   none-good none f r out e path =
       let (lf, uf) = ok .position f r in
       let (le, ue) = ok .position e (tree .inside e (path-inside (graphOf c) ok (marked (c .mark)) tree _ _ e path)) in
       let no-heavier = rw (in-without (upTo (rowsOf c)) (marked (c .mark)) f r out) at (uppermost-none (rowsOf c) (improves c) none f lf uf) in
-      ltb-false (weightOf c f) (weightOf c e) (rw (ap (λ p. p e) (between-path f r) ∙ path) at (any-none (rowsOf c) (heavier c f) no-heavier e le ue))
+      ltZ-false (weightOf c f) (weightOf c e) (rw (ap (λ p. p e) (between-path f r) ∙ path) at (any-none (rowsOf c) (heavier c f) no-heavier e le ue))
 
   pub good-none : Good (graphOf c) (weightOf c) (marked (c .mark)) → rowIn c ≡ 0
   unfolding rowIn
@@ -56,7 +56,7 @@ module _ (c : Call) (ok : Sound (graphOf c)) (tree : SpanningTree (graphOf c) (m
       never : (f : ℕ) → improves c f ≡ true → ⊥
       never f h =
           let x = improving f h in
-          omega (arith, good f (x .in-row) (x .in-unmarked) _ (x .on-path))
+          omega (arith, integers, good f (x .in-row) (x .in-unmarked) _ (x .on-path), x .saves)
 
   -- and otherwise the two rows make a lighter exchange
   pub found-lighter : (j : ℕ) → rowIn c ≡ suc j → Lighter (graphOf c) (weightOf c) (marked (c .mark)) (rowOut c) (rowIn c)

@@ -1,6 +1,6 @@
 -- Demand 3 holds: over every accepted table, what CST answers on a claim and what MST1 builds are what they should be.
 -- Assumes nothing.
-use Prim.Native.Nat.{ℕ, zero, suc, _+_, _-_, _*_, _≤_, _<_}
+use Prim.Native.Nat.{ℕ, zero, suc, _+_, _*_, _≤_, _<_}
 use mathlib.Core.Bool.{Bool, true, false, not, _||_}
 use mathlib.Core.List.{List, [], _∷_}
 use mathlib.Core.Logic.{_↔_, _⊎_, inl, inr, ⊎-elim}
@@ -8,7 +8,9 @@ use mathlib.Core.Option.{Option, none, some}
 use mathlib.Core.Path.{_≡_, refl, sym, ap, _∙_, subst, subst₃}
 use borrow.Author.Tests.{ltb-true, ltb-false, le-ltb, eqb-true, eqb-false, eq-eqb, not-true, not-false}
 use lib.Dec.{eqb, ltb}
+use lib.IntN.{ℤ, pos, natAbs, _-ℤ_}
 use lib.ListN.{length, length-set}
+use lib.Signed.{_≤ℤ_}
 use native.Mathlib.Decide.{decLe}
 use native.Mathlib.Omega.{arith}
 use Rattle.graph.proofs.Joined.{unjoined-place, unjoined-none}
@@ -19,8 +21,11 @@ use Rattle.graph.specs.Least.{Least}
 use Rattle.graph.specs.Tree.{SpanningTree, exchange}
 use Rattle.refusal.specs.declared.Refusal.{Refusal}
 use Rattle.rowset.proofs.Laws.{uppermost-none, uppermost-some, uppermost-zero, in-upTo, upTo-in}
+use Rattle.rowset.proofs.Integers.{integers, plus, minus, difference, pos-parts}
+use Rattle.rowset.proofs.Signed.{difference-small}
 use Rattle.rowset.specs.Bytes.{inRow}
-use Rattle.rowset.specs.Sets.{upTo, uppermost, sum, count}
+use Rattle.rowset.specs.Integers.{total}
+use Rattle.rowset.specs.Sets.{upTo, uppermost, count}
 use Rattle.graph.proofs.Builder.{built-spanning, built-least, not-built}
 use Rattle.graph.proofs.Exchange.{exchange-weight}
 use Rattle.graph.proofs.Least.{Lighter, good-least, least-good}
@@ -31,7 +36,7 @@ use Rattle.star.specs.Call.{Call, rowsOf, graphOf, weightOf, marked, claimWeigh
 use Rattle.star.specs.Cst.{Answer, refused, passed, lighter, rowIn, rowOut, judged, verdict, cst}
 use Rattle.demand3.specs.Demand3.{ClaimTree, LeastClaim, WorthExchange, ZeroOrOne, RightCount, Fault, bad-byte, bad-count, cut-off, Holds, Demand3}
 use Rattle.star.specs.Mst1.{chosenRows, treeRows, built, mst1, builtMarks, mst1Marks}
-use Rattle.star.specs.Refusals.{cause, causeAt, badVertices, tooManyRows, badLengths, badRow, badEnds, tooHeavy, badClaim, badCount, unjoined, noTree, isNone, tableCauses, cstCauses, mst1Causes, refusal, orElse, Accepted}
+use Rattle.star.specs.Refusals.{cause, causeAt, badVertices, tooManyRows, badLengths, badRow, badEnds, badClaim, badCount, unjoined, noTree, isNone, tableCauses, cstCauses, mst1Causes, refusal, orElse, Accepted}
 
 -- position 0 holds no byte
 byte-none : (l : List ℕ) → inRow 1 l 0 ≡ 0
@@ -42,13 +47,13 @@ byte-none l = refl
 pub apart : (r : Refusal) → _≡_ {A = Option Refusal} (some r) none → ⊥
 apart r e = let z : _≡_ {A = ℕ} 0 1 = cc in omega arith
 
-pub refused-passed : {x : Answer} {r : Refusal} {weight : ℕ} → x ≡ refused r → x ≡ passed weight → ⊥
+pub refused-passed : {x : Answer} {r : Refusal} {weight : ℤ} → x ≡ refused r → x ≡ passed weight → ⊥
 refused-passed e h = let z : _≡_ {A = ℕ} 0 1 = cc in omega arith
 
 pub refused-lighter : {x : Answer} {r : Refusal} {out into saving : ℕ} → x ≡ refused r → x ≡ lighter out into saving → ⊥
 refused-lighter e h = let z : _≡_ {A = ℕ} 0 1 = cc in omega arith
 
-pub passed-lighter : {x : Answer} {weight out into saving : ℕ} → x ≡ passed weight → x ≡ lighter out into saving → ⊥
+pub passed-lighter : {x : Answer} {weight : ℤ} {out into saving : ℕ} → x ≡ passed weight → x ≡ lighter out into saving → ⊥
 passed-lighter e h = let z : _≡_ {A = ℕ} 0 1 = cc in omega arith
 
 length-exchanged : (l : List ℕ) (out into : ℕ) → length (exchanged l out into) ≡ length l
@@ -167,12 +172,12 @@ module _ (c : Call) (a : Accepted c) where
         tree = l .tree .spanning;
         least =
             λ S t.
-            subst (λ (Q : ℕ → Bool). claimWeight c ≤ sum (rowsOf c) (weightOf c) Q) (claim-rows S t)
+            subst (λ (Q : ℕ → Bool). claimWeight c ≤ℤ total (rowsOf c) (weightOf c) Q) (claim-rows S t)
             (l .least _ (claim-tree S t));
       }
 
   -- what a lighter exchange of rows says of the claim's bytes
-  worth : ClaimTree c → (out into : ℕ) → Lighter (graphOf c) (weightOf c) (marked (c .mark)) out into → WorthExchange c out into (weightOf c out - weightOf c into)
+  worth : ClaimTree c → (out into : ℕ) → Lighter (graphOf c) (weightOf c) (marked (c .mark)) out into → WorthExchange c out into (natAbs (weightOf c out -ℤ weightOf c into))
   unfolding graphOf weightOf claimWeight
   worth t out into l =
       record {
@@ -187,10 +192,27 @@ module _ (c : Call) (a : Accepted c) where
               zero-or-one = exchanged-bytes (c .mark) out into (o .0) (o .1) (i .0) (i .1) (t .zero-or-one);
               spanning = subst (λ (Q : ℕ → Bool). SpanningTree (graphOf c) Q) (sym rows) (l .tree);
             };
-        weight = rw rows (omega (arith, exchange-weight (graphOf c) ok (marked (c .mark)) (t .spanning) (weightOf c) out into (l .out-marked) (l .in-row) (l .in-unmarked), l .saves));
-        positive = omega (arith, l .saves);
+        weight =
+            rw rows (omega (
+              arith,
+              integers,
+              exchange-weight (graphOf c) ok (marked (c .mark)) (t .spanning) w out into (l .out-marked) (l .in-row) (l .in-unmarked),
+              plus (total (rowsOf c) w (exchange (marked (c .mark)) out into)) (w out),
+              plus (total (rowsOf c) w (marked (c .mark))) (w into),
+              plus (total (rowsOf c) w (exchange (marked (c .mark)) out into)) (pos (natAbs (w out -ℤ w into))),
+              difference (w out) (w into) less,
+              minus (w out) (w into),
+            ));
+        positive = omega (arith, integers, l .saves, difference (w out) (w into) less, minus (w out) (w into), pos-parts (natAbs (w out -ℤ w into)));
+        small = difference-small (inRow 4 (c .weight) out) (inRow 4 (c .weight) into) less;
       }
     where
+      w : ℕ → ℤ
+      w = weightOf c
+
+      less : w into ≤ℤ w out
+      less = omega (arith, integers, l .saves)
+
       o : (1 ≤ out) × (out ≤ length (c .mark))
       o = marked-row (c .mark) out (l .out-marked)
 
@@ -203,7 +225,7 @@ module _ (c : Call) (a : Accepted c) where
   -- the two forms of MST1's answer
   data Grown : Type 0 where
     unbuilt : tree (graphOf c) (weightOf c) ≡ none → mst1 c ≡ refused (record { number = 11; place = 0 }) → Grown
-    grown : (f : Fragment) → tree (graphOf c) (weightOf c) ≡ some f → mst1 c ≡ passed (sum (rowsOf c) (weightOf c) (f .chosen)) → mst1Marks c ≡ claimOf (rowsOf c) (f .chosen) → Grown
+    grown : (f : Fragment) → tree (graphOf c) (weightOf c) ≡ some f → mst1 c ≡ passed (total (rowsOf c) (weightOf c) (f .chosen)) → mst1Marks c ≡ claimOf (rowsOf c) (f .chosen) → Grown
 
   growth : Grown
   unfolding mst1 mst1Marks built builtMarks mst1Causes noTree refusal orElse cause isNone treeRows chosenRows
@@ -216,7 +238,7 @@ module _ (c : Call) (a : Accepted c) where
       go none e = unbuilt e (ap (built c) (after none e))
       go (some f) e =
           grown f e
-          (ap (built c) (after (some f) e) ∙ ap (λ x. passed (sum (rowsOf c) (weightOf c) (chosenRows x))) e)
+          (ap (built c) (after (some f) e) ∙ ap (λ x. passed (total (rowsOf c) (weightOf c) (chosenRows x))) e)
           (ap (builtMarks c) (after (some f) e) ∙ ap (λ x. claimOf (rowsOf c) (chosenRows x)) e)
 
   -- the verdict on a least tree
@@ -229,7 +251,7 @@ module _ (c : Call) (a : Accepted c) where
         | faulted t j z x ↦ absurd (none-some (sym z ∙ good-none c ok (t .spanning) (least-good (graphOf c) ok (weightOf c) (marked (c .mark)) (t .spanning) (claim-least l))))
       ]
 
-  passed-least : (weight : ℕ) → cst c ≡ passed weight → LeastClaim c × (weight ≡ claimWeight c)
+  passed-least : (weight : ℤ) → cst c ≡ passed weight → LeastClaim c × (weight ≡ claimWeight c)
   unfolding judged
   passed-least weight e =
       elim judgement [
@@ -351,18 +373,18 @@ module _ (c : Call) (a : Accepted c) where
   refuses-eleven : (r : Refusal) → mst1 c ≡ refused r → r ≡ record { number = 11; place = 0 }
   refuses-eleven r e = elim growth [ unbuilt z x ↦ cc | grown f z x k ↦ absurd (refused-passed e x) ]
 
-  builds-tree : (other : List ℕ) → ClaimTree (withClaim c other) → (weight : ℕ) × (mst1 c ≡ passed weight)
+  builds-tree : (other : List ℕ) → ClaimTree (withClaim c other) → (weight : ℤ) × (mst1 c ≡ passed weight)
   builds-tree other t = elim growth [ unbuilt z x ↦ absurd (no-tree x other t) | grown f z x k ↦ (_, x) ]
 
 -- another claim of m bytes leaves the table accepted
 accepted-claim : (c : Call) (l : List ℕ) → length l ≡ length (c .mark) → Accepted c → Accepted (withClaim c l)
-unfolding tableCauses badVertices tooManyRows badLengths badRow badEnds tooHeavy weightOf
+unfolding tableCauses badVertices tooManyRows badLengths badRow badEnds
 accepted-claim c l e a = rw e a
 
 -- a least tree that was grown is passed as a claim, with its weight
-grown-passed : (c : Call) (a : Accepted c) (f : Fragment) → tree (graphOf c) (weightOf c) ≡ some f → cst (withClaim c (claimOf (rowsOf c) (f .chosen))) ≡ passed (sum (rowsOf c) (weightOf c) (f .chosen))
+grown-passed : (c : Call) (a : Accepted c) (f : Fragment) → tree (graphOf c) (weightOf c) ≡ some f → cst (withClaim c (claimOf (rowsOf c) (f .chosen))) ≡ passed (total (rowsOf c) (weightOf c) (f .chosen))
 unfolding graphOf weightOf claimWeight
-grown-passed c a f z = least-passed d b least ∙ ap (λ S. passed (sum (rowsOf c) (weightOf c) S)) rows
+grown-passed c a f z = least-passed d b least ∙ ap (λ S. passed (total (rowsOf c) (weightOf c) S)) rows
   where
     t : SpanningTree (graphOf c) (f .chosen)
     t = built-spanning (graphOf c) (ok c a) (weightOf c) f z
@@ -380,7 +402,7 @@ grown-passed c a f z = least-passed d b least ∙ ap (λ S. passed (sum (rowsOf 
     least = least-claim d b (claim-tree c a (f .chosen) t) (subst (λ (S : ℕ → Bool). Least (graphOf c) (weightOf c) S) (sym rows) (built-least (graphOf c) (ok c a) (weightOf c) f z))
 
 -- the table with the marks that were built is accepted
-pub built-accepted : (c : Call) → Accepted c → (weight : ℕ) → mst1 c ≡ passed weight → Accepted (withClaim c (mst1Marks c))
+pub built-accepted : (c : Call) → Accepted c → (weight : ℤ) → mst1 c ≡ passed weight → Accepted (withClaim c (mst1Marks c))
 built-accepted c a weight e =
     elim (growth c a) [
       | unbuilt z x ↦ absurd (refused-passed x e)
@@ -397,7 +419,7 @@ built-lighter c out into saving e = go (refusal (mst1Causes c)) e
     go (some r) h = refused-lighter refl h
 
 -- what is built is passed, with the weight that was stated
-built-passed : (c : Call) → Accepted c → (weight : ℕ) → mst1 c ≡ passed weight → cst (withClaim c (mst1Marks c)) ≡ passed weight
+built-passed : (c : Call) → Accepted c → (weight : ℤ) → mst1 c ≡ passed weight → cst (withClaim c (mst1Marks c)) ≡ passed weight
 built-passed c a weight e =
     elim (growth c a) [
       | unbuilt z x ↦ absurd (refused-passed x e)

@@ -5,6 +5,7 @@ use Prim.Native.Nat.{ℕ, _≤_}
 use mathlib.Core.List.{List}
 use mathlib.Core.Logic.{_↔_}
 use mathlib.Core.Path.{_≡_}
+use lib.IntN.{pos}
 use lib.ListN.{length}
 use Rattle.demand3.specs.Demand3.{ClaimTree, LeastClaim, WorthExchange, Fault}
 use Rattle.rowset.specs.Bytes.{little}
@@ -27,7 +28,7 @@ pub record CheckedMeans (c : Call) (x : Fields) : Type 0 where
   pub weight : x .kind ≡ 1 → x .amount ≡ claimWeight c
   -- kind 2: the claim is a spanning tree, and another weighs less: the exchange of row out for row in, by the amount
   pub lighter : (x .kind ≡ 2) ↔ (ClaimTree c × (LeastClaim c → ⊥))
-  pub exchange : x .kind ≡ 2 → WorthExchange c (x .out) (x .into) (x .amount)
+  pub exchange : x .kind ≡ 2 → (saving : ℕ) × (x .amount ≡ pos saving) × WorthExchange c (x .out) (x .into) saving
   -- kind 0: the claim is no spanning tree, and the number and the place say why
   pub declined : (x .kind ≡ 0) ↔ (ClaimTree c → ⊥)
   pub fault : x .kind ≡ 0 → Fault c (record { number = x .number; place = x .out })
@@ -43,10 +44,10 @@ pub record BuiltMeans (c : Call) (x : Fields) (marks : List ℕ) : Type 0 where
   pub number : x .kind ≡ 0 → (x .number ≡ 11) × (x .out ≡ 0)
   pub kept : x .kind ≡ 0 → marks ≡ c .mark
 
--- a table that is not accepted: kind 0, with a number of 1 to 5
+-- a table that is not accepted: kind 0, with a number of 1 to 4
 pub record TableDeclined (x : Fields) : Type 0 where
   pub kind : x .kind ≡ 0
-  pub number : (1 ≤ x .number) × (x .number ≤ 5)
+  pub number : (1 ≤ x .number) × (x .number ≤ 4)
 
 -- a call of star_cst with the columns c: what it returns, and the lent answer before and after
 pub record CstCall (c : Call) (answer after : List ℕ) (returned : ℕ) : Type 0 where

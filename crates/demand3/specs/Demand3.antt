@@ -1,11 +1,13 @@
 -- Demand 3: what the checker's verdict and the builder's tree are worth, over every accepted table and every claim of bytes.
 -- Cites definitions alone; the proof is proofs/Demand3.antt. Assumes nothing.
-use Prim.Native.Nat.{ℕ, suc, _+_, _≤_, _<_}
+use Prim.Native.Nat.{ℕ, suc, _≤_, _<_}
+use lib.IntN.{ℤ, pos, _+ℤ_}
 use mathlib.Core.Bool.{true, false}
 use mathlib.Core.List.{List}
 use mathlib.Core.Logic.{_↔_}
 use mathlib.Core.Path.{_≡_}
 use lib.ListN.{length}
+use lib.Signed.{_≤ℤ_}
 use Rattle.graph.specs.Graph.{Walk}
 use Rattle.graph.specs.Tree.{SpanningTree}
 use Rattle.refusal.specs.declared.Refusal.{Refusal}
@@ -26,9 +28,9 @@ pub record ClaimTree (c : Call) : Type 0 where
 -- the claim is a spanning tree, and every spanning tree of the table weighs at least as much
 pub record LeastClaim (c : Call) : Type 0 where
   pub tree : ClaimTree c
-  pub least : (other : List ℕ) → ClaimTree (withClaim c other) → claimWeight c ≤ claimWeight (withClaim c other)
+  pub least : (other : List ℕ) → ClaimTree (withClaim c other) → claimWeight c ≤ℤ claimWeight (withClaim c other)
 
--- what an exchange is worth: out and in are rows, out is marked and in is not, and the exchange is a spanning tree, lighter by exactly the saving
+-- what an exchange is worth: out and in are rows, out is marked and in is not, and the exchange is a spanning tree, lighter by exactly the saving, a number of 1 to 4,294,967,295
 pub record WorthExchange (c : Call) (out into saving : ℕ) : Type 0 where
   pub claim-tree : ClaimTree c
   pub out-row : Row c out
@@ -36,8 +38,9 @@ pub record WorthExchange (c : Call) (out into saving : ℕ) : Type 0 where
   pub out-marked : marked (c .mark) out ≡ true
   pub in-unmarked : marked (c .mark) into ≡ false
   pub tree : ClaimTree (withClaim c (exchanged (c .mark) out into))
-  pub weight : claimWeight (withClaim c (exchanged (c .mark) out into)) + saving ≡ claimWeight c
+  pub weight : claimWeight (withClaim c (exchanged (c .mark) out into)) +ℤ pos saving ≡ claimWeight c
   pub positive : 0 < saving
+  pub small : saving ≤ 4294967295
 
 -- the bytes of a claim are 0 and 1 only, and it has exactly n − 1 marks
 abbrev pub ZeroOrOne : Call → Type 0
@@ -61,9 +64,9 @@ pub data Fault (c : Call) : Refusal → Type 0 where
 -- demand 3, at one accepted table and claim
 pub record Holds (c : Call) : Type 0 where
   -- the checker passes the claim exactly when it is a spanning tree and none weighs less
-  pub passes : ((weight : ℕ) × (cst c ≡ passed weight)) ↔ LeastClaim c
+  pub passes : ((weight : ℤ) × (cst c ≡ passed weight)) ↔ LeastClaim c
   -- the weight stated with a pass is the claim's own
-  pub weight : (weight : ℕ) → cst c ≡ passed weight → weight ≡ claimWeight c
+  pub weight : (weight : ℤ) → cst c ≡ passed weight → weight ≡ claimWeight c
   -- a spanning tree that is not passed comes back lighter
   pub not-passed : ClaimTree c → (LeastClaim c → ⊥) → (out into saving : ℕ) × (cst c ≡ lighter out into saving)
   -- and an exchange that comes back is worth it
@@ -77,9 +80,9 @@ pub record Holds (c : Call) : Type 0 where
   -- and then leaves the marks as they were
   pub kept : (r : Refusal) → mst1 c ≡ refused r → mst1Marks c ≡ c .mark
   -- otherwise it builds a tree
-  pub built : (other : List ℕ) → ClaimTree (withClaim c other) → (weight : ℕ) × (mst1 c ≡ passed weight)
+  pub built : (other : List ℕ) → ClaimTree (withClaim c other) → (weight : ℤ) × (mst1 c ≡ passed weight)
   -- what it builds is passed by the checker over the same table, with the weight that the builder stated
-  pub builds : (weight : ℕ) → mst1 c ≡ passed weight → cst (withClaim c (mst1Marks c)) ≡ passed weight
+  pub builds : (weight : ℤ) → mst1 c ≡ passed weight → cst (withClaim c (mst1Marks c)) ≡ passed weight
 
 -- demand 3, whole
 abbrev pub Demand3 : Type 0

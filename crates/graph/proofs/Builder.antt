@@ -4,23 +4,28 @@
 -- where it builds nothing there is no spanning tree (not-built).
 -- Assumes nothing.
 use Prim.Native.Nat.{ℕ, zero, suc, _≤_, _<_}
+use lib.IntN.{ℤ}
+use lib.Signed.{_≤ℤ_, ≤ℤ-refl}
 use mathlib.Core.Bool.{Bool, true, false, xor, false≢true}
 use mathlib.Core.Option.{Option, none, some}
 use mathlib.Core.Path.{_≡_, refl, sym, _∙_, ap, subst}
 use native.Mathlib.Omega.{arith}
-use Rattle.graph.proofs.Least.{cut-property}
+use Rattle.graph.proofs.Least.{nested-same, cut-property}
 use Rattle.rowset.proofs.Members.{put-all, both-in, in-both}
 use Rattle.graph.proofs.Reach.{Joins, rightward, leftward, crossing-far-end, joins-vertex, walk-along, walk-then, walk-back, walk-over-more, walk-one-side}
 use Rattle.graph.specs.Builder.{Fragment, nothing, cheapest, choose, first, next, fragment, treeOf, tree}
 use Rattle.graph.specs.Graph.{Graph, Sound, Walk, stay, crosses, withEnds}
 use Rattle.graph.specs.Least.{Least}
 use Rattle.graph.specs.Tree.{SpanningTree}
-use Rattle.rowset.proofs.Laws.{clash, refuted, put-same, put-other, put-keeps, any-some, any-found, uppermost-some, smallest-in, smallest-least, smallest-exists, sum-monotone, count-put, count-empty, count-full, full-count, xor-false-same}
-use Rattle.rowset.specs.Searches.{smallest}
-use Rattle.rowset.specs.Sets.{empty, both, put, sum, count}
+use Rattle.rowset.proofs.Laws.{clash, refuted, put-same, put-other, put-keeps, any-some, any-found, uppermost-some, count-put, count-empty, count-full, full-count, xor-false-same}
+use Rattle.rowset.specs.Searches.{smallestℤ}
+use Rattle.rowset.proofs.Integers.{integers}
+use Rattle.rowset.proofs.IntegerSearches.{smallestℤ-in, smallestℤ-least, smallestℤ-exists}
+use Rattle.rowset.specs.Integers.{total}
+use Rattle.rowset.specs.Sets.{empty, both, put, count}
 
 -- k rows of the graph are chosen and join k + 1 vertices, and for each spanning tree there is one with the chosen rows that weighs no more
-pub record Invariant (g : Graph) (w : ℕ → ℕ) (k : ℕ) (f : Fragment) : Type 0 where
+pub record Invariant (g : Graph) (w : ℕ → ℤ) (k : ℕ) (f : Fragment) : Type 0 where
   pub vertex : (v : ℕ) → f .vertices v ≡ true → (1 ≤ v) × (v ≤ g .n)
   pub row : (i : ℕ) → f .chosen i ≡ true → (g .rows i ≡ true) × (f .vertices (g .a i) ≡ true) × (f .vertices (g .b i) ≡ true)
   pub row-count : count (g .m) (f .chosen) ≡ k
@@ -28,7 +33,7 @@ pub record Invariant (g : Graph) (w : ℕ → ℕ) (k : ℕ) (f : Fragment) : Ty
   pub start : ℕ
   pub begun : f .vertices start ≡ true
   pub connected : (v : ℕ) → f .vertices v ≡ true → Walk g (f .chosen) start v
-  pub matched : (S : ℕ → Bool) → SpanningTree g S → (T : ℕ → Bool) × SpanningTree g T × (sum (g .m) w T ≤ sum (g .m) w S) × ((i : ℕ) → f .chosen i ≡ true → T i ≡ true)
+  pub matched : (S : ℕ → Bool) → SpanningTree g S → (T : ℕ → Bool) × SpanningTree g T × (total (g .m) w T ≤ℤ total (g .m) w S) × ((i : ℕ) → f .chosen i ≡ true → T i ≡ true)
 
 -- what was chosen, and that only position 0 chooses nothing
 choose-some : (g : Graph) (f f′ : Fragment) (i : ℕ) → choose g f i ≡ some f′ → (j : ℕ) × (i ≡ suc j) × (record { vertices = withEnds g (f .vertices) (suc j); chosen = put (f .chosen) (suc j) } ≡ f′)
@@ -53,16 +58,16 @@ joins-inside : {g : Graph} {i x v : ℕ} (Q : ℕ → Bool) → Joins g i x v �
 joins-inside {x = x} {v = v} Q rightward on = (put-keeps Q v x on, put-same Q v)
 joins-inside {x = x} {v = v} Q leftward on = (put-same Q v, put-keeps Q v x on)
 
-module _ (g : Graph) (ok : Sound g) (w : ℕ → ℕ) where
+module _ (g : Graph) (ok : Sound g) (w : ℕ → ℤ) where
   -- the cheapest row of X is in X, and no row of X is lighter
-  cheapest-some : (X : ℕ → Bool) (j : ℕ) → cheapest g w X ≡ suc j → (X (suc j) ≡ true) × ((i : ℕ) → g .rows i ≡ true → X i ≡ true → w (suc j) ≤ w i)
+  cheapest-some : (X : ℕ → Bool) (j : ℕ) → cheapest g w X ≡ suc j → (X (suc j) ≡ true) × ((i : ℕ) → g .rows i ≡ true → X i ≡ true → w (suc j) ≤ℤ w i)
   unfolding cheapest
   cheapest-some X j e =
-      let s = uppermost-some (g .m) j (smallest (g .m) w X) e .0 in (
-        smallest-in (g .m) w X (suc j) s,
+      let s = uppermost-some (g .m) j (smallestℤ (g .m) w X) e .0 in (
+        smallestℤ-in (g .m) w X (suc j) s,
         λ i r h.
             let (l, u) = ok .position i r in
-            smallest-least (g .m) w X (suc j) i s l u h,
+            smallestℤ-least (g .m) w X (suc j) i s l u h,
       )
 
   -- where X has no cheapest row, X has no row
@@ -73,7 +78,7 @@ module _ (g : Graph) (ok : Sound g) (w : ℕ → ℕ) where
       never : X i ≡ true → ⊥
       never h =
           let (l, u) = ok .position i r in
-          let (j, s) = any-found (g .m) (smallest (g .m) w X) (smallest-exists (g .m) w X (any-some (g .m) i X l u h)) in
+          let (j, s) = any-found (g .m) (smallestℤ (g .m) w X) (smallestℤ-exists (g .m) w X (any-some (g .m) i X l u h)) in
           omega arith
 
   -- the invariant holds of one vertex without a row
@@ -88,7 +93,7 @@ module _ (g : Graph) (ok : Sound g) (w : ℕ → ℕ) where
         start = s;
         begun = put-same empty s;
         connected = put-all (Walk g empty s) empty s (λ v h. absurd (false≢true h)) stay;
-        matched = λ S t. (S, t, omega arith, λ i h. absurd (false≢true h));
+        matched = λ S t. (S, t, ≤ℤ-refl _, λ i h. absurd (false≢true h));
       }
 
   -- a chosen row has both ends in the fragment
@@ -99,7 +104,7 @@ module _ (g : Graph) (ok : Sound g) (w : ℕ → ℕ) where
       rw (l, r)
 
   -- the invariant holds with one row more, the lightest of those with exactly one end in the fragment
-  extended : (k : ℕ) (f : Fragment) → Invariant g w k f → (i x v : ℕ) → Joins g i x v → g .rows i ≡ true → f .vertices x ≡ true → f .vertices v ≡ false → ((j : ℕ) → g .rows j ≡ true → crosses g (f .vertices) j ≡ true → w i ≤ w j) → Invariant g w (suc k) (record { vertices = put (f .vertices) v; chosen = put (f .chosen) i })
+  extended : (k : ℕ) (f : Fragment) → Invariant g w k f → (i x v : ℕ) → Joins g i x v → g .rows i ≡ true → f .vertices x ≡ true → f .vertices v ≡ false → ((j : ℕ) → g .rows j ≡ true → crosses g (f .vertices) j ≡ true → w i ≤ℤ w j) → Invariant g w (suc k) (record { vertices = put (f .vertices) v; chosen = put (f .chosen) i })
   extended k f inv i x v joins r on out light =
       let c = joins-crosses (f .vertices) joins on out in
       let (l, u) = ok .position i r in
@@ -117,7 +122,7 @@ module _ (g : Graph) (ok : Sound g) (w : ℕ → ℕ) where
         matched = λ S t.
             let (T, tT, le, has) = inv .matched S t in
             let y = cut-property g ok w T tT (f .vertices) i r c (λ j h cj. light j (tT .inside j h) cj) in
-            (y .set, y .tree, omega (arith, y .weight), put-all (λ (j : ℕ). y .set j ≡ true) (f .chosen) i (λ j h. y .kept j (has j h) (chosen-inside k f inv j h)) (y .brought));
+            (y .set, y .tree, omega (arith, integers, y .weight), put-all (λ (j : ℕ). y .set j ≡ true) (f .chosen) i (λ j h. y .kept j (has j h) (chosen-inside k f inv j h)) (y .brought));
       }
     where
       stays : (j : ℕ) → f .chosen j ≡ true → (g .rows j ≡ true) × (put (f .vertices) v (g .a j) ≡ true) × (put (f .vertices) v (g .b j) ≡ true)
@@ -161,15 +166,16 @@ module _ (g : Graph) (ok : Sound g) (w : ℕ → ℕ) where
   whole : (k : ℕ) (f : Fragment) → Invariant g w k f → suc k ≡ g .n → Least g w (f .chosen)
   whole k f inv e =
       let walk : (v : ℕ) → 1 ≤ v → v ≤ g .n → Walk g (f .chosen) (inv .start) v = λ v l u. inv .connected v (full-count (g .n) (f .vertices) (inv .vertex-count ∙ e) v l u) in
+      let spanning : SpanningTree g (f .chosen) = record {
+        inside = λ i h. inv .row i h .0;
+        marks = ap suc (inv .row-count) ∙ e;
+        reached = λ v l u. walk-then (walk-back (walk 1 (omega arith) (ok .vertex))) (walk v l u);
+      } in
       record {
-        tree = record {
-          inside = λ i h. inv .row i h .0;
-          marks = ap suc (inv .row-count) ∙ e;
-          reached = λ v l u. walk-then (walk-back (walk 1 (omega arith) (ok .vertex))) (walk v l u);
-        };
+        tree = spanning;
         least = λ S t.
-            let (T, _, le, has) = inv .matched S t in
-            omega (arith, sum-monotone (g .m) w (f .chosen) T has);
+            let (T, tT, le, has) = inv .matched S t in
+            omega (arith, integers, ap (total (g .m) w) (nested-same g ok (f .chosen) T spanning tT has));
       }
 
   -- where there is a spanning tree, a vertex set that no row crosses has all vertices or none

@@ -1,6 +1,6 @@
 -- Exchanging one row of a spanning tree for another.
 -- Assumes nothing.
-use Prim.Native.Nat.{ℕ, suc, _+_, _≤_}
+use Prim.Native.Nat.{ℕ, suc, _≤_}
 use mathlib.Core.Bool.{Bool, true, false, _&&_}
 use mathlib.Core.Logic.{_≢_, ⊎-elim}
 use mathlib.Core.Path.{_≡_, refl, _∙_, sym}
@@ -8,12 +8,15 @@ use native.Mathlib.Decide.{ℕ-discrete}
 use native.Mathlib.Omega.{arith}
 use borrow.Author.Tests.{eq-eqb, ne-eqb}
 use lib.Dec.{eqb}
-use Rattle.rowset.proofs.Laws.{put-same, put-keeps, put-cases, takeOut-other, sum-put, sum-takeOut, count-put, count-takeOut, odd-ext, odd-single, xor-self, xor-false-same}
+use lib.IntN.{ℤ, _+ℤ_}
+use Rattle.rowset.proofs.Laws.{put-same, put-keeps, put-cases, takeOut-other, count-put, count-takeOut, odd-ext, odd-single, xor-self, xor-false-same}
 use Rattle.graph.proofs.Path.{and-never, takeOut-inside, one-colour, path-inside, path-parity, path-crossed}
 use Rattle.graph.proofs.Reach.{joined-self, joined-walk, joined-row}
 use Rattle.graph.specs.Graph.{Graph, Sound, Inside, Walk, crosses, joined}
 use Rattle.graph.specs.Tree.{SpanningTree, onPath, exchange}
-use Rattle.rowset.specs.Sets.{sum, count, put, takeOut}
+use Rattle.rowset.proofs.Integers.{integers, plus, total-put, total-takeOut}
+use Rattle.rowset.specs.Integers.{total}
+use Rattle.rowset.specs.Sets.{count, put, takeOut}
 
 -- a row that is not in the set is not in it without another row
 takeOut-absent : (S : ℕ → Bool) (e f : ℕ) → S f ≡ false → takeOut S e f ≡ false
@@ -72,12 +75,12 @@ module _ (g : Graph) (ok : Sound g) (S : ℕ → Bool) (tree : SpanningTree g S)
           joined-walk g S′ 1 v (one-colour g ok S tree side e (xor-false-same _ _ even) others v 1 lv hv (omega arith) (ok .vertex) ∙ joined-self g S′ 1)
 
   -- what the exchange does to the weight
-  pub exchange-weight : (w : ℕ → ℕ) (e f : ℕ) → S e ≡ true → g .rows f ≡ true → S f ≡ false → sum (g .m) w (exchange S e f) + w e ≡ sum (g .m) w S + w f
+  pub exchange-weight : (w : ℕ → ℤ) (e f : ℕ) → S e ≡ true → g .rows f ≡ true → S f ≡ false → total (g .m) w (exchange S e f) +ℤ w e ≡ total (g .m) w S +ℤ w f
   unfolding exchange
   exchange-weight w e f on r out =
       let (le, he) = ok .position e (tree .inside e on) in
       let (lf, hf) = ok .position f r in
-      omega (arith, sum-put (g .m) f w (takeOut S e) lf hf (takeOut-absent S e f out), sum-takeOut (g .m) e w S le he on)
+      omega (arith, integers, total-put (g .m) f w (takeOut S e) lf hf (takeOut-absent S e f out), total-takeOut (g .m) e w S le he on, plus (total (g .m) w (takeOut S e)) (w f), plus (total (g .m) w (takeOut S e)) (w e), plus (total (g .m) w (put (takeOut S e) f)) (w e), plus (total (g .m) w S) (w f))
 
   -- a row of the graph that crosses a colouring: some row of the tree on the path of its ends crosses it too
   pub crossing-on-path : (side : ℕ → Bool) (e : ℕ) → g .rows e ≡ true → crosses g side e ≡ true → (f : ℕ) × (S f ≡ true) × (crosses g side f ≡ true) × (onPath g S (g .a e) (g .b e) f ≡ true)

@@ -362,10 +362,10 @@ odd-single m (suc k) p l u = upwards (λ n. odd n (λ i. eqb i (suc k) && p i) �
 -- ── The selected rows whose number comes first ──
 
 -- the selected rows than whose number no selected row of 1 to m has an earlier one, where c decides whether a number comes before another
-unfoldable pub extreme : (ℕ → ℕ → Bool) → ℕ → (ℕ → ℕ) → (ℕ → Bool) → ℕ → Bool
+unfoldable pub extreme : {A : Type 0} → (A → A → Bool) → ℕ → (ℕ → A) → (ℕ → Bool) → ℕ → Bool
 extreme c m f X i = X i && not (any m (λ k. X k && c (f k) (f i)))
 
-module _ (c : ℕ → ℕ → Bool) (m : ℕ) (f : ℕ → ℕ) (X : ℕ → Bool) where
+module _ {A : Type 0} (c : A → A → Bool) (m : ℕ) (f : ℕ → A) (X : ℕ → Bool) where
   pub extreme-in : (i : ℕ) → extreme c m f X i ≡ true → X i ≡ true
   unfolding extreme
   extreme-in i e = and-eq-true-iff _ _ .0 e .0
@@ -379,7 +379,7 @@ module _ (c : ℕ → ℕ → Bool) (m : ℕ) (f : ℕ → ℕ) (X : ℕ → Boo
   in-extreme i e h = rw (e, none-any m (λ k. X k && c (f k) (f i)) (λ k l u. refuted _ (λ t. let b = and-eq-true-iff (X k) (c (f k) (f i)) .0 t in clash (b .1) (h k l u (b .0)))))
 
   -- where a row is selected, one comes first: of 1 to n either no row is selected or some row i comes first
-  pub extreme-exists : ((a : ℕ) → c a a ≡ false) → ((a b d : ℕ) → c a b ≡ true → c b d ≡ true → c a d ≡ true) → any m X ≡ true → any m (extreme c m f X) ≡ true
+  pub extreme-exists : ((a : A) → c a a ≡ false) → ((a b d : A) → c a b ≡ true → c b d ≡ true → c a d ≡ true) → any m X ≡ true → any m (extreme c m f X) ≡ true
   extreme-exists irreflexive transitive e = last (upwards P 0 m (omega arith) (inl (λ k l u. absurd (omega arith))) step)
     where
       P : ℕ → Type 0

@@ -3,6 +3,8 @@
 use Prim.Native.Nat.{ℕ}
 use mathlib.Core.Bool.{Bool, not, _&&_}
 use lib.Dec.{ltb, eqb}
+use lib.IntN.{ℤ}
+use lib.Signed.{ltZ}
 use Rattle.rowset.specs.Sets.{any}
 
 -- MATCH: the selected rows that equal w
@@ -20,3 +22,13 @@ smallest m f X i = X i && not (any m (λ k. X k && ltb (f k) (f i)))
 -- MAX: the selected rows than which no selected row of 1 to m is larger
 unfoldable pub largest : ℕ → (ℕ → ℕ) → (ℕ → Bool) → ℕ → Bool
 largest m f X i = X i && not (any m (λ k. X k && ltb (f i) (f k)))
+
+-- GREAT, MIN and MAX over rows of integers
+unfoldable pub greaterThanℤ : (ℕ → ℤ) → ℤ → (ℕ → Bool) → ℕ → Bool
+greaterThanℤ f w X i = X i && ltZ w (f i)
+
+unfoldable pub smallestℤ : ℕ → (ℕ → ℤ) → (ℕ → Bool) → ℕ → Bool
+smallestℤ m f X i = X i && not (any m (λ k. X k && ltZ (f k) (f i)))
+
+unfoldable pub largestℤ : ℕ → (ℕ → ℤ) → (ℕ → Bool) → ℕ → Bool
+largestℤ m f X i = X i && not (any m (λ k. X k && ltZ (f i) (f k)))

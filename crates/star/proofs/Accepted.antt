@@ -16,8 +16,8 @@ use Rattle.rowset.specs.Bytes.{inRow}
 use Rattle.rowset.specs.Sets.{upTo, uppermost}
 use Rattle.rowset.proofs.Laws.{uppermost-none, uppermost-zero, in-upTo, upTo-in}
 use Rattle.star.specs.Accepted.{Row, AcceptedTable, AcceptedMeans}
-use Rattle.star.specs.Call.{Call, rowsOf, graphOf, weightOf}
-use Rattle.star.specs.Refusals.{maxVertices, maxRows, maxWeight, cause, causeAt, badVertices, tooManyRows, badLengths, badEnds, tooHeavy, badRow, tableCauses, orElse, refusal, Accepted}
+use Rattle.star.specs.Call.{Call, rowsOf, graphOf}
+use Rattle.star.specs.Refusals.{maxVertices, maxRows, cause, causeAt, badVertices, tooManyRows, badLengths, badEnds, badRow, tableCauses, orElse, refusal, Accepted}
 
 -- a disjunction that fails
 or-left : (a b : Bool) → (a || b) ≡ false → a ≡ false
@@ -104,10 +104,9 @@ pub record Taken (c : Call) : Type 0 where
   pub mark-length : length (c .mark) ≡ rowsOf c
   pub weight-length : length (c .weight) ≡ 4 * rowsOf c
   pub good-ends : (i : ℕ) → 1 ≤ i → i ≤ rowsOf c → badEnds c i ≡ false
-  pub good-weight : (i : ℕ) → 1 ≤ i → i ≤ rowsOf c → weightOf c i ≤ maxWeight
 
 pub taken : (c : Call) → Accepted c → Taken c
-unfolding tableCauses badVertices tooManyRows badLengths badRow tooHeavy
+unfolding tableCauses badVertices tooManyRows badLengths badRow
 taken c e =
     record {
       some-vertex = omega (arith, eqb-false (c .n) 0 (or-left (eqb (c .n) 0) (ltb maxVertices (c .n)) vertices));
@@ -116,8 +115,7 @@ taken c e =
       right-length = eqb-true _ _ (not-false _ (or-left right mark (or-left (right || mark) weight lengths)));
       mark-length = eqb-true _ _ (not-false _ (or-right right mark (or-left (right || mark) weight lengths)));
       weight-length = eqb-true _ _ (not-false _ (or-right (right || mark) weight lengths));
-      good-ends = λ i l u. or-left (badEnds c i) (tooHeavy c i) (good-row i l u);
-      good-weight = λ i l u. ltb-false maxWeight (weightOf c i) (or-right (badEnds c i) (tooHeavy c i) (good-row i l u));
+      good-ends = uppermost-none (rowsOf c) (badEnds c) (causeAt-none 4 _ (none-head _ _ (none-tail _ _ e₃)));
     }
   where
     vertices : (eqb (c .n) 0 || ltb maxVertices (c .n)) ≡ false
@@ -143,9 +141,6 @@ taken c e =
 
     lengths : (right || mark || weight) ≡ false
     lengths = cause-none _ 3 0 (none-head _ _ e₃)
-
-    good-row : (i : ℕ) → 1 ≤ i → i ≤ rowsOf c → (badEnds c i || tooHeavy c i) ≡ false
-    good-row i l u = uppermost-none (rowsOf c) (λ k. badEnds c k || tooHeavy c k) (causeAt-none _ _ (none-head _ _ (none-tail _ _ e₃))) i l u
 
 -- the graph of an accepted table is sound
 pub sound : (c : Call) → Taken c → Sound (graphOf c)
@@ -209,7 +204,6 @@ in-words c t =
       left-end = λ i r. s .left i (row i r);
       right-end = λ i r. s .right i (row i r);
       apart = λ i r. s .apart i (row i r);
-      weights = λ i r. t .good-weight i (r .0) (r .1);
     }
   where
     s : Sound (graphOf c)
@@ -220,12 +214,12 @@ in-words c t =
 
 -- and back
 from-words : (c : Call) → AcceptedTable c → Accepted c
-unfolding tableCauses badVertices tooManyRows badLengths badRow badEnds tooHeavy
+unfolding tableCauses badVertices tooManyRows badLengths badRow badEnds
 from-words c a =
     none-both _ _ (none-cause _ 1 0 (or-none (positive (c .n) (a .vertices .0)) (le-ltb _ _ (a .vertices .1))))
     (none-both _ _ (none-cause _ 2 0 (le-ltb _ _ (a .rows)))
     (none-both _ _ (none-cause _ 3 0 (or-none (or-none (same (a .right-length)) (same (a .mark-length))) (same (a .weight-length))))
-    (none-both _ _ (none-causeAt _ (uppermost-zero (rowsOf c) (λ k. badEnds c k || tooHeavy c k) good)) none-nil)))
+    (none-both _ _ (none-causeAt 4 (uppermost-zero (rowsOf c) (badEnds c) good)) none-nil)))
   where
     positive : (x : ℕ) → 1 ≤ x → eqb x 0 ≡ false
     positive x h = ne-eqb x 0 (λ e. omega arith)
@@ -233,15 +227,13 @@ from-words c a =
     same : {x y : ℕ} → x ≡ y → not (eqb x y) ≡ false
     same {x} {y} e = ap not (eq-eqb x y e)
 
-    good : (i : ℕ) → 1 ≤ i → i ≤ rowsOf c → (badEnds c i || tooHeavy c i) ≡ false
+    good : (i : ℕ) → 1 ≤ i → i ≤ rowsOf c → badEnds c i ≡ false
     good i l u =
         or-none
         (or-none
-        (or-none
         (or-none (or-none (positive _ (a .left-end i (l, u) .0)) (le-ltb _ _ (a .left-end i (l, u) .1))) (positive _ (a .right-end i (l, u) .0)))
         (le-ltb _ _ (a .right-end i (l, u) .1)))
-        (ne-eqb _ _ (a .apart i (l, u))))
-        (le-ltb _ _ (a .weights i (l, u)))
+        (ne-eqb _ _ (a .apart i (l, u)))
 
 pub accepted-means : AcceptedMeans
 accepted-means c = (λ e. in-words c (taken c e), from-words c)

@@ -1,11 +1,11 @@
--- An accepted table in words: what a table is that meets none of causes 1 to 5, with its mark column.
+-- An accepted table in words: what a table is that meets none of causes 1 to 4, with its mark column.
 -- Cites definitions alone; the proof is proofs/Accepted.antt. Assumes nothing.
 use Prim.Native.Nat.{ℕ, _*_, _≤_}
 use mathlib.Core.Logic.{_↔_, _≢_}
 use mathlib.Core.Path.{_≡_}
 use lib.ListN.{length}
 use Rattle.rowset.specs.Bytes.{inRow}
-use Rattle.star.specs.Call.{Call, weightOf}
+use Rattle.star.specs.Call.{Call}
 use Rattle.star.specs.Refusals.{Accepted}
 
 -- v is a vertex, 1 to n
@@ -28,8 +28,6 @@ pub record AcceptedTable (c : Call) : Type 0 where
   pub left-end : (i : ℕ) → Row c i → Vertex c (inRow 1 (c .left) i)
   pub right-end : (i : ℕ) → Row c i → Vertex c (inRow 1 (c .right) i)
   pub apart : (i : ℕ) → Row c i → inRow 1 (c .left) i ≢ inRow 1 (c .right) i
-  -- its weight is at most 2,147,483,647
-  pub weights : (i : ℕ) → Row c i → weightOf c i ≤ 2147483647
 
 -- the theorem: a table is accepted exactly when it is one in these words
 abbrev pub AcceptedMeans : Type 0

@@ -4,6 +4,7 @@ use Prim.Native.Nat.{ℕ, _*_, _-_}
 use mathlib.Core.List.{List, [], _∷_, _++_}
 use mathlib.Core.Option.{none}
 use mathlib.Core.Path.{_≡_}
+use lib.IntN.{pos}
 use lib.ListN.{replicate}
 use Rattle.rowset.specs.Words.{matrixWords}
 use Rattle.star.specs.Call.{Call, callOf, withClaim, exchanged}
@@ -39,8 +40,8 @@ expected =
     checked (lighter 1 2 2)
     ∷ checked (lighter 5 1 1)
     ∷ checked (lighter 2 3 1)
-    ∷ checked (passed 2164392706)
-    ∷ built (passed 2164392706) (1 ∷ 0 ∷ 1 ∷ [])
+    ∷ checked (passed (pos 2164392706))
+    ∷ built (passed (pos 2164392706)) (1 ∷ 0 ∷ 1 ∷ [])
     ∷ filled none (replicate 16 0 ++ ((9223372036854775808 ∷ replicate 15 0) ++ (9223372036854775808 ∷ 1 ∷ replicate 14 0)))
     ∷ []
 
@@ -58,7 +59,7 @@ givenBytes =
     ∷ mst1DoorMarks (yard (0 ∷ 0 ∷ 0 ∷ 0 ∷ 0 ∷ [])) (nines 16)
     ∷ mst1Door (callOf 2 [] [] [] []) (nines 16)
     ∷ cstDoor (dear (1 ∷ 0 ∷ 1 ∷ [])) (nines 16)
-    ∷ fieldBytes (record { kind = 2; number = 3; out = 258; into = 1023; amount = 578437695752307201 })
+    ∷ fieldBytes (record { kind = 2; number = 3; out = 258; into = 1023; amount = pos 578437695752307201 })
     ∷ cstDoor (yard (0 ∷ 1 ∷ 1 ∷ 1 ∷ 0 ∷ [])) (nines 15)
     ∷ cstDoor (yard (0 ∷ 1 ∷ 1 ∷ 1 ∷ 0 ∷ [])) (nines 17)
     ∷ mst1Door (yard (6 ∷ 0 ∷ 0 ∷ 0 ∷ 0 ∷ [])) (nines 15)
@@ -97,7 +98,7 @@ OtherClaim = withClaim (yard []) (1 ∷ []) ≡ yard (1 ∷ [])
 abbrev pub ReadBack : Type 0
 ReadBack =
     readBack (2 ∷ 3 ∷ 2 ∷ 1 ∷ 255 ∷ 3 ∷ 9 ∷ 9 ∷ 1 ∷ 2 ∷ 3 ∷ 4 ∷ 5 ∷ 6 ∷ 7 ∷ 8 ∷ 9 ∷ [])
-    ≡ record { kind = 2; number = 3; out = 258; into = 1023; amount = 578437695752307201 }
+    ≡ record { kind = 2; number = 3; out = 258; into = 1023; amount = pos 578437695752307201 }
 
 -- row 961 alone is marked: the columns of vertices 1 and 2
 abbrev pub LastWord : Type 0

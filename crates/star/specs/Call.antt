@@ -4,10 +4,12 @@ use Prim.Native.Nat.{ℕ, zero, suc, _-_}
 use mathlib.Core.Bool.{Bool, cond}
 use mathlib.Core.List.{List, [], _∷_}
 use lib.Dec.{eqb}
+use lib.IntN.{ℤ}
 use lib.ListN.{length, set}
 use Rattle.graph.specs.Graph.{Graph}
 use Rattle.rowset.specs.Bytes.{inRow}
-use Rattle.rowset.specs.Sets.{upTo, sum}
+use Rattle.rowset.specs.Integers.{signed, total}
+use Rattle.rowset.specs.Sets.{upTo}
 
 -- n, the left and right columns with one byte a row, the weight column with four, and the mark column, or claim, with one
 pub record Call : Type 0 where
@@ -36,17 +38,17 @@ graphOf c =
       rows = upTo (rowsOf c);
     }
 
--- the weight of row i
-unfoldable pub weightOf : Call → ℕ → ℕ
-weightOf c = inRow 4 (c .weight)
+-- the weight of row i: the integer that its four bytes stand for, −2,147,483,648 to 2,147,483,647
+unfoldable pub weightOf : Call → ℕ → ℤ
+weightOf c i = signed (inRow 4 (c .weight) i)
 
 -- the marked rows of a claim: those whose byte is 1
 unfoldable pub marked : List ℕ → ℕ → Bool
 marked l i = eqb (inRow 1 l i) 1
 
 -- the weight of the claim: the sum of its marked rows' weights
-unfoldable pub claimWeight : Call → ℕ
-claimWeight c = sum (rowsOf c) (weightOf c) (marked (c .mark))
+unfoldable pub claimWeight : Call → ℤ
+claimWeight c = total (rowsOf c) (weightOf c) (marked (c .mark))
 
 -- the same table with another claim
 abbrev pub withClaim : Call → List ℕ → Call

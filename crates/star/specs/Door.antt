@@ -4,9 +4,11 @@ use Prim.Native.Nat.{ℕ, zero, suc, _/_, _%_}
 use mathlib.Core.Bool.{Bool, true, false, cond}
 use mathlib.Core.List.{List, [], _∷_, _++_}
 use lib.Dec.{eqb}
+use lib.IntN.{ℤ, pos}
 use lib.ListN.{length}
 use Rattle.refusal.specs.declared.Refusal.{Refusal}
 use Rattle.rowset.specs.Bytes.{little}
+use Rattle.rowset.specs.Integers.{fromBits, toBits}
 use Rattle.star.specs.Call.{Call}
 use Rattle.star.specs.Cst.{Answer, refused, passed, lighter, cst}
 use Rattle.star.specs.Mst1.{mst1, mst1Marks}
@@ -17,28 +19,28 @@ pub record Fields : Type 0 where
   pub number : ℕ
   pub out : ℕ
   pub into : ℕ
-  pub amount : ℕ
+  pub amount : ℤ
 
 unfoldable pub fields : Answer → Fields
-fields (refused r) = record { kind = 0; number = r .number; out = r .place; into = 0; amount = 0 }
+fields (refused r) = record { kind = 0; number = r .number; out = r .place; into = 0; amount = pos 0 }
 fields (passed weight) = record { kind = 1; number = 0; out = 0; into = 0; amount = weight }
-fields (lighter out into saving) = record { kind = 2; number = 0; out = out; into = into; amount = saving }
+fields (lighter out into saving) = record { kind = 2; number = 0; out = out; into = into; amount = pos saving }
 
 -- the k bytes of a number, least significant first
 unfoldable pub bytesOf : ℕ → ℕ → List ℕ
 bytesOf zero x = []
 bytesOf (suc k) x = x % 256 ∷ bytesOf k (x / 256)
 
--- byte 0 the kind, byte 1 the number, bytes 2 and 3 out or place, bytes 4 and 5 in, bytes 6 and 7 zero, bytes 8 to 15 the weight or the saving
+-- byte 0 the kind, byte 1 the number, bytes 2 and 3 out or place, bytes 4 and 5 in, bytes 6 and 7 zero, bytes 8 to 15 the weight or the saving in two's complement
 unfoldable pub fieldBytes : Fields → List ℕ
 fieldBytes f =
     bytesOf 1 (f .kind) ++ bytesOf 1 (f .number) ++ bytesOf 2 (f .out) ++ bytesOf 2 (f .into) ++ bytesOf 2 0
-    ++ bytesOf 8 (f .amount)
+    ++ bytesOf 8 (toBits 64 (f .amount))
 
 -- the fields that are read back from sixteen bytes
 unfoldable pub readBack : List ℕ → Fields
 readBack l =
-    record { kind = little l 0 1; number = little l 1 1; out = little l 2 2; into = little l 4 2; amount = little l 8 8 }
+    record { kind = little l 0 1; number = little l 1 1; out = little l 2 2; into = little l 4 2; amount = fromBits 64 (little l 8 8) }
 
 -- whether the lent answer has sixteen bytes; otherwise the call returns 0 and writes nothing
 unfoldable pub wellLent : List ℕ → Bool

@@ -8,3 +8,4 @@ pub mod Door
 pub mod Trials
 pub mod RefusalTrials
 pub mod AnswerTrials
+pub mod SignedTrials

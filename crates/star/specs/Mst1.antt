@@ -6,7 +6,8 @@ use mathlib.Core.List.{List}
 use mathlib.Core.Option.{Option, none, some}
 use Rattle.graph.specs.Builder.{Fragment, tree}
 use Rattle.refusal.specs.declared.Refusal.{Refusal}
-use Rattle.rowset.specs.Sets.{empty, sum}
+use Rattle.rowset.specs.Integers.{total}
+use Rattle.rowset.specs.Sets.{empty}
 use Rattle.star.specs.Call.{Call, rowsOf, graphOf, weightOf, claimOf}
 use Rattle.star.specs.Cst.{Answer, refused, passed}
 use Rattle.star.specs.Refusals.{mst1Causes, refusal}
@@ -22,7 +23,7 @@ treeRows c = chosenRows (tree (graphOf c) (weightOf c))
 -- MST1's answer: the refusal, or the tree's weight
 unfoldable pub built : Call → Option Refusal → Answer
 built c (some r) = refused r
-built c none = passed (sum (rowsOf c) (weightOf c) (treeRows c))
+built c none = passed (total (rowsOf c) (weightOf c) (treeRows c))
 
 unfoldable pub mst1 : Call → Answer
 mst1 c = built c (refusal (mst1Causes c))

@@ -4,6 +4,7 @@ use Prim.Native.Nat.{ℕ}
 use mathlib.Core.List.{List, [], _∷_, _++_}
 use mathlib.Core.Option.{Option, none, some}
 use mathlib.Core.Path.{_≡_}
+use lib.IntN.{pos}
 use lib.ListN.{replicate}
 use Rattle.star.specs.Call.{Call, callOf}
 use Rattle.star.specs.Cst.{refused, passed}
@@ -105,7 +106,7 @@ expected =
     ∷ no 3 0
     ∷ unbuilt 3 0 (8 ∷ 8 ∷ [])
     ∷ unfilled 3 0 (sevens 3)
-    ∷ checked (passed 5)  -- 4: both ends are vertices, and n is one of them
+    ∷ checked (passed (pos 5))  -- 4: both ends are vertices, and n is one of them
     ∷ no 4 1  -- the left end is 0, or n + 1
     ∷ no 4 1
     ∷ no 4 1  -- the right end is 0, or n + 1
@@ -129,7 +130,7 @@ expected =
     ∷ no 10 4  -- two vertices that are not joined to vertex 1
     ∷ unfilled 10 1 (sevens 80)  -- three that are not joined to vertex 5
     ∷ unbuilt 11 0 (9 ∷ [])  -- 11: no spanning tree, and the marks stay
-    ∷ built (passed 5) (1 ∷ [])  -- MST1 does not read what its mark column held
+    ∷ built (passed (pos 5)) (1 ∷ [])  -- MST1 does not read what its mark column held
     ∷ []
 
 -- the theorem: each trial gives what it should

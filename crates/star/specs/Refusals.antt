@@ -2,7 +2,7 @@
 -- A cause that a check finds without the whole call is written over what it looks at, and then taken for a call.
 -- Assumes nothing.
 use Prim.Native.Nat.{ℕ, zero, suc, _*_}
-use mathlib.Core.Bool.{Bool, true, false, not, cond, _||_}
+use mathlib.Core.Bool.{Bool, true, false, not, _||_}
 use mathlib.Core.List.{List, [], _∷_, _++_}
 use mathlib.Core.Option.{Option, none, some}
 use mathlib.Core.Path.{_≡_}
@@ -16,15 +16,12 @@ use Rattle.rowset.specs.Sets.{uppermost, count}
 use Rattle.rowset.specs.Words.{columnWords}
 use Rattle.star.specs.Call.{Call, rowsOf, graphOf, weightOf, marked}
 
--- the largest n, m and weight that are taken
+-- the largest n and m that are taken
 abbrev pub maxVertices : ℕ
 maxVertices = 255
 
 abbrev pub maxRows : ℕ
 maxRows = 1024
-
-abbrev pub maxWeight : ℕ
-maxWeight = 2147483647
 
 -- the refusal with this number and place where the test holds
 unfoldable pub cause : Bool → ℕ → ℕ → Option Refusal
@@ -58,15 +55,9 @@ wrongEnds n a b = eqb a 0 || ltb n a || eqb b 0 || ltb n b || eqb a b
 unfoldable pub badEnds : Call → ℕ → Bool
 badEnds c i = wrongEnds (c .n) (inRow 1 (c .left) i) (inRow 1 (c .right) i)
 
--- a weight above 2,147,483,647
-unfoldable pub tooHeavy : Call → ℕ → Bool
-tooHeavy c i = ltb maxWeight (weightOf c i)
-
--- 4 and 5: sought row by row from the top, 4 first in a row
+-- 4: sought row by row from the top
 unfoldable pub badRow : Call → Option Refusal
-badRow c =
-    let i = uppermost (rowsOf c) (λ k. badEnds c k || tooHeavy c k) in
-    causeAt (cond (badEnds c i) 4 5) i
+badRow c = causeAt 4 (uppermost (rowsOf c) (badEnds c))
 
 -- 6: a claim byte other than 0 and 1
 abbrev pub wrongByte : (mark : List ℕ) → ℕ → Bool
@@ -140,6 +131,6 @@ unfoldable pub refusal : List (Option Refusal) → Option Refusal
 refusal [] = none
 refusal (x ∷ xs) = orElse x (refusal xs)
 
--- an accepted table, with its mark column: none of causes 1 to 5 applies
+-- an accepted table, with its mark column: none of causes 1 to 4 applies
 abbrev pub Accepted : Call → Type 0
 Accepted c = refusal (tableCauses c) ≡ none

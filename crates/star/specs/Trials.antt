@@ -4,6 +4,7 @@ use Prim.Native.Nat.{ℕ}
 use mathlib.Core.List.{List, [], _∷_, _++_}
 use mathlib.Core.Option.{Option, none, some}
 use mathlib.Core.Path.{_≡_}
+use lib.IntN.{pos}
 use lib.ListN.{replicate}
 use Rattle.refusal.specs.declared.Refusal.{Refusal}
 use Rattle.star.specs.Call.{Call}
@@ -103,18 +104,18 @@ given =
 -- Two more: the Stem is built without row 4, whose ends are both in the fragment; and of the heavier rows 1 and 2 the uppermost goes out, not the heaviest
 abbrev pub expected : List Result
 expected =
-    built (passed 12) (1 ∷ 1 ∷ 0 ∷ 1 ∷ 0 ∷ [])
+    built (passed (pos 12)) (1 ∷ 1 ∷ 0 ∷ 1 ∷ 0 ∷ [])
     ∷ checked (lighter 1 4 1)
-    ∷ checked (passed 12)
+    ∷ checked (passed (pos 12))
     ∷ checked (refused (because 10 4))
     ∷ checked (refused (because 9 0))
     ∷ filled none (column 3 ++ (column 2 ++ (column 0 ++ (column 11 ++ (7 ∷ 7 ∷ [])))))
-    ∷ built (passed 0) []
-    ∷ checked (passed 0)
+    ∷ built (passed (pos 0)) []
+    ∷ checked (passed (pos 0))
     ∷ built (refused (because 11 0)) []
     ∷ checked (lighter 1 2 2)
-    ∷ checked (passed 11)
-    ∷ built (passed 11) (1 ∷ 1 ∷ 1 ∷ 0 ∷ [])
+    ∷ checked (passed (pos 11))
+    ∷ built (passed (pos 11)) (1 ∷ 1 ∷ 1 ∷ 0 ∷ [])
     ∷ checked (lighter 1 4 3)
     ∷ []
 
