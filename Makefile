@@ -1,8 +1,9 @@
-# make           the archive of the proved core, and the console
+# make           the library over the proved core, and the console
 # make run       checks the yard
 # make test      the whole gate: proofs, must-fail edits, programs, tests from outside
 # make bench     times the door against other libraries, where they are installed
-# make install PREFIX=DIR   the header, the archive and the console
+# make install PREFIX=DIR     the header, the library, the console, its manual page, the pkg-config file; needs no toolchain once all is built
+# make uninstall PREFIX=DIR   removes these files
 CC ?= cc
 CXX ?= c++
 CFLAGS ?= -O2 -g -Wall -Wextra -Wpedantic
@@ -10,22 +11,43 @@ CXXFLAGS ?= -O2
 PREFIX ?= /usr/local
 BUILD := target/c
 ARCHIVE := target/staticlib/libdoor.a
-CONSOLE := console/main.c console/table.c console/stp.c console/draw.c
+LIBRARY := $(BUILD)/libstar.a
+CONSOLE := $(sort $(wildcard console/*.c))
 READSTP := target/bin/readstp
+VERSION := $(shell sed -n 's/^\#define STAR_VERSION "\(.*\)"/\1/p' include/star.h)
 
 all: $(BUILD)/star
 
-# rt proves the core before it writes the archive, and does nothing where nothing has changed.
-$(ARCHIVE): FORCE
-	rt staticlib door
+# rt proves the core before it writes the archive, and does nothing where nothing has changed. On a fresh machine that takes minutes: a line
+# a crate that is proved is shown, and all that rt prints is kept in a log. The status stands in the log's last line.
+define PROVE
+@mkdir -p target; began=$$(date +%s); log=target/make-$(2).log; echo "proving what has changed; the log is $$log"; \
+{ rt $(1) 2>&1; echo "status $$?"; } | tee $$log | grep --line-buffered '^rt: ' | grep --line-buffered -v 'unchanged since'; \
+tail -n 1 $$log | grep -q '^status 0$$' || { tail -n 40 $$log; exit 1; }; \
+echo "proved ($$(($$(date +%s) - began)) s in all)"
+endef
+
+# What is installed is taken as it was built: make install alone asks rt for nothing that is there.
+ifneq ($(filter-out install uninstall,$(or $(MAKECMDGOALS),all)),)
+$(ARCHIVE) $(READSTP): FORCE
+endif
+
+$(ARCHIVE):
+	$(call PROVE,staticlib door,library)
 
 # The program that prints what an STP text holds, proved as well.
-$(READSTP): FORCE
-	rt check readstp
+$(READSTP):
+	$(call PROVE,check readstp,readstp)
 
-$(BUILD)/star: $(ARCHIVE) $(CONSOLE) console/table.h console/stp.h console/draw.h include/star.h
+# The proved procedures and the part of the library that is written in C.
+$(LIBRARY): $(ARCHIVE) include/star.c include/star.h
 	@mkdir -p $(BUILD)
-	$(CC) -std=c99 $(CFLAGS) -Iinclude -o $@ $(CONSOLE) $(ARCHIVE) -lm
+	$(CC) -std=c99 $(CFLAGS) -Iinclude -c -o $(BUILD)/star.o include/star.c
+	cp $(ARCHIVE) $@
+	$(AR) rs $@ $(BUILD)/star.o
+
+$(BUILD)/star: $(LIBRARY) $(CONSOLE) $(wildcard console/*.h) include/star.h
+	$(CC) -std=c99 $(CFLAGS) -Iinclude -o $@ $(CONSOLE) $(LIBRARY) -lm
 
 $(BUILD)/door_test: $(ARCHIVE) tests/door_test.c tests/plain.c tests/plain.h include/star.h
 	@mkdir -p $(BUILD)
@@ -49,21 +71,31 @@ test:
 	bash .ci/run
 
 # What stands outside the proofs: the doors against the plain implementation, the import against the plain reader (python3), both under a
-# memory checker, and the console's output.
+# memory checker, and the console.
 outside: $(BUILD)/star $(BUILD)/door_test $(BUILD)/import_test $(READSTP)
 	bash tests/outside.sh $(BUILD) $(READSTP)
 
 bench: $(BUILD)/bench
 	$(BUILD)/bench
 
+INCLUDES := $(DESTDIR)$(PREFIX)/include
+LIBRARIES := $(DESTDIR)$(PREFIX)/lib
+PROGRAMS := $(DESTDIR)$(PREFIX)/bin
+MANUALS := $(DESTDIR)$(PREFIX)/share/man/man1
+
 install: $(BUILD)/star
-	install -d $(DESTDIR)$(PREFIX)/include $(DESTDIR)$(PREFIX)/lib $(DESTDIR)$(PREFIX)/bin
-	install -m 644 include/star.h $(DESTDIR)$(PREFIX)/include/star.h
-	install -m 644 $(ARCHIVE) $(DESTDIR)$(PREFIX)/lib/libstar.a
-	install -m 755 $(BUILD)/star $(DESTDIR)$(PREFIX)/bin/star
+	install -d $(INCLUDES) $(LIBRARIES)/pkgconfig $(PROGRAMS) $(MANUALS)
+	install -m 644 include/star.h $(INCLUDES)/star.h
+	install -m 644 $(LIBRARY) $(LIBRARIES)/libstar.a
+	install -m 755 $(BUILD)/star $(PROGRAMS)/star
+	sed 's|@VERSION@|$(VERSION)|; s|@PREFIX@|$(PREFIX)|' include/star.pc.in >$(LIBRARIES)/pkgconfig/star.pc
+	sed 's|@VERSION@|$(VERSION)|' console/star.1 >$(MANUALS)/star.1
+
+uninstall:
+	rm -f $(INCLUDES)/star.h $(LIBRARIES)/libstar.a $(PROGRAMS)/star $(LIBRARIES)/pkgconfig/star.pc $(MANUALS)/star.1
 
 clean:
 	rm -rf target
 
 FORCE:
-.PHONY: all run test outside bench install clean FORCE
+.PHONY: all run test outside bench install uninstall clean FORCE

@@ -2,109 +2,128 @@
 #include "stp.h"
 
 #include <inttypes.h>
-#include <stdlib.h>
-#include <string.h>
 
-#include "star.h"
+#include "refusal.h"
 
-static const char GAPS[] = " \t\n\r";
+int stp_opens(struct span text) { return text_is(text_nth(text, 0), "33D32945"); }
 
-enum { SHOWN = 40 };
-
-static int gap(char c) { return c != '\0' && strchr(GAPS, c) != NULL; }
-
-/* The first place from k on that is, or is not, in a word. */
-static size_t skip(const char *text, size_t len, size_t k, int gaps) {
-    while (k < len && gap(text[k]) == gaps) k++;
-    return k;
-}
-
-int stp_opens(const char *text, size_t len) {
-    static const char opens[] = "33D32945";
-    size_t k = skip(text, len, 0, 1), i;
-    if (skip(text, len, k, 0) - k != sizeof opens - 1) return 0;
-    for (i = 0; opens[i]; i++)
-        if (text[k + i] != opens[i] && !(opens[i] == 'D' && text[k + i] == 'd')) return 0;
-    return 1;
-}
-
-/* The line of a place, counted from 1 as an editor does: CR and LF together end one line. */
-static size_t line_of(const char *text, size_t place) {
-    size_t k, line = 1;
-    for (k = 0; k < place; k++) line += text[k] == '\n' || (text[k] == '\r' && text[k + 1] != '\n');
-    return line;
+/* The line of a place. */
+static size_t line_of(struct span text, size_t place) {
+    const char *at = text.at + place;
+    struct span line;
+    size_t number = 0;
+    while (text_line(&text, &line) && line.at <= at) number++;
+    return number;
 }
 
 /* Whether a place is the first of its line but for blanks. */
-static int opens_line(const char *text, size_t place) {
-    while (place > 0 && (text[place - 1] == ' ' || text[place - 1] == '\t')) place--;
-    return place == 0 || gap(text[place - 1]);
+static int opens_line(struct span text, size_t place) {
+    while (place > 0 && (text.at[place - 1] == ' ' || text.at[place - 1] == '\t')) place--;
+    return place == 0 || text.at[place - 1] == '\n' || text.at[place - 1] == '\r';
 }
 
-static void broken(FILE *to, const char *text, size_t len, size_t place) {
-    size_t k, end;
-    if (len > STAR_MAX_TEXT) {
-        fprintf(to, "the text has %zu bytes; at most %d are taken.\n", len, STAR_MAX_TEXT);
+static void broken(struct message *to, const char *file, struct span text, uint64_t place) {
+    struct span rest = text, word;
+    size_t k = (size_t)place, line = 0, i;
+    if (text.len <= STAR_MAX_TEXT && k < text.len) line = line_of(text, k);
+    refusal_opens(to, STAR_BAD_TEXT, file, line);
+    if (text.len > STAR_MAX_TEXT) {
+        say(to, "the text has %zu bytes; at most %d are taken.", text.len, STAR_MAX_TEXT);
         return;
     }
-    if (place >= len) {
-        while (len > 0 && gap(text[len - 1])) len--;
-        fprintf(to, "the text ends too early, after line %zu.\n", line_of(text, len));
+    if (k >= text.len) {
+        for (i = 0; text_word(&rest, &word);) i = (size_t)(word.at - text.at);
+        say(to, "the text ends too early, after line %zu.", line_of(text, i));
         return;
     }
-    end = skip(text, len, place, 0);
-    fprintf(to, "line %zu: the word '", line_of(text, place));
-    for (k = place; k < end && k - place < SHOWN; k++)
-        if (text[k] > ' ' && text[k] < 127) putc(text[k], to);
-        else fprintf(to, "\\x%02x", (unsigned)(unsigned char)text[k]);
-    fprintf(to, "%s' cannot stand there%s.\n", k < end ? ".." : "", opens_line(text, place) ? ", or the line before it ends too soon" : "");
+    rest.at += k;
+    rest.len -= k;
+    text_word(&rest, &word);
+    say(to, "the word ");
+    say_quoted(to, word);
+    say(to, " cannot stand there%s.", opens_line(text, k) ? ", or the line before it ends too soon" : "");
 }
 
-static void refusal(FILE *to, const char *text, size_t len, struct star_imported a) {
-    fprintf(to, "Refused (%u): ", a.number);
+/* What the section Graph of a text says. */
+struct graph {
+    struct place nodes, edges; /* the numbers in the lines Nodes and Edges */
+    struct place wanted;       /* the E line asked for */
+    size_t rows;               /* E lines */
+};
+
+static struct place number_in(struct place at) {
+    at.text = text_nth(at.text, 1);
+    return at;
+}
+
+/* Looks up the lines of the section Graph in a text whose layout the door has found sound. */
+static struct graph graph_of(struct span text, uint64_t wanted) {
+    struct graph g = {{0, {NULL, 0}}, {0, {NULL, 0}}, {0, {NULL, 0}}, 0};
+    struct place at = {0, {NULL, 0}};
+    enum { BETWEEN, GRAPH, OTHER } section = BETWEEN;
+    while (text_line(&text, &at.text)) {
+        struct span first = text_nth(at.text, 0), second = text_nth(at.text, 1);
+        at.line++;
+        if (section == BETWEEN) section = !text_is(first, "SECTION") ? BETWEEN : text_is(second, "GRAPH") ? GRAPH : OTHER;
+        else if (text_is(first, "END") && second.len == 0) section = BETWEEN;
+        else if (section == GRAPH && text_is(first, "NODES")) g.nodes = number_in(at);
+        else if (section == GRAPH && text_is(first, "EDGES")) g.edges = number_in(at);
+        else if (section == GRAPH && text_is(first, "E") && ++g.rows == wanted) g.wanted = at;
+    }
+    return g;
+}
+
+static void refused(struct message *to, const char *file, struct span text, struct star_imported a) {
+    struct graph g = graph_of(text, a.place);
+    struct span ends[2];
+    uint32_t n = 0;
     switch (a.number) {
-    case STAR_BAD_TEXT:
-        broken(to, text, len, (size_t)a.place);
-        break;
     case STAR_BAD_EDGE_COUNT:
-        fprintf(to, "the E lines are not as many as the line Edges says.\n");
+        refusal_opens(to, a.number, file, g.edges.line);
+        say(to, "the line Edges says ");
+        say_word(to, g.edges.text);
+        say(to, ", and ");
+        say_count(to, g.rows, "E line stands in the section.", "E lines stand in the section.");
         break;
     case STAR_BAD_JUNCTION_COUNT:
-        fprintf(to, "the line Nodes gives no count from 1 to %d.\n", STAR_MAX_JUNCTIONS);
+        refusal_opens(to, a.number, file, g.nodes.line);
+        say(to, "the line Nodes says ");
+        say_word(to, g.nodes.text);
+        say(to, "; from 1 to %d junctions are taken.", STAR_MAX_JUNCTIONS);
         break;
     case STAR_TOO_MANY_ROWS:
-        fprintf(to, "there are more than %d E lines.\n", STAR_MAX_ROWS);
+        refusal_opens(to, a.number, file, 0);
+        say(to, "there are %zu E lines; at most %d are taken.", g.rows, STAR_MAX_ROWS);
         break;
     case STAR_BAD_END:
-        fprintf(to, "E line %" PRIu64 " does not join two different junctions; they count from 1 to the number in the line Nodes, at most %d.\n", a.place, STAR_MAX_JUNCTIONS);
+        refusal_opens(to, a.number, file, g.wanted.line);
+        ends[0] = text_nth(g.wanted.text, 1);
+        ends[1] = text_nth(g.wanted.text, 2);
+        text_number(g.nodes.text, &n);
+        refusal_of_end(to, (size_t)a.place, ends, n);
         break;
     case STAR_BAD_PRICE:
-        fprintf(to, "E line %" PRIu64 " has a price above %" PRIu32 ".\n", a.place, STAR_MAX_PRICE);
+        refusal_opens(to, a.number, file, g.wanted.line);
+        refusal_of_price(to, (size_t)a.place, text_nth(g.wanted.text, 3));
         break;
     default:
-        fprintf(to, "place %" PRIu64 ".\n", a.place);
+        refusal_opens(to, a.number, file, 0);
+        say(to, "%s (place %" PRIu64 ").", star_refusal_text(a.number), a.place);
     }
 }
 
-int stp_read(struct table *t, const char *text, size_t len, FILE *to) {
-    uint8_t bytes[STAR_ANSWER_BYTES];
+int stp_read(struct table *t, struct span text, struct message *fault) {
+    uint8_t answer[STAR_ANSWER_BYTES];
     struct star_imported a;
-    memset(t, 0, sizeof *t);
-    t->left = calloc(STAR_MAX_ROWS, 1);
-    t->right = calloc(STAR_MAX_ROWS, 1);
-    t->weight = calloc(STAR_MAX_ROWS, 4);
-    t->mark = calloc(STAR_MAX_ROWS, 1);
-    if (!t->left || !t->right || !t->weight || !t->mark) {
-        fprintf(to, "no memory is left\n");
-        return 0;
+    star_import((const uint8_t *)text.at, text.len, t->left, STAR_MAX_ROWS, t->right, STAR_MAX_ROWS, t->weight, PRICE_BYTES * STAR_MAX_ROWS, answer,
+                sizeof answer);
+    a = star_read_imported(answer);
+    if (a.kind == STAR_PASSED) {
+        t->n = a.n;
+        t->m = a.m;
+        return 1;
     }
-    star_import((const uint8_t *)text, len, t->left, STAR_MAX_ROWS, t->right, STAR_MAX_ROWS, t->weight, 4 * STAR_MAX_ROWS, bytes, sizeof bytes);
-    a = star_read_imported(bytes);
-    if (a.kind != STAR_PASSED) {
-        refusal(to, text, len, a);
-        return 0;
-    }
-    t->n = a.n;
-    t->m = a.m;
-    return 1;
+    if (a.number == STAR_BAD_TEXT) broken(fault, t->file, text, a.place);
+    else refused(fault, t->file, text, a);
+    return 0;
 }

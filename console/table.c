@@ -1,107 +1,113 @@
-/* Reads the planner's table. Words are parted by blanks; what follows # is a comment; empty lines do not count. */
+/* Reads and writes the planner's table. Words are parted by blanks; what follows # is a comment; empty lines do not count. */
 #include "table.h"
 
-#include <stdlib.h>
+#include <inttypes.h>
 #include <string.h>
 
-enum { MAX_WORDS = 5 };
+enum { MIN_WORDS = 3, MAX_WORDS = 4 };
 
-static int fault(const char *name, unsigned long line, const char *what) {
-    fprintf(stderr, "%s:%lu: %s\n", name, line, what);
+static int has(struct span s, char c) { return s.len > 0 && memchr(s.at, c, s.len) != NULL; }
+
+/* The line without its comment and the blanks around it. */
+static struct span content(struct span line) {
+    const char *end = line.len > 0 ? memchr(line.at, '#', line.len) : NULL;
+    if (end) line.len = (size_t)(end - line.at);
+    while (line.len > 0 && (line.at[0] == ' ' || line.at[0] == '\t')) line.at++, line.len--;
+    while (line.len > 0 && (line.at[line.len - 1] == ' ' || line.at[line.len - 1] == '\t')) line.len--;
+    return line;
+}
+
+/* Says what is wrong with a line, with the piece of it that is meant. */
+static int wrong(struct message *fault, struct span line, struct span piece, const char *what) {
+    say_quoted(fault, piece);
+    say(fault, " %s", what);
+    if (has(line, ',') || has(line, ';')) say(fault, "; words are parted by blanks, not by commas or semicolons");
     return 0;
 }
 
-/* A decimal number of at most `most`, digits alone. */
-static int number(const char *word, uint32_t most, uint32_t *value) {
-    uint64_t x = 0;
-    if (*word == '\0') return 0;
-    for (; *word; word++) {
-        if (*word < '0' || *word > '9') return 0;
-        x = x * 10 + (uint64_t)(*word - '0');
-        if (x > most) return 0;
-    }
-    *value = (uint32_t)x;
-    return 1;
-}
-
-static int words_of(char *line, char *words[MAX_WORDS + 1]) {
-    int count = 0;
-    char *word;
-    line[strcspn(line, "#")] = '\0';
-    for (word = strtok(line, " \t\r\n"); word && count <= MAX_WORDS; word = strtok(NULL, " \t\r\n")) words[count++] = word;
-    return count;
-}
-
-static int room_for(struct table *t, size_t *room) {
-    uint8_t *p;
-    if (t->m < *room) return 1;
-    *room = *room ? *room * 2 : 64;
-    if (!(p = realloc(t->left, *room))) return 0;
-    t->left = p;
-    if (!(p = realloc(t->right, *room))) return 0;
-    t->right = p;
-    if (!(p = realloc(t->weight, *room * 4))) return 0;
-    t->weight = p;
-    if (!(p = realloc(t->mark, *room))) return 0;
-    t->mark = p;
-    return 1;
-}
+static uint8_t byte_or(uint32_t x, uint8_t otherwise) { return x > UINT8_MAX ? otherwise : (uint8_t)x; }
 
 /* One trench: two junctions, a price, and a mark or none. */
-static int trench(struct table *t, char *words[], int count, uint32_t *largest, const char *name, unsigned long line) {
-    uint32_t a, b, price, mark = 0;
-    int i;
-    if (count < 3 || count > 4) return fault(name, line, "a trench has two junctions, a price and, if it is marked or not, a mark");
-    if (!number(words[0], UINT32_MAX, &a) || !number(words[1], UINT32_MAX, &b)) return fault(name, line, "a junction is a number");
-    if (!number(words[2], UINT32_MAX, &price)) return fault(name, line, "a price is a whole number of at most 4294967295");
-    if (count == 4 && !number(words[3], 255, &mark)) return fault(name, line, "a mark is 0 or 1");
-    if (count == 4) t->marked = 1;
-    if (a > *largest) *largest = a;
-    if (b > *largest) *largest = b;
-    t->left[t->m] = a > 255 ? 0 : (uint8_t)a;
-    t->right[t->m] = b > 255 ? 0 : (uint8_t)b;
-    for (i = 0; i < 4; i++) t->weight[4 * t->m + (size_t)i] = (uint8_t)(price >> (8 * i));
-    t->mark[t->m] = (uint8_t)mark;
-    t->m++;
-    return 1;
-}
-
-int table_read(struct table *t, char *text, size_t len, const char *name) {
-    char *words[MAX_WORDS + 1], *start, *end, *stop = text + len;
-    uint32_t largest = 0;
-    unsigned long line = 0;
-    size_t room = 0;
-    int told = 0, count;
-    memset(t, 0, sizeof *t);
-    for (start = text; start < stop; start = end + 1) {
-        line++;
-        end = memchr(start, '\n', (size_t)(stop - start));
-        if (!end) end = stop;
-        *end = '\0';
-        if (strlen(start) != (size_t)(end - start)) return fault(name, line, "a zero byte stands in the line");
-        count = words_of(start, words);
-        if (count == 0) continue;
-        if (strcmp(words[0], "junctions") == 0) {
-            if (told || count != 2 || !number(words[1], UINT32_MAX, &t->n)) return fault(name, line, "expected one line 'junctions N', N a number");
-            told = 1;
-            continue;
+static int trench(struct table *t, struct place at, struct message *fault) {
+    struct span words[MAX_WORDS + 1], rest = at.text;
+    uint32_t end[2], mark = 0;
+    uint8_t price[PRICE_BYTES];
+    int count = 0, i;
+    while (count <= MAX_WORDS && text_word(&rest, &words[count])) count++;
+    if (count < MIN_WORDS || count > MAX_WORDS) return wrong(fault, at.text, at.text, "is not a trench, which has two junctions, a price and a mark");
+    for (i = 0; i < 2; i++)
+        if (!text_number(words[i], &end[i])) return wrong(fault, at.text, words[i], "is not a junction, a number from 1 to 255");
+    if (!price_read(words[2], price)) return wrong(fault, at.text, words[2], "is not a price, " PRICE_TEXT);
+    if (count == MAX_WORDS && !text_number(words[3], &mark)) return wrong(fault, at.text, words[3], "is not a mark, 0 or 1");
+    for (i = 0; i < 2; i++)
+        if (!t->told && end[i] > t->n) {
+            t->n = end[i];
+            t->count.line = at.line;
+            t->count.text = words[i];
         }
-        if (!room_for(t, &room)) return fault(name, line, "no memory is left");
-        if (!trench(t, words, count, &largest, name, line)) return 0;
-    }
-    if (!told) t->n = largest;
+    if (t->m++ >= KEPT) return 1;
+    t->left[t->m - 1] = byte_or(end[0], 0);
+    t->right[t->m - 1] = byte_or(end[1], 0);
+    memcpy(t->weight + PRICE_BYTES * (t->m - 1), price, PRICE_BYTES);
+    t->mark[t->m - 1] = byte_or(mark, UINT8_MAX);
+    t->row[t->m - 1] = at;
     return 1;
 }
 
-void table_free(struct table *t) {
-    free(t->left);
-    free(t->right);
-    free(t->weight);
-    free(t->mark);
-    memset(t, 0, sizeof *t);
+/* The line 'junctions N'. */
+static int junctions(struct table *t, struct place at, struct message *fault) {
+    struct span number = text_nth(at.text, 1);
+    if (t->told) return wrong(fault, at.text, at.text, "is a second line 'junctions N'");
+    if (text_nth(at.text, 2).len > 0 || !text_number(number, &t->n)) return wrong(fault, at.text, at.text, "is not a line 'junctions N', N a number");
+    t->told = 1;
+    t->count.line = at.line;
+    t->count.text = number;
+    return 1;
 }
 
-uint32_t table_price(const struct table *t, size_t i) {
-    const uint8_t *w = t->weight + 4 * (i - 1);
-    return (uint32_t)w[0] | (uint32_t)w[1] << 8 | (uint32_t)w[2] << 16 | (uint32_t)w[3] << 24;
+int table_read(struct table *t, struct span text, struct message *fault) {
+    struct message words = {{0}, 0};
+    struct place at = {0, {NULL, 0}};
+    while (text_line(&text, &at.text)) {
+        at.line++;
+        at.text = content(at.text);
+        if (at.text.len == 0) continue;
+        if (has(at.text, '\0') ? wrong(&words, at.text, at.text, "has a zero byte")
+            : text_is(text_nth(at.text, 0), "JUNCTIONS") ? junctions(t, at, &words) : trench(t, at, &words)) continue;
+        say_place(fault, t->file, at.line);
+        say(fault, "%s", words.text);
+        return 0;
+    }
+    return 1;
 }
+
+void table_write(FILE *to, const struct table *t) {
+    char price[FIGURES];
+    size_t i;
+    fprintf(to, "junctions %" PRIu32 "\n", t->n);
+    for (i = 1; i <= t->m; i++) fprintf(to, "%u %u %s %u\n", t->left[i - 1], t->right[i - 1], table_price(price, t, i), t->mark[i - 1]);
+}
+
+static size_t kept(const struct table *t) { return t->m < KEPT ? t->m : KEPT; }
+
+struct star_answer table_cst(const struct table *t) {
+    uint8_t answer[STAR_ANSWER_BYTES];
+    size_t m = kept(t);
+    star_cst(t->n, t->left, m, t->right, m, t->weight, PRICE_BYTES * m, t->mark, m, answer, sizeof answer);
+    return star_read_answer(answer);
+}
+
+struct star_answer table_mst1(struct table *t) {
+    uint8_t answer[STAR_ANSWER_BYTES];
+    size_t m = kept(t);
+    star_mst1(t->n, t->left, m, t->right, m, t->weight, PRICE_BYTES * m, t->mark, m, answer, sizeof answer);
+    return star_read_answer(answer);
+}
+
+size_t table_marks(const struct table *t) {
+    size_t i, marks = 0;
+    for (i = 0; i < kept(t); i++) marks += t->mark[i] == 1;
+    return marks;
+}
+
+const char *table_price(char figures[FIGURES], const struct table *t, size_t i) { return price_figures(figures, t->weight + PRICE_BYTES * (i - 1)); }

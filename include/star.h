@@ -30,6 +30,14 @@
 extern "C" {
 #endif
 
+/* The version of this header. star_version gives that of the library that is linked. */
+#define STAR_VERSION_MAJOR 0
+#define STAR_VERSION_MINOR 3
+#define STAR_VERSION_PATCH 0
+#define STAR_VERSION "0.3.0"
+
+const char *star_version(void);
+
 /* The largest table that is taken. */
 enum { STAR_MAX_JUNCTIONS = 255, STAR_MAX_ROWS = 1024, STAR_ANSWER_BYTES = 16 };
 #define STAR_MAX_PRICE UINT32_C(2147483647)
@@ -59,6 +67,9 @@ enum star_refusal {
                                     too early; 65,536 if it is longer (star_import) */
     STAR_BAD_EDGE_COUNT = 13     /* the E lines are not as many as the line Edges says (star_import) */
 };
+
+/* A refusal in words, such as "the marks are not n - 1"; never a null pointer, whatever the number. */
+const char *star_refusal_text(unsigned number);
 
 uint32_t star_cst(uint32_t n, const uint8_t *left, size_t left_len, const uint8_t *right, size_t right_len,
                   const uint8_t *weight, size_t weight_len, const uint8_t *mark, size_t mark_len, uint8_t *answer,

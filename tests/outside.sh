@@ -42,51 +42,24 @@ memory() { # PROGRAM WORDS..
 if command -v valgrind >/dev/null; then
     memory "$build/door_test" 150
     memory "$build/import_test" "$work/texts" 20
+    for words in 'draw console/examples/t2.txt' 'build tests/console/build-refused11.txt' 'check tests/console/check-refused4.txt' \
+        'build tests/console/build-stp-edges.txt' 'table console/examples/street.stp'; do
+        valgrind -q --error-exitcode=9 --leak-check=full --errors-for-leak-kinds=definite "$build/star" $words >"$work/valgrind" 2>&1
+        if [ $? != 9 ]; then passed=$((passed + 1)); else
+            echo "valgrind found a fault in star $words"
+            failed=$((failed + 1))
+        fi
+    done
 fi
 
-# The console: each case is a file COMMAND-NAME.txt with its input; .out has what it writes, standard error after standard output, and its exit status on a last line.
-for input in tests/console/*.txt; do
-    case=$(basename "$input" .txt)
-    "$build/star" "${case%%-*}" <"$input" >"$work/out" 2>"$work/err"
-    status=$?
-    { cat "$work/out" "$work/err"; echo "exit $status"; } >"$work/all"
-    if cmp -s "$work/all" "tests/console/$case.out"; then passed=$((passed + 1)); else
-        echo "console $case differs:"
-        diff "$work/all" "tests/console/$case.out"
-        failed=$((failed + 1))
-    fi
-done
-
-# Help, an unknown command, a file that is not there; a file and standard input give the same.
-check() { # NAME EXPECTED-STATUS WORD-IN-OUTPUT ARGUMENTS..
-    local name=$1 expected=$2 word=$3
-    shift 3
-    "$build/star" "$@" >"$work/out" 2>&1 </dev/null
-    if [ $? = "$expected" ] && grep -q "$word" "$work/out"; then passed=$((passed + 1)); else
-        echo "console $name: expected status $expected and '$word'"
-        failed=$((failed + 1))
-    fi
-}
-check help 0 usage --help
-check none 3 usage
-check unknown 3 usage mend
-check missing 3 nowhere.txt check nowhere.txt
-check yard 0 'Total 12' check console/examples/yard.txt
-check dear 1 'for 1 less' check console/examples/yard-dear.txt
-check stem 0 'Total 11' check console/examples/stem.txt
-check t1 0 'Total 20' check console/examples/t1.txt
-check t2 1 'for 2 less' check console/examples/t2.txt
-check city 0 'Total 130316' check console/examples/city.txt
-check build 0 'Total 130316' build console/examples/city.txt
-check picture 0 'class="out"' draw console/examples/yard-dear.txt
-check picture-city 0 '>255</text>' draw console/examples/city.txt
-check street 0 'Total 249' build console/examples/street.stp
-check street-unmarked 3 'star table' check console/examples/street.stp
-check picture-street 0 '>8</text>' draw console/examples/street.stp
-"$build/star" table console/examples/street.stp >"$work/street.txt"
-check street-table 0 'Total 249' build "$work/street.txt"
-{ cat console/examples/street.stp; head -c 65536 /dev/zero | tr '\0' ' '; } >"$work/long.stp"
-check long 2 'Refused (12).*at most 65536' build "$work/long.stp"
+# The console, its pictures, and what C programmers get.
+star=$(realpath "$build/star")
+bash tests/console.sh "$star" | tee "$work/console"
+add "$work/console"
+python3 -B tests/picture.py "$star" | tee "$work/picture"
+add "$work/picture"
+bash tests/library.sh | tee "$work/library"
+add "$work/library"
 
 echo "$passed passed, $failed failed"
 [ "$failed" = 0 ]

@@ -1,14 +1,15 @@
 // The checks that every procedure makes of a table, and CST and MatrixPath of a claim: causes 1 to 6 and 9, each for columns of any bytes and any lengths.
 // Rows are counted from 1; 0 is no row, and a byte past a column's end reads 0.
-ghost use mathlib.Core.List.{[], _∷_};
+ghost use Prim.Native.Nat.{ℕ, _≤_};
+ghost use mathlib.Core.List.{List, [], _∷_, _++_};
 ghost use mathlib.Core.Path.{_≡_};
 ghost use lib.ListN.{length, getD};
 ghost use Rattle.rowset.specs.Bytes.{inRow};
 ghost use Rattle.rowset.specs.Sets.{uppermost, count};
 ghost use Rattle.refusal.specs.Outcomes.{refusalOf};
 ghost use Rattle.star.specs.Call.{marked, callOf};
-ghost use Rattle.star.specs.Refusals.{badVertices, tooManyRows, tableCauses, refusal};
-ghost use Rattle.checks.specs.Checks.{sizeFault, shapeFault, edgeFault, rowFault, faulty, badMark, claimCause, countCause};
+ghost use Rattle.star.specs.Refusals.{maxRows, cause, causeAt, orElse, refusal, badVertices, tooManyRows, wrongLengths, wrongEnds, wrongByte, wrongCount, badClaim, rowCauses, tableCauses};
+ghost use Rattle.checks.specs.steps.Rows.{faulty};
 use refusal::Outcome;
 use refusal::Refusal;
 
@@ -58,77 +59,86 @@ pub fn row_weight(weight: &[u8], i: usize) -> u32
     b0 + 256 * (b1 + 256 * (b2 + 256 * b3))
 }
 
-// The number of the first of causes 1 and 2 that applies to n and the number m of rows, 0 where none does.
-fn size_fault(n: u32, m: usize) -> u32
-    ensures { λ r. ⌜ r ≡ sizeFault n m ⌝ }
+// Refused with this number and place 0 where the test holds, else done.
+pub fn refused_if(test: bool, number: u32) -> Outcome
+    ensures { λ r. ⌜ refusalOf r ≡ cause test number 0 ⌝ }
 {
-    if n == 0 || MAX_VERTICES < n {
-        return 1;
+    if test {
+        return Outcome::Refused(Refusal {
+            number: number,
+            place: 0,
+        });
     }
-    if MAX_ROWS < m {
-        return 2;
+    Outcome::Done
+}
+
+// Refused with this number at a row or vertex, and done at 0, which says that there is none.
+pub fn refused_at(number: u32, place: u32) -> Outcome
+    ensures { λ r. ⌜ refusalOf r ≡ causeAt number place ⌝ }
+{
+    if place == 0 {
+        return Outcome::Done;
     }
-    0
+    Outcome::Refused(Refusal {
+        number: number,
+        place: place,
+    })
+}
+
+// The first of two answers that is a refusal.
+pub fn first(a: Outcome, b: Outcome) -> Outcome
+    ensures { λ r. ⌜ refusalOf r ≡ orElse (refusalOf a) (refusalOf b) ⌝ }
+{
+    let Outcome::Done = a else {
+        return a;
+    };
+    b
 }
 
 // Causes 1 and 2, of n and the number m of rows.
 pub fn size_check(n: u32, m: usize) -> Outcome
     ensures { λ r. ⌜ refusalOf r ≡ refusal (badVertices n ∷ tooManyRows m ∷ []) ⌝ }
 {
-    let fault = size_fault(n, m);
-    if fault == 0 {
-        return Outcome::Done;
-    }
-    Outcome::Refused(Refusal {
-        number: fault,
-        place: 0,
-    })
+    let vertices = refused_if(n == 0 || MAX_VERTICES < n, 1);
+    first(vertices, refused_if(MAX_ROWS < m, 2))
 }
 
-// The number of the first of causes 1 to 3 that applies to n, the number m of rows and the other columns' lengths, 0 where none does.
-fn shape_fault(n: u32, m: usize, right: usize, weight: usize, mark: usize) -> u32
-    ensures { λ r. ⌜ r ≡ shapeFault n m right weight mark ⌝ }
+// Cause 3, of the number m of rows, at most 1,024, and the other columns' lengths.
+fn lengths_check(m: usize, right: usize, weight: usize, mark: usize) -> Outcome
+    requires { ⌜ m ≤ maxRows ⌝ }
+    ensures { λ r. ⌜ refusalOf r ≡ wrongLengths m right weight mark ⌝ }
 {
-    let size = size_fault(n, m);
-    if size != 0 {
-        return size;
-    }
-    if right != m || mark != m || weight != 4 * m {
-        return 3;
-    }
-    0
+    refused_if(right != m || mark != m || weight != 4 * m, 3)
 }
 
-// The fault of a row with the ends a and b and the weight w: 4 for its ends, else 5 for its weight, 0 where it has none.
-fn edge_fault(n: u32, a: u32, b: u32, w: u32) -> u32
-    ensures { λ r. ⌜ r ≡ edgeFault n a b w ⌝ }
+// Whether an end of a row is 0 or above n, or both are equal.
+fn wrong_ends(n: u32, a: u32, b: u32) -> bool
+    ensures { λ r. ⌜ r ≡ wrongEnds n a b ⌝ }
 {
-    if a == 0 || n < a || b == 0 || n < b || a == b {
-        return 4;
-    }
-    if MAX_WEIGHT < w {
-        return 5;
-    }
-    0
+    a == 0 || n < a || b == 0 || n < b || a == b
 }
 
-// The fault of row i.
-fn row_fault(n: u32, left: &[u8], right: &[u8], weight: &[u8], i: usize) -> u32
-    ensures { λ r. ⌜ r ≡ rowFault n (now (left .entry)) (now (right .entry)) (now (weight .entry)) i ⌝ }
+// Whether the ends of row i are wrong.
+fn wrong_row(n: u32, left: &[u8], right: &[u8], i: usize) -> bool
+    ensures { λ r. ⌜ r ≡ wrongEnds n (inRow 1 (now (left .entry)) i) (inRow 1 (now (right .entry)) i) ⌝ }
 {
-    let a = row_byte(left, i) as u32;
-    let b = row_byte(right, i) as u32;
-    let w = row_weight(weight, i);
-    edge_fault(n, a, b, w)
+    wrong_ends(n, row_byte(left, i) as u32, row_byte(right, i) as u32)
 }
 
-// The uppermost row with a fault, 0 where there is none.
+// Whether the ends of row i are wrong or its weight is too large.
+fn bad_row(n: u32, left: &[u8], right: &[u8], weight: &[u8], i: usize) -> bool
+    ensures { λ r. ⌜ r ≡ faulty n (now (left .entry)) (now (right .entry)) (now (weight .entry)) i ⌝ }
+{
+    wrong_row(n, left, right, i) || MAX_WEIGHT < row_weight(weight, i)
+}
+
+// The uppermost such row, 0 where there is none.
 fn first_bad_row(n: u32, left: &[u8], right: &[u8], weight: &[u8]) -> usize
     ensures { λ r. ⌜ r ≡ uppermost (length (now (left .entry))) (faulty n (now (left .entry)) (now (right .entry)) (now (weight .entry))) ⌝ }
 {
     let mut i = 1;
     while i <= left.len() {
-        if row_fault(n, left, right, weight, i) != 0 {
+        if bad_row(n, left, right, weight, i) {
             return i;
         }
         i += 1;
@@ -136,34 +146,35 @@ fn first_bad_row(n: u32, left: &[u8], right: &[u8], weight: &[u8]) -> usize
     0
 }
 
+// Causes 4 and 5, of a table with at most 1,024 rows, whatever its claim.
+fn rows_check(n: u32, left: &[u8], right: &[u8], weight: &[u8]) -> Outcome
+    requires { ⌜ length (now left) ≤ maxRows ⌝ }
+    ensures { λ r. ⌜ ((mark : List ℕ) → refusalOf r ≡ refusal (rowCauses (callOf n (now (left .entry)) (now (right .entry)) (now (weight .entry)) mark))) ⌝ }
+{
+    let i = first_bad_row(n, left, right, weight);
+    let number = if wrong_row(n, left, right, i) { 4 } else { 5 };
+    refused_at(number, i as u32)
+}
+
 // Causes 1 to 5.
 pub fn table_check(n: u32, left: &[u8], right: &[u8], weight: &[u8], mark: &[u8]) -> Outcome
     ensures { λ r. ⌜ refusalOf r ≡ refusal (tableCauses (callOf n (now (left .entry)) (now (right .entry)) (now (weight .entry)) (now (mark .entry)))) ⌝ }
 {
-    let shape = shape_fault(n, left.len(), right.len(), weight.len(), mark.len());
-    if shape != 0 {
-        return Outcome::Refused(Refusal {
-            number: shape,
-            place: 0,
-        });
-    }
-    let i = first_bad_row(n, left, right, weight);
-    if i == 0 {
-        return Outcome::Done;
-    }
-    let fault = row_fault(n, left, right, weight, i);
-    Outcome::Refused(Refusal {
-        number: fault,
-        place: i as u32,
-    })
+    let size = size_check(n, left.len());
+    let Outcome::Done = size else {
+        return size;
+    };
+    let lengths = lengths_check(left.len(), right.len(), weight.len(), mark.len());
+    first(lengths, rows_check(n, left, right, weight))
 }
 
-// The uppermost byte of a claim other than 0 and 1, 0 where there is none.
-pub fn first_bad_mark(mark: &[u8]) -> usize
-    ensures { λ r. ⌜ r ≡ uppermost (length (now (mark .entry))) (badMark (now (mark .entry))) ⌝ }
+// The uppermost of the first m bytes of a claim that is other than 0 and 1, 0 where there is none.
+fn first_bad_mark(m: usize, mark: &[u8]) -> usize
+    requires { ⌜ m ≤ maxRows ⌝ }
+    ensures { λ r. ⌜ r ≡ uppermost m (wrongByte (now (mark .entry))) ⌝ }
 {
     let mut i = 1;
-    while i <= mark.len() {
+    while i <= m {
         if 1 < row_byte(mark, i) {
             return i;
         }
@@ -172,13 +183,26 @@ pub fn first_bad_mark(mark: &[u8]) -> usize
     0
 }
 
-// The number of a claim's marked rows.
-pub fn count_marks(mark: &[u8]) -> usize
-    ensures { λ r. ⌜ r ≡ count (length (now (mark .entry))) (marked (now (mark .entry))) ⌝ }
+// Causes 1 to 6.
+pub fn claim_check(n: u32, left: &[u8], right: &[u8], weight: &[u8], mark: &[u8]) -> Outcome
+    ensures { λ r.
+        let c = callOf n (now (left .entry)) (now (right .entry)) (now (weight .entry)) (now (mark .entry)) in
+        ⌜ refusalOf r ≡ refusal (tableCauses c ++ (badClaim c ∷ [])) ⌝ }
+{
+    let table = table_check(n, left, right, weight, mark);
+    let Outcome::Done = table else {
+        return table;
+    };
+    refused_at(6, first_bad_mark(left.len(), mark) as u32)
+}
+
+// The number of marked rows among the first m of a claim.
+fn count_marks(m: usize, mark: &[u8]) -> usize
+    ensures { λ r. ⌜ r ≡ count m (marked (now (mark .entry))) ⌝ }
 {
     let mut marks = 0;
     let mut i = 0;
-    while i < mark.len() {
+    while i < m {
         if row_byte(mark, i + 1) == 1 {
             marks += 1;
         }
@@ -187,32 +211,10 @@ pub fn count_marks(mark: &[u8]) -> usize
     marks
 }
 
-// Cause 6, of a claim with at most 1,024 bytes.
-pub fn claim_check(mark: &[u8]) -> Outcome
-    ensures { λ r. ⌜ refusalOf r ≡ claimCause (now (mark .entry)) ⌝ }
+// Cause 9, of n and the first m bytes of a claim.
+pub fn count_check(n: u32, m: usize, mark: &[u8]) -> Outcome
+    ensures { λ r. ⌜ refusalOf r ≡ wrongCount n m (now (mark .entry)) ⌝ }
 {
-    if MAX_ROWS < mark.len() {
-        return Outcome::Done;
-    }
-    let i = first_bad_mark(mark);
-    if i == 0 {
-        return Outcome::Done;
-    }
-    Outcome::Refused(Refusal {
-        number: 6,
-        place: i as u32,
-    })
-}
-
-// Cause 9.
-pub fn count_check(n: u32, mark: &[u8]) -> Outcome
-    ensures { λ r. ⌜ refusalOf r ≡ countCause n (now (mark .entry)) ⌝ }
-{
-    if count_marks(mark) + 1 == n as usize {
-        return Outcome::Done;
-    }
-    Outcome::Refused(Refusal {
-        number: 9,
-        place: 0,
-    })
+    let marks = count_marks(m, mark);
+    refused_if(n == 0 || marks != n as usize - 1, 9)
 }

@@ -3,33 +3,33 @@
 use Prim.Native.Nat.{ℕ, zero, suc, _+_, _-_, _*_, _≤_, _<_}
 use mathlib.Core.Bool.{Bool, true, false, not, _||_}
 use mathlib.Core.List.{List, [], _∷_}
-use mathlib.Core.Logic.{_↔_}
+use mathlib.Core.Logic.{_↔_, _⊎_, inl, inr, ⊎-elim}
 use mathlib.Core.Option.{Option, none, some}
 use mathlib.Core.Path.{_≡_, refl, sym, ap, _∙_, subst, subst₃}
-use borrow.Author.Tests.{ltb-false, le-ltb, eqb-true, eq-eqb, not-false}
+use borrow.Author.Tests.{ltb-true, ltb-false, le-ltb, eqb-true, eqb-false, eq-eqb, not-true, not-false}
 use lib.Dec.{eqb, ltb}
 use lib.ListN.{length, length-set}
 use native.Mathlib.Decide.{decLe}
 use native.Mathlib.Omega.{arith}
-use Rattle.graph.proofs.Joined.{unjoined-none}
+use Rattle.graph.proofs.Joined.{unjoined-place, unjoined-none}
 use Rattle.graph.proofs.Reach.{walk-joined}
 use Rattle.graph.specs.Builder.{Fragment, tree}
 use Rattle.graph.specs.Graph.{Graph, Sound, Inside, Walk, joined}
 use Rattle.graph.specs.Least.{Least}
 use Rattle.graph.specs.Tree.{SpanningTree, exchange}
 use Rattle.refusal.specs.declared.Refusal.{Refusal}
-use Rattle.rowset.proofs.Laws.{uppermost-none, uppermost-zero, in-upTo, upTo-in}
+use Rattle.rowset.proofs.Laws.{uppermost-none, uppermost-some, uppermost-zero, in-upTo, upTo-in}
 use Rattle.rowset.specs.Bytes.{inRow}
 use Rattle.rowset.specs.Sets.{upTo, uppermost, sum, count}
 use Rattle.graph.proofs.Builder.{built-spanning, built-least, not-built}
 use Rattle.graph.proofs.Exchange.{exchange-weight}
 use Rattle.graph.proofs.Least.{Lighter, good-least, least-good}
-use Rattle.star.proofs.Accepted.{none-head, none-tail, none-both, none-nil, refusal-append, cause-none, none-cause, causeAt-none, Taken, taken, sound}
+use Rattle.star.proofs.Accepted.{none-head, none-tail, none-both, none-nil, refusal-append, cause-none, none-cause, causeAt-none, none-causeAt, some-cons, some-cause, some-causeAt, Taken, taken, sound}
 use Rattle.demand3.proofs.Checker.{none-good, good-none, found-lighter}
 use Rattle.star.proofs.Claims.{byte-outside, marked-row, marked-claimOf, claimOf-length, claimOf-bytes, marked-exchanged, exchanged-bytes}
 use Rattle.star.specs.Call.{Call, rowsOf, graphOf, weightOf, marked, claimWeight, withClaim, claimOf, exchanged}
 use Rattle.star.specs.Cst.{Answer, refused, passed, lighter, rowIn, rowOut, judged, verdict, cst}
-use Rattle.demand3.specs.Demand3.{ClaimTree, LeastClaim, WorthExchange, Holds, Demand3}
+use Rattle.demand3.specs.Demand3.{ClaimTree, LeastClaim, WorthExchange, ZeroOrOne, RightCount, Fault, bad-byte, bad-count, cut-off, Holds, Demand3}
 use Rattle.star.specs.Mst1.{chosenRows, treeRows, built, mst1, builtMarks, mst1Marks}
 use Rattle.star.specs.Refusals.{cause, causeAt, badVertices, tooManyRows, badLengths, badRow, badEnds, tooHeavy, badClaim, badCount, unjoined, noTree, isNone, tableCauses, cstCauses, mst1Causes, refusal, orElse, Accepted}
 
@@ -38,21 +38,17 @@ byte-none : (l : List ℕ) → inRow 1 l 0 ≡ 0
 unfolding inRow
 byte-none l = refl
 
-none-causeAt : (k : ℕ) {i : ℕ} → i ≡ 0 → causeAt k i ≡ none
-unfolding causeAt
-none-causeAt k e = ap (causeAt k) e
-
 -- a refusal is not none, and the answers are told apart
-apart : (r : Refusal) → _≡_ {A = Option Refusal} (some r) none → ⊥
+pub apart : (r : Refusal) → _≡_ {A = Option Refusal} (some r) none → ⊥
 apart r e = let z : _≡_ {A = ℕ} 0 1 = cc in omega arith
 
-refused-passed : {x : Answer} {r : Refusal} {weight : ℕ} → x ≡ refused r → x ≡ passed weight → ⊥
+pub refused-passed : {x : Answer} {r : Refusal} {weight : ℕ} → x ≡ refused r → x ≡ passed weight → ⊥
 refused-passed e h = let z : _≡_ {A = ℕ} 0 1 = cc in omega arith
 
-refused-lighter : {x : Answer} {r : Refusal} {out into saving : ℕ} → x ≡ refused r → x ≡ lighter out into saving → ⊥
+pub refused-lighter : {x : Answer} {r : Refusal} {out into saving : ℕ} → x ≡ refused r → x ≡ lighter out into saving → ⊥
 refused-lighter e h = let z : _≡_ {A = ℕ} 0 1 = cc in omega arith
 
-passed-lighter : {x : Answer} {weight out into saving : ℕ} → x ≡ passed weight → x ≡ lighter out into saving → ⊥
+pub passed-lighter : {x : Answer} {weight out into saving : ℕ} → x ≡ passed weight → x ≡ lighter out into saving → ⊥
 passed-lighter e h = let z : _≡_ {A = ℕ} 0 1 = cc in omega arith
 
 length-exchanged : (l : List ℕ) (out into : ℕ) → length (exchanged l out into) ≡ length l
@@ -181,6 +177,8 @@ module _ (c : Call) (a : Accepted c) where
   worth t out into l =
       record {
         claim-tree = t;
+        out-row = (o .0, subst (λ n. out ≤ n) (t .bytes) (o .1));
+        in-row = upTo-in (rowsOf c) into (l .in-row);
         out-marked = l .out-marked;
         in-unmarked = l .in-unmarked;
         tree =
@@ -263,6 +261,77 @@ module _ (c : Call) (a : Accepted c) where
         | faulted t j z x ↦ subst₃ (WorthExchange c) (cc) (cc) (cc) (worth t (rowOut c) (suc j) (found t j z))
       ]
 
+  -- a refusal is handed on from the causes
+  refused-cause : (r : Refusal) → cst c ≡ refused r → refusal (cstCauses c) ≡ some r
+  unfolding cst verdict judged
+  refused-cause r e = go (refusal (cstCauses c)) refl
+    where
+      go₂ : (i : ℕ) → rowIn c ≡ i → cst c ≡ judged c i (rowOut c) → ⊥
+      go₂ zero h x = refused-passed e x
+      go₂ (suc j) h x = refused-lighter e x
+
+      go : (o : Option Refusal) → refusal (cstCauses c) ≡ o → o ≡ some r
+      go none h = absurd (go₂ (rowIn c) refl (ap (verdict c) h))
+      go (some q) h = cc (ap (verdict c) h)
+
+  -- and says why the claim is no spanning tree
+  fault-of : (r : Refusal) → cst c ≡ refused r → Fault c r
+  unfolding graphOf badClaim badCount unjoined
+  fault-of r e = ⊎-elim byte (λ h. ⊎-elim (marks (h .0)) (λ k. ⊎-elim (apart₁ (h .0) (k .0)) (λ z. absurd (nothing (z .1))) (some-cons _ _ r (k .1))) (some-cons _ _ r (h .1))) (some-cons _ _ r causes)
+    where
+      t : Taken c
+      t = taken c a
+
+      causes : refusal (badClaim c ∷ badCount c ∷ unjoined c 1 ∷ []) ≡ some r
+      causes = sym (claim-causes c a) ∙ refused-cause r e
+
+      nothing : refusal [] ≡ some r → ⊥
+      nothing h = apart r (sym h ∙ none-nil)
+
+      bytes : ℕ → Bool
+      bytes i = ltb 1 (inRow 1 (c .mark) i)
+
+      byte : badClaim c ≡ some r → Fault c r
+      byte h =
+          let (j, u, q) = some-causeAt 6 _ r h in
+          let (bad, low, above) = uppermost-some (rowsOf c) j bytes u in
+          subst (Fault c) q (bad-byte (suc j) (omega arith, low) (ltb-true 1 _ bad) (λ k row less. ltb-false 1 _ (above k (row .0) (omega arith))))
+
+      clean : badClaim c ≡ none → ZeroOrOne c
+      clean h i row = ltb-false 1 _ (uppermost-none (rowsOf c) bytes (causeAt-none 6 _ h) i (row .0) (row .1))
+
+      marks : badClaim c ≡ none → badCount c ≡ some r → Fault c r
+      marks h k =
+          let (wrong, q) = some-cause _ 9 0 r k in
+          subst (Fault c) q (bad-count (clean h) (eqb-false _ _ (not-true _ wrong)))
+
+      apart₁ : badClaim c ≡ none → badCount c ≡ none → unjoined c 1 ≡ some r → Fault c r
+      apart₁ h k z =
+          let (j, u, q) = some-causeAt 10 _ r z in
+          let (none₁, low, others) = unjoined-place (graphOf c) ok (marked (c .mark)) (marked-inside c (t .mark-length)) 1 (omega arith) (t .some-vertex) j u in
+          subst (Fault c) q
+          (cut-off (clean h) (eqb-true _ _ (not-false _ (cause-none _ 9 0 k))) (suc j) (omega arith, low) none₁ (λ v vertex less. others v (vertex .0) (omega arith)))
+
+  refused-unless : (ClaimTree c → ⊥) → (r : Refusal) × (cst c ≡ refused r)
+  refused-unless n =
+      elim judgement [
+        | declined r x k ↦ (r, x)
+        | approved t z x ↦ absurd (n t)
+        | faulted t j z x ↦ absurd (n t)
+      ]
+
+  refused-no-tree : (r : Refusal) → cst c ≡ refused r → ClaimTree c → ⊥
+  refused-no-tree r e t = apart r (sym (refused-cause r e) ∙ not-refused t)
+
+  -- the builder leaves the marks as they were where it refuses
+  marks-kept : (r : Refusal) → mst1 c ≡ refused r → mst1Marks c ≡ c .mark
+  unfolding mst1 mst1Marks built builtMarks
+  marks-kept r e = go (refusal (mst1Causes c)) refl
+    where
+      go : (o : Option Refusal) → refusal (mst1Causes c) ≡ o → mst1Marks c ≡ c .mark
+      go none h = absurd (refused-passed e (ap (built c) h))
+      go (some q) h = ap (builtMarks c) h
+
   -- the builder refuses exactly where there is no spanning tree
   no-tree : mst1 c ≡ refused (record { number = 11; place = 0 }) → (other : List ℕ) → ClaimTree (withClaim c other) → ⊥
   unfolding graphOf
@@ -310,6 +379,23 @@ grown-passed c a f z = least-passed d b least ∙ ap (λ S. passed (sum (rowsOf 
     least : LeastClaim d
     least = least-claim d b (claim-tree c a (f .chosen) t) (subst (λ (S : ℕ → Bool). Least (graphOf c) (weightOf c) S) (sym rows) (built-least (graphOf c) (ok c a) (weightOf c) f z))
 
+-- the table with the marks that were built is accepted
+pub built-accepted : (c : Call) → Accepted c → (weight : ℕ) → mst1 c ≡ passed weight → Accepted (withClaim c (mst1Marks c))
+built-accepted c a weight e =
+    elim (growth c a) [
+      | unbuilt z x ↦ absurd (refused-passed x e)
+      | grown f z x k ↦ accepted-claim c (mst1Marks c) (ap length k ∙ claimOf-length (rowsOf c) (f .chosen) ∙ sym (taken c a .mark-length)) a
+    ]
+
+-- the builder's answer is no exchange
+pub built-lighter : (c : Call) (out into saving : ℕ) → mst1 c ≡ lighter out into saving → ⊥
+unfolding mst1 built
+built-lighter c out into saving e = go (refusal (mst1Causes c)) e
+  where
+    go : (o : Option Refusal) → built c o ≡ lighter out into saving → ⊥
+    go none h = passed-lighter refl h
+    go (some r) h = refused-lighter refl h
+
 -- what is built is passed, with the weight that was stated
 built-passed : (c : Call) → Accepted c → (weight : ℕ) → mst1 c ≡ passed weight → cst (withClaim c (mst1Marks c)) ≡ passed weight
 built-passed c a weight e =
@@ -325,8 +411,11 @@ demand3 c a =
       weight = λ weight e. passed-least c a weight e .1;
       not-passed = comes-lighter c a;
       exchange = lighter-worth c a;
+      declines = (λ p. refused-no-tree c a (p .0) (p .1), refused-unless c a);
+      fault = fault-of c a;
       refuses = (no-tree c a, refuses-no-tree c a);
       refuses-only = refuses-eleven c a;
+      kept = marks-kept c a;
       built = builds-tree c a;
       builds = built-passed c a;
     }

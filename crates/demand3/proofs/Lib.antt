@@ -1,2 +1,3 @@
 pub mod Checker
 pub mod Demand3
+pub mod Bytes

@@ -1,14 +1,17 @@
 -- Demand 3: what the checker's verdict and the builder's tree are worth, over every accepted table and every claim of bytes.
 -- Cites definitions alone; the proof is proofs/Demand3.antt. Assumes nothing.
-use Prim.Native.Nat.{ℕ, _+_, _≤_, _<_}
+use Prim.Native.Nat.{ℕ, suc, _+_, _≤_, _<_}
 use mathlib.Core.Bool.{true, false}
 use mathlib.Core.List.{List}
 use mathlib.Core.Logic.{_↔_}
 use mathlib.Core.Path.{_≡_}
 use lib.ListN.{length}
+use Rattle.graph.specs.Graph.{Walk}
 use Rattle.graph.specs.Tree.{SpanningTree}
 use Rattle.refusal.specs.declared.Refusal.{Refusal}
 use Rattle.rowset.specs.Bytes.{inRow}
+use Rattle.rowset.specs.Sets.{count}
+use Rattle.star.specs.Accepted.{Vertex, Row}
 use Rattle.star.specs.Call.{Call, rowsOf, graphOf, marked, claimWeight, withClaim, exchanged}
 use Rattle.star.specs.Cst.{refused, passed, lighter, cst}
 use Rattle.star.specs.Mst1.{mst1, mst1Marks}
@@ -25,14 +28,35 @@ pub record LeastClaim (c : Call) : Type 0 where
   pub tree : ClaimTree c
   pub least : (other : List ℕ) → ClaimTree (withClaim c other) → claimWeight c ≤ claimWeight (withClaim c other)
 
--- what an exchange is worth: out is marked and in is not, and the exchange is a spanning tree, lighter by exactly the saving
+-- what an exchange is worth: out and in are rows, out is marked and in is not, and the exchange is a spanning tree, lighter by exactly the saving
 pub record WorthExchange (c : Call) (out into saving : ℕ) : Type 0 where
   pub claim-tree : ClaimTree c
+  pub out-row : Row c out
+  pub in-row : Row c into
   pub out-marked : marked (c .mark) out ≡ true
   pub in-unmarked : marked (c .mark) into ≡ false
   pub tree : ClaimTree (withClaim c (exchanged (c .mark) out into))
   pub weight : claimWeight (withClaim c (exchanged (c .mark) out into)) + saving ≡ claimWeight c
   pub positive : 0 < saving
+
+-- the bytes of a claim are 0 and 1 only, and it has exactly n − 1 marks
+abbrev pub ZeroOrOne : Call → Type 0
+ZeroOrOne c = (i : ℕ) → Row c i → inRow 1 (c .mark) i ≤ 1
+
+abbrev pub RightCount : Call → Type 0
+RightCount c = suc (count (rowsOf c) (marked (c .mark))) ≡ c .n
+
+-- why a claim over an accepted table is no spanning tree, by the refusal's number and place
+pub data Fault (c : Call) : Refusal → Type 0 where
+  -- 6: the byte of row i is neither 0 nor 1, and no such row stands above it
+  bad-byte : (i : ℕ) → Row c i → 1 < inRow 1 (c .mark) i → ((k : ℕ) → Row c k → k < i → inRow 1 (c .mark) k ≤ 1)
+      → Fault c (record { number = 6; place = i })
+  -- 9: the marks are not n − 1
+  bad-count : ZeroOrOne c → (RightCount c → ⊥) → Fault c (record { number = 9; place = 0 })
+  -- 10: n − 1 marks, but no walk over marked rows leads from vertex 1 to vertex v, and v is the smallest such vertex
+  cut-off : ZeroOrOne c → RightCount c → (v : ℕ) → Vertex c v → (Walk (graphOf c) (marked (c .mark)) 1 v → ⊥)
+      → ((u : ℕ) → Vertex c u → u < v → Walk (graphOf c) (marked (c .mark)) 1 u)
+      → Fault c (record { number = 10; place = v })
 
 -- demand 3, at one accepted table and claim
 pub record Holds (c : Call) : Type 0 where
@@ -44,9 +68,14 @@ pub record Holds (c : Call) : Type 0 where
   pub not-passed : ClaimTree c → (LeastClaim c → ⊥) → (out into saving : ℕ) × (cst c ≡ lighter out into saving)
   -- and an exchange that comes back is worth it
   pub exchange : (out into saving : ℕ) → cst c ≡ lighter out into saving → WorthExchange c out into saving
+  -- a claim that is no spanning tree is refused, and no other is; the refusal says why
+  pub declines : ((r : Refusal) × (cst c ≡ refused r)) ↔ (ClaimTree c → ⊥)
+  pub fault : (r : Refusal) → cst c ≡ refused r → Fault c r
   -- the builder refuses with number 11, and with no other, exactly when no claim is a spanning tree
   pub refuses : (mst1 c ≡ refused (record { number = 11; place = 0 })) ↔ ((other : List ℕ) → ClaimTree (withClaim c other) → ⊥)
   pub refuses-only : (r : Refusal) → mst1 c ≡ refused r → r ≡ record { number = 11; place = 0 }
+  -- and then leaves the marks as they were
+  pub kept : (r : Refusal) → mst1 c ≡ refused r → mst1Marks c ≡ c .mark
   -- otherwise it builds a tree
   pub built : (other : List ℕ) → ClaimTree (withClaim c other) → (weight : ℕ) × (mst1 c ≡ passed weight)
   -- what it builds is passed by the checker over the same table, with the weight that the builder stated

@@ -2,22 +2,15 @@
 -- Assumes nothing.
 use Prim.Native.Nat.{ℕ, zero, suc, _≤_, _<_}
 use mathlib.Core.Bool.{Bool, not}
-use mathlib.Core.List.{List, [], _∷_, _++_}
-use mathlib.Core.Option.{Option, none, some}
-use mathlib.Core.Path.{_≡_, refl, sym, ap, _∙_}
+use mathlib.Core.List.{[], _∷_, _++_, append-assoc}
+use mathlib.Core.Path.{_≡_, sym, ap, _∙_}
 use native.Mathlib.Omega.{arith}
-use Rattle.refusal.specs.Outcomes.{refusalOf}
-use Rattle.refusal.specs.declared.Outcome.{Outcome}
-use Rattle.refusal.specs.declared.Outcome.the-variants.{Done, Refused}
-use Rattle.refusal.specs.declared.Refusal.{Refusal}
 use Rattle.rowset.specs.Sets.{upTo, without, uppermost}
 use Rattle.rowset.proofs.Laws.{in-upTo, uppermost-none, uppermost-zero, uppermost-some, uppermost-is}
 use Rattle.slice.specs.Slices.{size}
 use Rattle.star.specs.Call.{Call}
-use Rattle.star.specs.Refusals.{tableCauses, badClaim, badSource, shortMatrix, badCount, orElse, refusal}
-use Rattle.checks.specs.Checks.{claimCause, countCause}
-use Rattle.checks.proofs.Laws.{claim-cause, count-cause}
-use Rattle.path.specs.steps.Causes.{callCauses, claimCauses, checkCauses}
+use Rattle.star.specs.Refusals.{tableCauses, badClaim, badSource, shortMatrix, badCount, beforeWalk, orElse, refusal}
+use Rattle.checks.proofs.Laws.{refusal-both, refusal-one}
 
 -- ── The uppermost of 1 to m, by the uppermost of 1 to k, for sets that agree on 1 to m ──
 
@@ -46,34 +39,9 @@ module _ (n v : ℕ) (X Q : ℕ → Bool) (few : n ≤ size) (outside : X ≡ wi
 
 -- ── The checks before the walk ──
 
--- a check that refuses decides, and after one that does not the later causes do
-pub refused-first : (o : Outcome) (r : Refusal) (x y : Option Refusal) → o ≡ Refused r → refusalOf o ≡ x → refusalOf o ≡ orElse x y
-unfolding refusalOf orElse
-refused-first o r x y told e = rw (← e, told)
-
-pub done-next : (o : Outcome) (x y z : Option Refusal) → o ≡ Done → refusalOf o ≡ x → z ≡ y → z ≡ orElse x y
-unfolding refusalOf orElse
-done-next o x y z told e h = rw (← e, told) h
-
--- the refusal of two lists of causes, one after the other, and of one cause
-pub refusal-both : (xs ys : List (Option Refusal)) → refusal (xs ++ ys) ≡ orElse (refusal xs) (refusal ys)
-unfolding refusal orElse
-refusal-both [] ys = refl
-refusal-both (none ∷ xs) ys = refusal-both xs ys
-refusal-both (some r ∷ xs) ys = refl
-
-pub refusal-one : (x : Option Refusal) → refusal (x ∷ []) ≡ x
-unfolding refusal orElse
-refusal-one none = refl
-refusal-one (some r) = refl
-
--- causes 1 to 9 by the checks of the table, of the claim, of the source and the matrix, and of the count
-pub checks-in-order : (c : Call) (s words : ℕ) → refusal (checkCauses c s words) ≡ orElse (refusal (tableCauses c)) (orElse (claimCause (c .mark)) (orElse (refusal (callCauses (c .n) s words)) (countCause (c .n) (c .mark))))
-unfolding checkCauses badSource shortMatrix refusal orElse
-checks-in-order c s words = refusal-both (tableCauses c) _ ∙ go (refusal (tableCauses c)) refl
-  where
-    go : (o : Option Refusal) → refusal (tableCauses c) ≡ o → orElse o (refusal (claimCauses c s words)) ≡ orElse o (orElse (claimCause (c .mark)) (orElse (refusal (callCauses (c .n) s words)) (countCause (c .n) (c .mark))))
-    go none e =
-        rw (claim-cause c e, count-cause c e)
-        (ap (orElse (badClaim c)) (refusal-both (callCauses (c .n) s words) (badCount c ∷ []) ∙ ap (orElse (refusal (callCauses (c .n) s words))) (refusal-one (badCount c))))
-    go (some r) e = refl
+-- causes 1 to 9 by the checks of the table and the claim, of the source and the matrix, and of the count
+pub checks-in-order : (c : Call) (s words : ℕ) → refusal (beforeWalk c s words) ≡ orElse (refusal (tableCauses c ++ (badClaim c ∷ []))) (orElse (refusal (badSource c s ∷ shortMatrix c words ∷ [])) (badCount c))
+checks-in-order c s words =
+    ap refusal (sym (append-assoc (tableCauses c) (badClaim c ∷ []) (badSource c s ∷ shortMatrix c words ∷ badCount c ∷ [])))
+    ∙ refusal-both (tableCauses c ++ (badClaim c ∷ [])) (badSource c s ∷ shortMatrix c words ∷ badCount c ∷ [])
+    ∙ ap (orElse _) (refusal-both (badSource c s ∷ shortMatrix c words ∷ []) (badCount c ∷ []) ∙ ap (orElse _) (refusal-one (badCount c)))

@@ -5,7 +5,7 @@ use borrow.Author.Tests.{eqb-false, ltb-false}
 use lib.Dec.{eqb, ltb}
 use lib.ListN.{length, take, drop}
 use mathlib.Core.Bool.{Bool, true, false, _||_}
-use mathlib.Core.List.{List, [], _∷_, _++_, append-assoc}
+use mathlib.Core.List.{List, [], _∷_, _++_}
 use mathlib.Core.Option.{Option, none, some}
 use mathlib.Core.Path.{_≡_, refl, sym, ap, _∙_}
 use native.Mathlib.Omega.{arith}
@@ -18,23 +18,19 @@ use Rattle.rowset.specs.Words.{columnWords, matrixWords}
 use Rattle.rowset.proofs.Laws.{clash}
 use Rattle.star.specs.Call.{Call, rowsOf}
 use Rattle.star.specs.MatrixPath.{matrixPath, matrixOr, matrixAfter, pathColumn}
-use Rattle.star.specs.Refusals.{maxVertices, tableCauses, badSource, shortMatrix, badCount, unjoined, orElse, refusal, matrixPathCauses}
+use Rattle.star.specs.Refusals.{maxVertices, tableCauses, badClaim, badSource, shortMatrix, badCount, unreached, unjoined, beforeWalk, orElse, refusal, matrixPathCauses}
 use Rattle.star.proofs.Accepted.{Taken, taken, none-head, none-tail, cause-none}
 use Rattle.table.specs.Loads.{loadedRow}
 use Rattle.table.proofs.Loads.{load-taken, loaded-taken}
 use Rattle.claim.proofs.Laws.{claimRows-marked}
-use Rattle.path.specs.steps.Causes.{claimCauses, checkCauses, unreachedCause}
 use Rattle.path.specs.steps.Walks.{State, claimWalk}
-use Rattle.path.proofs.Causes.{refusal-both, refusal-one, refused-first, done-next}
+use Rattle.checks.proofs.Laws.{refusal-both, refusal-one, refused-first, done-next}
 use Rattle.path.proofs.Paths.{walked, walked-joined, walked-paths, joined-tree}
 
 -- the answer is that of the checks, or else that of the walk
-answer-in-order : (c : Call) (s : ℕ) (R : List ℕ) → matrixPath c s R ≡ orElse (refusal (checkCauses c s (length R))) (unjoined c s)
-unfolding matrixPath matrixPathCauses checkCauses
-answer-in-order c s R =
-    ap refusal (sym (append-assoc (tableCauses c) (claimCauses c s (length R)) (unjoined c s ∷ [])))
-    ∙ refusal-both (checkCauses c s (length R)) (unjoined c s ∷ [])
-    ∙ ap (orElse _) (refusal-one (unjoined c s))
+answer-in-order : (c : Call) (s : ℕ) (R : List ℕ) → matrixPath c s R ≡ orElse (refusal (beforeWalk c s (length R))) (unjoined c s)
+unfolding matrixPath matrixPathCauses
+answer-in-order c s R = refusal-both (beforeWalk c s (length R)) (unjoined c s ∷ []) ∙ ap (orElse _) (refusal-one (unjoined c s))
 
 -- a refusal leaves the matrix as it was
 refused-keeps : (c : Call) (s : ℕ) (R : List ℕ) (o : Outcome) (r : Refusal) → o ≡ Refused r → refusalOf o ≡ matrixPath c s R → R ≡ matrixAfter c s R
@@ -64,8 +60,8 @@ unfolding orElse
 none-first none y e = (refl, e)
 none-first (some r) y e = (e, cc)
 
-checked : (c : Call) (s words : ℕ) → refusal (checkCauses c s words) ≡ none → Checked c s words
-unfolding checkCauses badSource shortMatrix
+checked : (c : Call) (s words : ℕ) → refusal (beforeWalk c s words) ≡ none → Checked c s words
+unfolding badSource shortMatrix
 checked c s words e =
     record {
       table = taken c (parts .0);
@@ -75,7 +71,7 @@ checked c s words e =
       marks = none-head _ _ (none-tail _ _ rest);
     }
   where
-    parts : (refusal (tableCauses c) ≡ none) × (refusal (claimCauses c s words) ≡ none)
+    parts : (refusal (tableCauses c) ≡ none) × (refusal (badClaim c ∷ badSource c s ∷ shortMatrix c words ∷ badCount c ∷ []) ≡ none)
     parts = none-first _ _ (sym (refusal-both (tableCauses c) _) ∙ e)
 
     rest : refusal (shortMatrix c words ∷ badCount c ∷ []) ≡ none
@@ -87,13 +83,13 @@ checked c s words e =
 -- ── The three answers ──
 
 -- the checks refuse
-pub check-refuses : (c : Call) (s : ℕ) (R : List ℕ) (o : Outcome) (r : Refusal) → o ≡ Refused r → refusalOf o ≡ refusal (checkCauses c s (length R)) → (refusalOf o ≡ matrixPath c s R) × (R ≡ matrixAfter c s R)
+pub check-refuses : (c : Call) (s : ℕ) (R : List ℕ) (o : Outcome) (r : Refusal) → o ≡ Refused r → refusalOf o ≡ refusal (beforeWalk c s (length R)) → (refusalOf o ≡ matrixPath c s R) × (R ≡ matrixAfter c s R)
 check-refuses c s R o r told e =
     let answer = refused-first o r _ _ told e ∙ sym (answer-in-order c s R) in
     (answer, refused-keeps c s R o r told answer)
 
 -- the checks do not refuse, and the walk over the claim's rows fills a matrix of its own
-module _ (c : Call) (s : ℕ) (R : List ℕ) (o : Outcome) (done : o ≡ Done) (e : refusalOf o ≡ refusal (checkCauses c s (length R))) where
+module _ (c : Call) (s : ℕ) (R : List ℕ) (o : Outcome) (done : o ≡ Done) (e : refusalOf o ≡ refusal (beforeWalk c s (length R))) where
   pub settled : Checked c s (length R)
   unfolding refusalOf
   settled = checked c s (length R) (sym e ∙ ap refusalOf done)
@@ -118,11 +114,11 @@ module _ (c : Call) (s : ℕ) (R : List ℕ) (o : Outcome) (done : o ≡ Done) (
     room = omega (arith, t .few-vertices)
 
     -- the vertices that the walk does not reach are cause 10
-    unreached-unjoined : unreachedCause (c .n) (after .reached) ≡ unjoined c s
-    unfolding unjoined unreachedCause
+    unreached-unjoined : unreached (c .n) (after .reached) ≡ unjoined c s
+    unfolding unjoined
     unreached-unjoined =
-        ap (λ (x : State). unreachedCause (c .n) (x .reached)) same-walk
-        ∙ ap (unreachedCause (c .n)) (walked-joined c t s (settled .low) (settled .high) own room)
+        ap (λ (x : State). unreached (c .n) (x .reached)) same-walk
+        ∙ ap (unreached (c .n)) (walked-joined c t s (settled .low) (settled .high) own room)
 
     -- and where there is none, its words are the tree paths
     walk-fills : unjoined c s ≡ none → take (columnWords * c .n) (after .words) ≡ matrixWords (pathColumn c s) (c .n)
@@ -130,7 +126,7 @@ module _ (c : Call) (s : ℕ) (R : List ℕ) (o : Outcome) (done : o ≡ Done) (
         ap (λ (x : State). take (columnWords * c .n) (x .words)) same-walk
         ∙ walked-paths c t s (settled .low) (settled .high) own room (joined-tree c t s (settled .low) (settled .high) (settled .marks) joins)
 
-    module _ (w : Outcome) (answer : refusalOf w ≡ unreachedCause (c .n) (after .reached)) where
+    module _ (w : Outcome) (answer : refusalOf w ≡ unreached (c .n) (after .reached)) where
       -- the walk decides where the checks do not
       decides : refusalOf w ≡ matrixPath c s R
       decides = done-next o _ _ _ done e (answer ∙ unreached-unjoined) ∙ sym (answer-in-order c s R)

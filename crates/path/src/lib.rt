@@ -1,18 +1,19 @@
 // MatrixPath on the machine: a walk over the marked rows from the source vertex, which fills a path matrix of its own; the caller's matrix is written once nothing can be refused any more.
 ghost use mathlib.Core.Path.{_≡_};
-ghost use mathlib.Core.List.{_++_};
+ghost use mathlib.Core.List.{[], _∷_, _++_};
 ghost use Prim.Native.Nat.{_≤_};
 ghost use lib.ListN.{length, take, drop};
 ghost use Rattle.refusal.specs.Outcomes.{refusalOf};
 ghost use Rattle.slice.specs.Slices.{size, component};
 ghost use Rattle.star.specs.MatrixPath.{matrixPath, matrixAfter};
-ghost use Rattle.star.specs.Refusals.{orElse, refusal};
+ghost use Rattle.star.specs.Refusals.{wrongSource, fewWords, unreached, beforeWalk, refusal};
 ghost use Rattle.star.specs.Call.{callOf};
 ghost use Rattle.table.specs.Loads.{loadedRow};
-ghost use Rattle.path.specs.steps.Causes.{callCauses, checkCauses, unreachedCause};
 ghost use Rattle.path.specs.steps.Walks.{endsIn, stateOf, arrive, pass, along, step, walk, claimWalk};
+use checks::first;
+use checks::refused_at;
+use checks::refused_if;
 use refusal::Outcome;
-use refusal::Refusal;
 use search::lent;
 use search::lent::Stored;
 use slice::Slice;
@@ -115,19 +116,13 @@ fn walk(left: &[u64], right: &[u64], rows: Slice, s: u32, n: u32, own: &mut [u64
 // Cause 10: the smallest vertex of 1 to n that is not reached.
 fn joined_check(n: u32, reached: Slice) -> Outcome
     requires { ⌜ n ≤ size ⌝ }
-    ensures { λ r. ⌜ refusalOf r ≡ unreachedCause n (component reached) ⌝ }
+    ensures { λ r. ⌜ refusalOf r ≡ unreached n (component reached) ⌝ }
 {
     let v = slice::fnd(slice::not(reached));
-    if v == 0 {
-        return Outcome::Done;
-    }
     if (n as usize) < v {
         return Outcome::Done;
     }
-    Outcome::Refused(Refusal {
-        number: 10,
-        place: v as u32,
-    })
+    refused_at(10, v as u32)
 }
 
 // The first `count` words of r become those of `own`.
@@ -142,40 +137,12 @@ fn fill(r: &mut [u64], own: &[u64], count: usize)
     }
 }
 
-// A refusal with place 0.
-fn refused(number: u32) -> Outcome
-    ensures { λ r. ⌜ r ≡ Outcome.Refused (record { number = number; place = 0 }) ⌝ }
-{
-    Outcome::Refused(Refusal {
-        number: number,
-        place: 0,
-    })
-}
-
 // Causes 7 and 8: the source vertex, and the size of the matrix.
 fn call_check(n: u32, s: u32, words: usize) -> Outcome
-    ensures { λ r. ⌜ refusalOf r ≡ refusal (callCauses n s words) ⌝ }
+    ensures { λ r. ⌜ refusalOf r ≡ refusal (wrongSource n s ∷ fewWords n words ∷ []) ⌝ }
 {
-    if s == 0 {
-        return refused(7);
-    }
-    if n < s {
-        return refused(7);
-    }
-    if words < WORDS * n as usize {
-        return refused(8);
-    }
-    Outcome::Done
-}
-
-// The first of two answers that is a refusal.
-fn first(a: Outcome, b: Outcome) -> Outcome
-    ensures { λ r. ⌜ refusalOf r ≡ orElse (refusalOf a) (refusalOf b) ⌝ }
-{
-    let Outcome::Done = a else {
-        return a;
-    };
-    b
+    let source = refused_if(s == 0 || n < s, 7);
+    first(source, refused_if(words < WORDS * n as usize, 8))
 }
 
 // Causes 1 to 9.
@@ -188,16 +155,14 @@ fn path_check(
     s: u32,
     words: usize,
 ) -> Outcome
-    ensures { λ r. ⌜ refusalOf r ≡ refusal (checkCauses (callOf n (now (left .entry)) (now (right .entry)) (now (weight .entry)) (now (mark .entry))) s words) ⌝ }
+    ensures { λ r. ⌜ refusalOf r ≡ refusal (beforeWalk (callOf n (now (left .entry)) (now (right .entry)) (now (weight .entry)) (now (mark .entry))) s words) ⌝ }
 {
-    let table = checks::table_check(n, left, right, weight, mark);
-    let Outcome::Done = table else {
-        return table;
+    let claim = checks::claim_check(n, left, right, weight, mark);
+    let Outcome::Done = claim else {
+        return claim;
     };
-    let claim = checks::claim_check(mark);
     let call = call_check(n, s, words);
-    let count = checks::count_check(n, mark);
-    first(claim, first(call, count))
+    first(call, checks::count_check(n, left.len(), mark))
 }
 
 // The words of the table that a column of ends gives.
@@ -211,7 +176,7 @@ fn ends_of(column: &[u8]) -> Stored
 // The walk over the rows that the claim marks, and cause 10.
 fn claim_walk(n: u32, left: &[u8], right: &[u8], mark: &[u8], s: u32, own: &mut [u64]) -> Outcome
     requires { ⌜ n ≤ size ⌝ }
-    ensures answer { λ o. ⌜ refusalOf o ≡ unreachedCause n (claimWalk n (now (left .entry)) (now (right .entry)) (now (mark .entry)) s (now (own .entry)) .reached) ⌝ }
+    ensures answer { λ o. ⌜ refusalOf o ≡ unreached n (claimWalk n (now (left .entry)) (now (right .entry)) (now (mark .entry)) s (now (own .entry)) .reached) ⌝ }
     ensures words { λ o. ⌜ now (own .exit) ≡ claimWalk n (now (left .entry)) (now (right .entry)) (now (mark .entry)) s (now (own .entry)) .words ⌝ }
 {
     let lefts = ends_of(left);

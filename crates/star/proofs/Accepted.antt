@@ -3,10 +3,10 @@
 use Prim.Native.Nat.{ℕ, zero, suc, _+_, _*_, _≤_, _<_}
 use mathlib.Core.Bool.{Bool, true, false, not, _||_}
 use mathlib.Core.List.{List, [], _∷_, _++_}
-use mathlib.Core.Logic.{_≢_}
+use mathlib.Core.Logic.{_↔_, _≢_, _⊎_, inl, inr}
 use mathlib.Core.Option.{Option, none, some}
 use mathlib.Core.Path.{_≡_, refl, sym, ap, _∙_}
-use borrow.Author.Tests.{ltb-false, eqb-false, eqb-true, not-false}
+use borrow.Author.Tests.{ltb-false, le-ltb, eqb-false, eqb-true, eq-eqb, ne-eqb, not-false}
 use lib.Dec.{eqb, ltb}
 use lib.ListN.{length}
 use native.Mathlib.Omega.{arith}
@@ -14,7 +14,8 @@ use Rattle.graph.specs.Graph.{Graph, Sound}
 use Rattle.refusal.specs.declared.Refusal.{Refusal}
 use Rattle.rowset.specs.Bytes.{inRow}
 use Rattle.rowset.specs.Sets.{upTo, uppermost}
-use Rattle.rowset.proofs.Laws.{uppermost-none, upTo-in}
+use Rattle.rowset.proofs.Laws.{uppermost-none, uppermost-zero, in-upTo, upTo-in}
+use Rattle.star.specs.Accepted.{Row, AcceptedTable, AcceptedMeans}
 use Rattle.star.specs.Call.{Call, rowsOf, graphOf, weightOf}
 use Rattle.star.specs.Refusals.{maxVertices, maxRows, maxWeight, cause, causeAt, badVertices, tooManyRows, badLengths, badEnds, tooHeavy, badRow, tableCauses, orElse, refusal, Accepted}
 
@@ -64,6 +65,30 @@ pub none-cause : (b : Bool) (k p : ℕ) → b ≡ false → cause b k p ≡ none
 unfolding cause
 none-cause true k p e = cc
 none-cause false k p e = refl
+
+-- none is no refusal
+none-is-some : {r : Refusal} → _≡_ {A = Option Refusal} none (some r) → ⊥
+none-is-some e = let z : _≡_ {A = ℕ} 0 1 = cc in omega arith
+
+-- the refusal of a list is its head's, or that of its tail where the head does not apply
+pub some-cons : (x : Option Refusal) (xs : List (Option Refusal)) (r : Refusal) → refusal (x ∷ xs) ≡ some r → (x ≡ some r) ⊎ ((x ≡ none) × (refusal xs ≡ some r))
+unfolding refusal orElse
+some-cons none xs r e = inr (refl, e)
+some-cons (some q) xs r e = inl e
+
+pub some-cause : (b : Bool) (k p : ℕ) (r : Refusal) → cause b k p ≡ some r → (b ≡ true) × (record { number = k; place = p } ≡ r)
+unfolding cause
+some-cause true k p r e = (refl, cc)
+some-cause false k p r e = absurd (none-is-some e)
+
+pub some-causeAt : (k i : ℕ) (r : Refusal) → causeAt k i ≡ some r → (j : ℕ) × (i ≡ suc j) × (record { number = k; place = suc j } ≡ r)
+unfolding causeAt
+some-causeAt k zero r e = absurd (none-is-some e)
+some-causeAt k (suc j) r e = (j, refl, cc)
+
+pub none-causeAt : (k : ℕ) {i : ℕ} → i ≡ 0 → causeAt k i ≡ none
+unfolding causeAt
+none-causeAt k e = ap (causeAt k) e
 
 pub causeAt-none : (k i : ℕ) → causeAt k i ≡ none → i ≡ 0
 unfolding causeAt
@@ -166,3 +191,57 @@ sound c t =
 
     ends₂ : (i : ℕ) → upTo (rowsOf c) i ≡ true → (a₀ i || a₁ i) ≡ false
     ends₂ i r = or-left (a₀ i || a₁ i) (b₀ i) (ends₃ i r)
+
+-- a disjunction of two that fail
+or-none : {a b : Bool} → a ≡ false → b ≡ false → (a || b) ≡ false
+or-none e h = rw (e, h)
+
+-- an accepted table in words
+in-words : (c : Call) → Taken c → AcceptedTable c
+unfolding graphOf
+in-words c t =
+    record {
+      vertices = (t .some-vertex, t .few-vertices);
+      rows = t .few-rows;
+      right-length = t .right-length;
+      weight-length = t .weight-length;
+      mark-length = t .mark-length;
+      left-end = λ i r. s .left i (row i r);
+      right-end = λ i r. s .right i (row i r);
+      apart = λ i r. s .apart i (row i r);
+      weights = λ i r. t .good-weight i (r .0) (r .1);
+    }
+  where
+    s : Sound (graphOf c)
+    s = sound c t
+
+    row : (i : ℕ) → Row c i → upTo (rowsOf c) i ≡ true
+    row i r = in-upTo (rowsOf c) i (r .0) (r .1)
+
+-- and back
+from-words : (c : Call) → AcceptedTable c → Accepted c
+unfolding tableCauses badVertices tooManyRows badLengths badRow badEnds tooHeavy
+from-words c a =
+    none-both _ _ (none-cause _ 1 0 (or-none (positive (c .n) (a .vertices .0)) (le-ltb _ _ (a .vertices .1))))
+    (none-both _ _ (none-cause _ 2 0 (le-ltb _ _ (a .rows)))
+    (none-both _ _ (none-cause _ 3 0 (or-none (or-none (same (a .right-length)) (same (a .mark-length))) (same (a .weight-length))))
+    (none-both _ _ (none-causeAt _ (uppermost-zero (rowsOf c) (λ k. badEnds c k || tooHeavy c k) good)) none-nil)))
+  where
+    positive : (x : ℕ) → 1 ≤ x → eqb x 0 ≡ false
+    positive x h = ne-eqb x 0 (λ e. omega arith)
+
+    same : {x y : ℕ} → x ≡ y → not (eqb x y) ≡ false
+    same {x} {y} e = ap not (eq-eqb x y e)
+
+    good : (i : ℕ) → 1 ≤ i → i ≤ rowsOf c → (badEnds c i || tooHeavy c i) ≡ false
+    good i l u =
+        or-none
+        (or-none
+        (or-none
+        (or-none (or-none (positive _ (a .left-end i (l, u) .0)) (le-ltb _ _ (a .left-end i (l, u) .1))) (positive _ (a .right-end i (l, u) .0)))
+        (le-ltb _ _ (a .right-end i (l, u) .1)))
+        (ne-eqb _ _ (a .apart i (l, u))))
+        (le-ltb _ _ (a .weights i (l, u)))
+
+pub accepted-means : AcceptedMeans
+accepted-means c = (λ e. in-words c (taken c e), from-words c)

@@ -6,6 +6,7 @@ use mathlib.Core.List.{List, [], _∷_, _++_}
 use lib.Dec.{eqb}
 use lib.ListN.{length}
 use Rattle.refusal.specs.declared.Refusal.{Refusal}
+use Rattle.rowset.specs.Bytes.{little}
 use Rattle.star.specs.Call.{Call}
 use Rattle.star.specs.Cst.{Answer, refused, passed, lighter, cst}
 use Rattle.star.specs.Mst1.{mst1, mst1Marks}
@@ -33,6 +34,11 @@ unfoldable pub fieldBytes : Fields → List ℕ
 fieldBytes f =
     bytesOf 1 (f .kind) ++ bytesOf 1 (f .number) ++ bytesOf 2 (f .out) ++ bytesOf 2 (f .into) ++ bytesOf 2 0
     ++ bytesOf 8 (f .amount)
+
+-- the fields that are read back from sixteen bytes
+unfoldable pub readBack : List ℕ → Fields
+readBack l =
+    record { kind = little l 0 1; number = little l 1 1; out = little l 2 2; into = little l 4 2; amount = little l 8 8 }
 
 -- whether the lent answer has sixteen bytes; otherwise the call returns 0 and writes nothing
 unfoldable pub wellLent : List ℕ → Bool

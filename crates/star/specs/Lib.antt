@@ -1,7 +1,10 @@
 pub mod Call
 pub mod Refusals
+pub mod Accepted
 pub mod MatrixPath
 pub mod Cst
 pub mod Mst1
 pub mod Door
 pub mod Trials
+pub mod RefusalTrials
+pub mod AnswerTrials

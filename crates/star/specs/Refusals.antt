@@ -1,4 +1,5 @@
 -- Why a call is declined: each cause with its number and place, and each procedure's causes in their order. The first that applies is the refusal.
+-- A cause that a check finds without the whole call is written over what it looks at, and then taken for a call.
 -- Assumes nothing.
 use Prim.Native.Nat.{ℕ, zero, suc, _*_}
 use mathlib.Core.Bool.{Bool, true, false, not, cond, _||_}
@@ -44,20 +45,18 @@ unfoldable pub tooManyRows : ℕ → Option Refusal
 tooManyRows m = cause (ltb maxRows m) 2 0
 
 -- 3: the right or mark column is not m bytes, or the weight column not 4 · m
+abbrev pub wrongLengths : (m right weight mark : ℕ) → Option Refusal
+wrongLengths m right weight mark = cause (not (eqb right m) || not (eqb mark m) || not (eqb weight (4 * m))) 3 0
+
 unfoldable pub badLengths : Call → Option Refusal
-badLengths c =
-    cause
-    (not (eqb (length (c .right)) (rowsOf c)) || not (eqb (length (c .mark)) (rowsOf c))
-    || not (eqb (length (c .weight)) (4 * rowsOf c)))
-    3
-    0
+badLengths c = wrongLengths (rowsOf c) (length (c .right)) (length (c .weight)) (length (c .mark))
 
 -- an end is 0 or above n, or both ends are equal
+abbrev pub wrongEnds : (n a b : ℕ) → Bool
+wrongEnds n a b = eqb a 0 || ltb n a || eqb b 0 || ltb n b || eqb a b
+
 unfoldable pub badEnds : Call → ℕ → Bool
-badEnds c i =
-    eqb (inRow 1 (c .left) i) 0 || ltb (c .n) (inRow 1 (c .left) i) || eqb (inRow 1 (c .right) i) 0
-    || ltb (c .n) (inRow 1 (c .right) i)
-    || eqb (inRow 1 (c .left) i) (inRow 1 (c .right) i)
+badEnds c i = wrongEnds (c .n) (inRow 1 (c .left) i) (inRow 1 (c .right) i)
 
 -- a weight above 2,147,483,647
 unfoldable pub tooHeavy : Call → ℕ → Bool
@@ -70,24 +69,39 @@ badRow c =
     causeAt (cond (badEnds c i) 4 5) i
 
 -- 6: a claim byte other than 0 and 1
+abbrev pub wrongByte : (mark : List ℕ) → ℕ → Bool
+wrongByte mark i = ltb 1 (inRow 1 mark i)
+
 unfoldable pub badClaim : Call → Option Refusal
-badClaim c = causeAt 6 (uppermost (rowsOf c) (λ i. ltb 1 (inRow 1 (c .mark) i)))
+badClaim c = causeAt 6 (uppermost (rowsOf c) (wrongByte (c .mark)))
 
 -- 7: s is 0 or above n
+abbrev pub wrongSource : (n s : ℕ) → Option Refusal
+wrongSource n s = cause (eqb s 0 || ltb n s) 7 0
+
 unfoldable pub badSource : Call → ℕ → Option Refusal
-badSource c s = cause (eqb s 0 || ltb (c .n) s) 7 0
+badSource c s = wrongSource (c .n) s
 
 -- 8: R is shorter than 16 · n words
+abbrev pub fewWords : (n size : ℕ) → Option Refusal
+fewWords n size = cause (ltb size (columnWords * n)) 8 0
+
 unfoldable pub shortMatrix : Call → ℕ → Option Refusal
-shortMatrix c size = cause (ltb size (columnWords * c .n)) 8 0
+shortMatrix c size = fewWords (c .n) size
 
 -- 9: the marks are not n − 1
+abbrev pub wrongCount : (n m : ℕ) → (mark : List ℕ) → Option Refusal
+wrongCount n m mark = cause (not (eqb (suc (count m (marked mark))) n)) 9 0
+
 unfoldable pub badCount : Call → Option Refusal
-badCount c = cause (not (eqb (suc (count (rowsOf c) (marked (c .mark)))) (c .n))) 9 0
+badCount c = wrongCount (c .n) (rowsOf c) (c .mark)
 
 -- 10: no tree; the place is the smallest vertex that marked rows do not join to s
+abbrev pub unreached : ℕ → (reached : ℕ → Bool) → Option Refusal
+unreached n reached = causeAt 10 (uppermost n (λ v. not (reached v)))
+
 unfoldable pub unjoined : Call → ℕ → Option Refusal
-unjoined c s = causeAt 10 (uppermost (c .n) (λ v. not (joined (graphOf c) (marked (c .mark)) s v)))
+unjoined c s = unreached (c .n) (joined (graphOf c) (marked (c .mark)) s)
 
 -- 11: no spanning tree exists
 unfoldable pub isNone : Option Fragment → Bool
@@ -97,13 +111,19 @@ isNone (some f) = false
 unfoldable pub noTree : Call → Option Refusal
 noTree c = cause (isNone (tree (graphOf c) (weightOf c))) 11 0
 
--- the causes of every procedure that takes the table, and those of each procedure, in order
+-- the causes that concern the rows, and those of every procedure that takes the table, in order
+abbrev pub rowCauses : Call → List (Option Refusal)
+rowCauses c = badRow c ∷ []
+
 unfoldable pub tableCauses : Call → List (Option Refusal)
-tableCauses c = badVertices (c .n) ∷ tooManyRows (rowsOf c) ∷ badLengths c ∷ badRow c ∷ []
+tableCauses c = badVertices (c .n) ∷ tooManyRows (rowsOf c) ∷ badLengths c ∷ rowCauses c
+
+-- the causes of each procedure, in order; MatrixPath seeks all but the last before it walks
+abbrev pub beforeWalk : Call → ℕ → ℕ → List (Option Refusal)
+beforeWalk c s size = tableCauses c ++ (badClaim c ∷ badSource c s ∷ shortMatrix c size ∷ badCount c ∷ [])
 
 unfoldable pub matrixPathCauses : Call → ℕ → ℕ → List (Option Refusal)
-matrixPathCauses c s size =
-    tableCauses c ++ (badClaim c ∷ badSource c s ∷ shortMatrix c size ∷ badCount c ∷ unjoined c s ∷ [])
+matrixPathCauses c s size = beforeWalk c s size ++ (unjoined c s ∷ [])
 
 unfoldable pub cstCauses : Call → List (Option Refusal)
 cstCauses c = tableCauses c ++ (badClaim c ∷ badCount c ∷ unjoined c 1 ∷ [])

@@ -17,21 +17,21 @@ pub data Result : Type 0 where
   built : Answer → List ℕ → Result
   filled : Option Refusal → List ℕ → Result
 
-abbrev checks : Call → Result
+abbrev pub checks : Call → Result
 checks c = checked (cst c)
 
-abbrev builds : Call → Result
+abbrev pub builds : Call → Result
 builds c = built (mst1 c) (mst1Marks c)
 
-abbrev fills : Call → ℕ → List ℕ → Result
+abbrev pub fills : Call → ℕ → List ℕ → Result
 fills c s R = filled (matrixPath c s R) (matrixAfter c s R)
 
 -- a weight below 256 as four bytes
-abbrev small : ℕ → List ℕ
+abbrev pub small : ℕ → List ℕ
 small w = w ∷ 0 ∷ 0 ∷ 0 ∷ []
 
 -- the refusal with this number and place
-abbrev because : ℕ → ℕ → Refusal
+abbrev pub because : ℕ → ℕ → Refusal
 because number place = record { number = number; place = place }
 
 -- the yard: 1-2 weight 5, 2-3 weight 3, 3-4 weight 5, 1-4 weight 4, 1-3 weight 6
@@ -77,7 +77,7 @@ abbrev pub bare : ℕ → Call
 bare n = record { n = n; left = []; right = []; weight = []; mark = [] }
 
 -- a column of the path matrix whose components are all among the first 64
-abbrev column : ℕ → List ℕ
+abbrev pub column : ℕ → List ℕ
 column word = word ∷ replicate 15 0
 
 -- what the definitions give

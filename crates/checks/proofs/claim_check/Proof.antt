@@ -1,31 +1,50 @@
--- `checks::claim_check` meets its contract. The place fits 32 bits since a claim that is looked at has at most 1,024 bytes. Assumes nothing.
+-- `checks::claim_check` meets its contract: the table is refused, or the claim decides. The place fits 32 bits since an accepted table has at most 1,024 rows.
+-- Assumes nothing.
+use Prim.Native.Nat.{_≤_}
 use borrow.Author.Needs.{needs}
-use borrow.Author.Tests.{le-leb, lt-leb}
-use mathlib.Core.Path.{sym, _∙_}
+use lib.ListN.{length}
+use mathlib.Core.Path.{sym, ap, _∙_}
 use native.Mathlib.Omega.{arith}
 use Rattle.refusal.specs.Outcomes.{refusalOf}
-use Rattle.checks.specs.Checks.{claimCause}
-use Rattle.checks.proofs.Laws.{no-cause, some-cause, uppermost-bound}
+use Rattle.star.specs.Refusals.{maxRows, causeAt, wrongByte, badClaim}
+use Rattle.star.proofs.Accepted.{taken}
+use Rattle.checks.proofs.Laws.{uppermost-bound, refused-first, done-next, claim-in-order}
 use Rattle.checks.proofs.claim_check.Statement.{statement}
 use Rattle.checks.proofs.claim_check.Tie as tie
 
 returns : tie.Need-returns
-unfolding refusalOf claimCause
-returns c = rw (lt-leb _ _ (c .if1 .taken))
+returns c = refused-first _ _ _ _ (c .enum-told2 .given .1) (c .before .before .table-check .ensures) ∙ sym (claim-in-order _)
+
+-- the table was taken
+rows : (c : tie.After-enum-told) → length (c .before .before .before .before .before .before .before .args .left .now) ≤ maxRows
+unfolding refusalOf
+rows c = taken _ (sym (c .before .before .table-check .ensures) ∙ ap refusalOf (c .enum-told .given .1)) .few-rows
 
 first-bad-mark-requires : tie.Need-first-bad-mark-requires
-first-bad-mark-requires c κs = search needs
+first-bad-mark-requires c κs = rows c
+
+cast-refused-at : tie.Need-cast-refused-at
+cast-refused-at c =
+    let x = c .before .before .before .before .before .before .before .before .args in
+    omega (arith, rows (c .before), uppermost-bound _ _ (wrongByte (x .mark .now)) (c .first-bad-mark .ensures))
 
 returns-2 : tie.Need-returns-2
-unfolding refusalOf claimCause
-returns-2 c = rw (le-leb _ _ (c .before .before .if1 .left)) (no-cause 6 _ (sym (c .before .first-bad-mark .ensures) ∙ c .if2 .taken))
-
-cast-t5 : tie.Need-cast-t5
-cast-t5 c = omega (arith, uppermost-bound _ _ _ (c .before .first-bad-mark .ensures))
-
-returns-3 : tie.Need-returns-3
-unfolding refusalOf claimCause
-returns-3 c = rw (le-leb _ _ (c .before .before .if1 .left), ← c .before .first-bad-mark .ensures) (some-cause 6 _ (c .if2 .left))
+unfolding badClaim
+returns-2 c =
+    let told = c .before .before in
+    done-next _ _ _ _ (told .enum-told .given .1) (told .before .before .table-check .ensures)
+    (c .refused-at .ensures ∙ ap (causeAt 6) (c .before .first-bad-mark .ensures))
+    ∙ sym (claim-in-order _)
 
 pub claim-check-spec : {M : Type 1} → statement M
-claim-check-spec = tie.close (tie.spec returns first-bad-mark-requires returns-2 cast-t5 returns-3)
+claim-check-spec =
+    tie.close
+    (tie.spec
+    (λ c κs. search needs)
+    (λ c. search needs)
+    (λ c. search needs)
+    returns
+    first-bad-mark-requires
+    cast-refused-at
+    (λ c κs. search needs)
+    returns-2)

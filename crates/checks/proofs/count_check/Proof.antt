@@ -1,30 +1,35 @@
--- `checks::count_check` meets its contract. Assumes nothing.
+-- `checks::count_check` meets its contract, by its two tests. Assumes nothing.
+use Prim.Native.Nat.{ℕ, zero, suc, _-_}
 use borrow.Author.Needs.{needs}
 use borrow.Author.Tests.{eq-eqb, ne-eqb}
-use lib.ListN.{length}
-use native.Mathlib.Numerals.{add-one}
+use lib.Dec.{eqb, eqb·suc-suc}
+use mathlib.Core.Logic.{_≢_, ⊎-elim}
+use mathlib.Core.Path.{_≡_, refl, sym, ap, _∙_}
 use native.Mathlib.Omega.{arith}
-use Rattle.refusal.specs.Outcomes.{refusalOf}
-use Rattle.rowset.proofs.Laws.{count-bound}
-use Rattle.star.specs.Call.{marked}
-use Rattle.star.specs.Refusals.{cause}
-use Rattle.checks.specs.Checks.{countCause}
 use Rattle.checks.proofs.count_check.Statement.{statement}
 use Rattle.checks.proofs.count_check.Tie as tie
 
-count-marks-requires : tie.Need-count-marks-requires
-count-marks-requires c κs = search needs
-
-add-if1 : tie.Need-add-if1
-add-if1 c = omega (arith, count-bound (length (c .before .before .args .mark .now)) (marked (c .before .before .args .mark .now)))
+-- k is n − 1 exactly where its successor is n
+one-less : (k n : ℕ) → n ≢ 0 → eqb k (n - 1) ≡ eqb (suc k) n
+one-less k zero h = absurd (h refl)
+one-less k (suc j) h =
+    let e : suc j - 1 ≡ j = omega arith in
+    rw e (sym (eqb·suc-suc k j))
 
 returns : tie.Need-returns
-unfolding refusalOf countCause cause
-returns c = rw (← c .before .count-marks .ensures, ← add-one (c .before .count-marks .result), eq-eqb _ _ (c .if1 .taken))
-
-returns-2 : tie.Need-returns-2
-unfolding refusalOf countCause cause
-returns-2 c = rw (← c .before .count-marks .ensures, ← add-one (c .before .count-marks .result), ne-eqb _ _ (c .if1 .left))
+returns c =
+    let b = c .before in
+    rw (c .refused-if .ensures, ← b .before .count-marks .ensures)
+    (⊎-elim (λ w. rw (w .1, eq-eqb _ _ (w .0 .taken), ne-eqb (suc (b .before .count-marks .result)) (b .before .before .before .args .n) (λ e. omega (arith, w .0 .taken, e))))
+    (λ w. rw (w .1, one-less _ _ (w .0 .left)))
+    (b .if1 .came))
 
 pub count-check-spec : {M : Type 1} → statement M
-count-check-spec = tie.close (tie.spec count-marks-requires add-if1 returns returns-2)
+count-check-spec =
+    tie.close
+    (tie.spec
+    (λ c κs. search needs)
+    (λ c. search needs)
+    (λ c. search needs)
+    (λ c κs. search needs)
+    returns)

@@ -2,7 +2,6 @@
 -- The measure is what is left of the rows. Assumes nothing.
 use Prim.Native.Nat.{_-_, _≤_}
 use borrow.Author.Tests.{eq-eqb, ne-eqb}
-use lib.ListN.{length}
 use mathlib.Core.Logic.{⊎-elim}
 use mathlib.Core.Path.{_≡_, _∙_}
 use native.Mathlib.Omega.{arith}
@@ -14,10 +13,10 @@ use Rattle.checks.proofs.count_marks.Statement.{statement}
 use Rattle.checks.proofs.count_marks.Tie as tie
 
 abbrev Inv-loop : tie.InvT-loop
-Inv-loop mark marks₀ i₀ marks i = (i ≤ length mark) × (marks ≡ count i (marked mark))
+Inv-loop m mark marks₀ i₀ marks i = (i ≤ m) × (marks ≡ count i (marked mark))
 
 abbrev μ-loop : tie.MeasureT-loop
-μ-loop mark marks₀ i₀ marks i = length mark - i
+μ-loop m mark marks₀ i₀ marks i = m - i
 
 loop-holds : tie.Need-loop-holds Inv-loop μ-loop
 loop-holds c = (omega arith, count-zero _)
@@ -48,7 +47,7 @@ loop-again c = (
 
 returns : tie.Need-returns Inv-loop μ-loop
 returns c =
-    let e : c .before .loop .i ≡ length (c .before .before .before .args .mark .now) = omega arith in
+    let e : c .before .loop .i ≡ c .before .before .before .args .m = omega arith in
     rw e at (c .before .loop .inv .1)
 
 pub count-marks-spec : {M : Type 1} → statement M

@@ -1,12 +1,9 @@
 -- `checks::first_bad_row` meets its contract. The loop's invariant: none of the rows above row i has a fault.
 -- The measure is what is left of the rows. Assumes nothing.
 use Prim.Native.Nat.{_+_, _-_, _≤_}
-use borrow.Author.Tests.{eq-eqb, ne-eqb}
 use lib.ListN.{length}
-use mathlib.Core.Bool.{not}
-use mathlib.Core.Path.{ap}
 use native.Mathlib.Omega.{arith}
-use Rattle.checks.specs.Checks.{faulty}
+use Rattle.checks.specs.steps.Rows.{faulty}
 use Rattle.checks.proofs.Laws.{Passed, passed-none, passed-more, passed-found, passed-all}
 use Rattle.checks.proofs.first_bad_row.Statement.{statement}
 use Rattle.checks.proofs.first_bad_row.Tie as tie
@@ -20,12 +17,11 @@ abbrev μ-loop : tie.MeasureT-loop
 loop-holds : tie.Need-loop-holds Inv-loop μ-loop
 loop-holds c = (omega arith, omega arith, passed-none _)
 
-row-fault-requires : tie.Need-row-fault-requires Inv-loop μ-loop
-row-fault-requires c κs = tt
+bad-row-requires : tie.Need-bad-row-requires Inv-loop μ-loop
+bad-row-requires c κs = tt
 
 returns : tie.Need-returns Inv-loop μ-loop
-unfolding faulty
-returns c = passed-found _ _ _ (omega arith) (omega arith) (c .before .before .before .loop .inv .2) (rw (c .before .row-fault .ensures) at (ap not (ne-eqb _ _ (c .if1 .taken))))
+returns c = passed-found _ _ _ (omega arith) (omega arith) (c .before .before .before .loop .inv .2) (rw (c .before .bad-row .ensures) at (c .if1 .taken))
 
 add-i : tie.Need-add-i Inv-loop μ-loop
 add-i c = omega arith
@@ -34,8 +30,7 @@ loop-less : tie.Need-loop-less Inv-loop μ-loop
 loop-less c = omega arith
 
 loop-again : tie.Need-loop-again Inv-loop μ-loop
-unfolding faulty
-loop-again c = (omega arith, omega arith, passed-more _ _ (c .before .before .before .loop .inv .2) (rw (c .before .row-fault .ensures) at (ap not (eq-eqb _ _ (c .if1 .left)))))
+loop-again c = (omega arith, omega arith, passed-more _ _ (c .before .before .before .loop .inv .2) (rw (c .before .bad-row .ensures) at (c .if1 .left)))
 
 returns-2 : tie.Need-returns-2 Inv-loop μ-loop
 returns-2 c = passed-all _ _ _ (omega arith) (c .before .loop .inv .2)
@@ -47,7 +42,7 @@ first-bad-row-spec =
     Inv-loop
     μ-loop
     loop-holds
-    row-fault-requires
+    bad-row-requires
     returns
     add-i
     loop-less

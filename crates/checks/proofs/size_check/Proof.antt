@@ -1,20 +1,24 @@
--- `checks::size_check` meets its contract. Assumes nothing.
+-- `checks::size_check` meets its contract, by its two tests. Assumes nothing.
 use borrow.Author.Needs.{needs}
-use Rattle.refusal.specs.Outcomes.{refusalOf}
-use Rattle.checks.proofs.Laws.{size-done, size-refused}
+use borrow.Author.Tests.{eq-eqb, ne-eqb}
+use mathlib.Core.Logic.{⊎-elim}
+use Rattle.star.specs.Refusals.{badVertices, tooManyRows}
+use Rattle.checks.proofs.Laws.{refusal-two}
 use Rattle.checks.proofs.size_check.Statement.{statement}
 use Rattle.checks.proofs.size_check.Tie as tie
 
-size-fault-requires : tie.Need-size-fault-requires
-size-fault-requires c κs = search needs
-
 returns : tie.Need-returns
-unfolding refusalOf
-returns c = size-done _ _ _ (c .before .size-fault .ensures) (c .if1 .taken)
-
-returns-2 : tie.Need-returns-2
-unfolding refusalOf
-returns-2 c = size-refused _ _ _ (c .before .size-fault .ensures) (c .if1 .left)
+unfolding badVertices tooManyRows
+returns c =
+    let b = c .before .before in
+    rw (refusal-two, c .first .ensures, b .refused-if .ensures, c .before .refused-if2 .ensures)
+    (⊎-elim (λ w. rw (w .1, eq-eqb _ _ (w .0 .taken))) (λ w. rw (w .1, ne-eqb _ _ (w .0 .left))) (b .before .if1 .came))
 
 pub size-check-spec : {M : Type 1} → statement M
-size-check-spec = tie.close (tie.spec size-fault-requires returns returns-2)
+size-check-spec =
+    tie.close
+    (tie.spec
+    (λ c κs. search needs)
+    (λ c κs. search needs)
+    (λ c κs. search needs)
+    returns)

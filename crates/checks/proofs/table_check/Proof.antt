@@ -1,52 +1,46 @@
--- `checks::table_check` meets its contract. The place fits 32 bits since a table without a fault in its shape has at most 1,024 rows. Assumes nothing.
+-- `checks::table_check` meets its contract: the sizes are refused, or the lengths and the rows decide in their order. Assumes nothing.
+use Prim.Native.Nat.{_≤_}
 use borrow.Author.Needs.{needs}
-use native.Mathlib.Omega.{arith}
+use lib.ListN.{length}
+use mathlib.Core.Path.{sym, ap, _∙_}
 use Rattle.refusal.specs.Outcomes.{refusalOf}
-use Rattle.checks.specs.Checks.{faulty}
-use Rattle.checks.proofs.Laws.{refused-shape, uppermost-bound, shape-rows, accepted-rows, refused-row}
+use Rattle.star.specs.Refusals.{maxRows, badLengths}
+use Rattle.checks.proofs.Laws.{refused-first, done-next, few-rows, table-in-order}
 use Rattle.checks.proofs.table_check.Statement.{statement}
 use Rattle.checks.proofs.table_check.Tie as tie
 
-shape-fault-requires : tie.Need-shape-fault-requires
-shape-fault-requires c κs = search needs
-
 returns : tie.Need-returns
-unfolding refusalOf
-returns c = refused-shape _ _ (c .before .shape-fault .ensures) (c .if1 .taken)
+returns c = refused-first _ _ _ _ (c .enum-told2 .given .1) (c .before .before .size-check .ensures) ∙ sym (table-in-order _)
 
-first-bad-row-requires : tie.Need-first-bad-row-requires
-first-bad-row-requires c κs = search needs
+-- the sizes were taken
+sizes : (c : tie.After-enum-told) → length (c .before .before .before .before .before .before .before .args .left .now) ≤ maxRows
+unfolding refusalOf
+sizes c = few-rows _ _ (ap refusalOf (sym (c .enum-told .given .1)) ∙ c .before .before .size-check .ensures)
+
+lengths-check-requires : tie.Need-lengths-check-requires
+lengths-check-requires c κs = sizes c
+
+rows-check-requires : tie.Need-rows-check-requires
+rows-check-requires c κs = sizes (c .before)
 
 returns-2 : tie.Need-returns-2
-unfolding refusalOf
+unfolding badLengths
 returns-2 c =
-    let d = c .before .before in
-    accepted-rows _ _ (d .before .shape-fault .ensures) (d .if1 .left) _ (c .before .first-bad-row .ensures) (c .if2 .taken)
-
-row-fault-requires : tie.Need-row-fault-requires
-row-fault-requires c κs = search needs
-
-cast-t15 : tie.Need-cast-t15
-cast-t15 c =
-    let x = c .before .before .before .before .before .before .before .before .before .args in
-    let few = shape-rows _ _ _ _ _ _ (c .before .before .before .before .shape-fault .ensures) (c .before .before .before .if1 .left) in
-    let within = uppermost-bound _ _ (faulty (x .n) (x .left .now) (x .right .now) (x .weight .now)) (c .before .before .first-bad-row .ensures) in
-    omega arith
-
-returns-3 : tie.Need-returns-3
-unfolding refusalOf
-returns-3 c =
-    let d = c .before .before .before in
-    refused-row _ _ (d .before .shape-fault .ensures) (d .if1 .left) _ (c .before .before .first-bad-row .ensures) _ (c .row-fault .ensures) (c .before .if2 .left)
+    let told = c .before .before .before in
+    let x = told .before .before .before .before .before .before .before .args in
+    rw table-in-order
+    (done-next _ _ _ _ (told .enum-told .given .1) (told .before .before .size-check .ensures)
+    (rw (c .first .ensures, c .before .before .lengths-check .ensures, c .before .rows-check .ensures (x .mark .now))))
 
 pub table-check-spec : {M : Type 1} → statement M
 table-check-spec =
     tie.close
     (tie.spec
-    shape-fault-requires
+    (λ c κs. search needs)
+    (λ c. search needs)
+    (λ c. search needs)
     returns
-    first-bad-row-requires
-    returns-2
-    row-fault-requires
-    cast-t15
-    returns-3)
+    lengths-check-requires
+    rows-check-requires
+    (λ c κs. search needs)
+    returns-2)

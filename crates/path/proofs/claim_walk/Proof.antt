@@ -5,7 +5,11 @@ use Rattle.path.proofs.claim_walk.Statement.{statement}
 use Rattle.path.proofs.claim_walk.Tie as tie
 
 returns : tie.Need-returns
-returns c = (cc, cc)
+returns c =
+    let w = c .before .before .before in
+    let rows = w .before .before .before .before .before .before .before .before in
+    let ends = rows .before in
+    (rw (c .joined-check .ensures, w .walk .ensures .0, ends .before .ends-of .ensures, ends .ends-of2 .ensures, rows .claim-rows .ensures), cc)
 
 pub claim-walk-spec : {M : Type 1} → statement M
 claim-walk-spec =

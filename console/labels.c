@@ -1,0 +1,67 @@
+/* Places labels on trenches. */
+#include <math.h>
+
+#include "layout.h"
+
+enum { PIECES = 8 };
+
+static int labels_touch(const struct label *a, const struct label *b) {
+    return fabs(a->at.x - b->at.x) < (a->width + b->width) / 2 + 2 && fabs(a->at.y - b->at.y) < LABEL_HEIGHT + 1;
+}
+
+/* Whether a label covers a part of a disc. */
+static int covers(const struct label *a, struct point p, double radius) {
+    double dx = fabs(a->at.x - p.x) - a->width / 2, dy = fabs(a->at.y - p.y) - LABEL_HEIGHT / 2.0;
+    if (dx < 0) dx = 0;
+    if (dy < 0) dy = 0;
+    return dx * dx + dy * dy < radius * radius;
+}
+
+static int outside(double x, double reach, double a, double b, double c) {
+    return (a < x - reach && b < x - reach && c < x - reach) || (a > x + reach && b > x + reach && c > x + reach);
+}
+
+/* Whether a label covers a part of a line, taken as pieces that are straight. */
+static int crossed(const struct label *a, const struct curve *c) {
+    int k, i;
+    if (outside(a->at.x, a->width / 2 + 1, c->from.x, c->bend.x, c->to.x)) return 0;
+    if (outside(a->at.y, LABEL_HEIGHT / 2.0 + 1, c->from.y, c->bend.y, c->to.y)) return 0;
+    for (k = 0; k < PIECES; k++) {
+        struct point p = layout_on(c, (double)k / PIECES), q = layout_on(c, (double)(k + 1) / PIECES);
+        for (i = 0; i <= 4; i++) {
+            struct point r;
+            r.x = p.x + (q.x - p.x) * i / 4;
+            r.y = p.y + (q.y - p.y) * i / 4;
+            if (covers(a, r, 1)) return 1;
+        }
+    }
+    return 0;
+}
+
+static int free_of(const struct layout *l, const struct table *t, size_t i, int trenches_too) {
+    const struct label *own = &l->label[i - 1];
+    size_t k;
+    uint32_t v;
+    for (v = 1; v <= t->n; v++)
+        if (covers(own, l->at[v], l->dot + 1)) return 0;
+    for (k = 0; k < t->m; k++) {
+        if (l->label[k].shown && labels_touch(own, &l->label[k])) return 0;
+        if (trenches_too && k != i - 1 && crossed(own, &l->trench[k])) return 0;
+    }
+    return 1;
+}
+
+void layout_label(struct layout *l, const struct table *t, size_t i, size_t letters) {
+    static const double along[] = {0.5, 0.45, 0.55, 0.4, 0.6, 0.35, 0.65, 0.3, 0.7, 0.25, 0.75, 0.2, 0.8};
+    struct label *own = &l->label[i - 1];
+    int trenches_too;
+    size_t k;
+    own->width = (double)letters * LABEL_FONT * 0.62 + 3;
+    for (trenches_too = 1; trenches_too >= 0; trenches_too--)
+        for (k = 0; k < sizeof along / sizeof along[0]; k++) {
+            own->at = layout_on(&l->trench[i - 1], along[k]);
+            if (!free_of(l, t, i, trenches_too)) continue;
+            own->shown = 1;
+            return;
+        }
+}

@@ -1,0 +1,151 @@
+/* Places a network on a sheet: its scale, the lines of its trenches, and its labels. */
+#include "layout.h"
+
+#include <math.h>
+#include <stdlib.h>
+#include <string.h>
+
+enum { MARGIN = 60, NARROWEST = 420, WIDEST = 4000, BESIDE = 30, LONG = 84 };
+
+static double distance(struct point a, struct point b) { return sqrt((a.x - b.x) * (a.x - b.x) + (a.y - b.y) * (a.y - b.y)); }
+
+static struct point between(struct point a, struct point b, double k) {
+    struct point p;
+    p.x = a.x + (b.x - a.x) * k;
+    p.y = a.y + (b.y - a.y) * k;
+    return p;
+}
+
+struct point layout_on(const struct curve *c, double k) { return between(between(c->from, c->bend, k), between(c->bend, c->to, k), k); }
+
+static int by_size(const void *a, const void *b) {
+    double x = *(const double *)a, y = *(const double *)b;
+    return (x > y) - (x < y);
+}
+
+static void widen(struct point p, struct point *least, struct point *most) {
+    if (p.x < least->x) least->x = p.x;
+    if (p.x > most->x) most->x = p.x;
+    if (p.y < least->y) least->y = p.y;
+    if (p.y > most->y) most->y = p.y;
+}
+
+/* The corners of the rectangle around the junctions, and around the trenches too if these are placed. */
+static void corners(const struct layout *l, const struct table *t, int trenches, struct point *least, struct point *most) {
+    uint32_t v;
+    size_t i;
+    *least = *most = l->at[1];
+    for (v = 2; v <= t->n; v++) widen(l->at[v], least, most);
+    for (i = 0; trenches && i < t->m; i++) widen(layout_on(&l->trench[i], 0.5), least, most);
+}
+
+/* How much the places are enlarged: nine of ten trenches are as long as a label, a quarter of the sheet is enough for all labels, and no two
+   junctions touch. */
+static double scale_of(const struct layout *l, const struct table *t, double width, double height) {
+    static double lengths[STAR_MAX_ROWS];
+    double scale = t->n <= 24 ? 120 : 90, nearest = 1, need;
+    uint32_t u, v;
+    size_t i;
+    for (i = 0; i < t->m; i++) lengths[i] = distance(l->at[t->left[i]], l->at[t->right[i]]);
+    qsort(lengths, t->m, sizeof lengths[0], by_size);
+    for (u = 1; u <= t->n; u++)
+        for (v = u + 1; v <= t->n; v++)
+            if (distance(l->at[u], l->at[v]) < nearest) nearest = distance(l->at[u], l->at[v]);
+    if (t->m > 0 && scale * lengths[t->m / 10] < LONG) scale = LONG / (lengths[t->m / 10] + 1e-3);
+    if (scale * nearest < 3 * l->dot) scale = 3 * l->dot / (nearest + 1e-3);
+    need = 4 * (double)t->m * LONG * LABEL_HEIGHT;
+    if (scale * scale * width * height < need && width > 0.5 && height > 0.5) scale = sqrt(need / (width * height));
+    if (scale * width > WIDEST) scale = WIDEST / width;
+    return scale * height > WIDEST ? WIDEST / height : scale;
+}
+
+static void place(struct layout *l, const struct table *t) {
+    struct point least, most;
+    double scale;
+    uint32_t v;
+    layout_places(t, l->at);
+    l->dot = t->n <= 24 ? 13 : 11;
+    corners(l, t, 0, &least, &most);
+    scale = scale_of(l, t, most.x - least.x, most.y - least.y);
+    for (v = 1; v <= t->n; v++) l->at[v].x *= scale, l->at[v].y *= scale;
+}
+
+static void shift(struct point *p, double x, double y) {
+    p->x += x;
+    p->y += y;
+}
+
+/* Moves all to where the sheet, whose corner is 0, has it with a margin. */
+static void fit(struct layout *l, const struct table *t) {
+    struct point least, most;
+    double x, y;
+    uint32_t v;
+    size_t i;
+    corners(l, t, 1, &least, &most);
+    l->width = most.x - least.x + 2 * MARGIN;
+    l->height = most.y - least.y + 2 * MARGIN;
+    if (l->width < NARROWEST) l->width = NARROWEST;
+    x = l->width / 2 - (least.x + most.x) / 2;
+    y = MARGIN - least.y;
+    for (v = 1; v <= t->n; v++) shift(&l->at[v], x, y);
+    for (i = 0; i < t->m; i++) {
+        shift(&l->trench[i].from, x, y);
+        shift(&l->trench[i].bend, x, y);
+        shift(&l->trench[i].to, x, y);
+    }
+}
+
+/* Whether a line runs over a junction that is not its end. */
+static int hits(const struct layout *l, const struct table *t, const struct curve *c, size_t i) {
+    uint32_t v;
+    int k;
+    for (v = 1; v <= t->n; v++)
+        for (k = 1; k < 16 && v != t->left[i] && v != t->right[i]; k++)
+            if (distance(layout_on(c, k / 16.0), l->at[v]) < l->dot + 3) return 1;
+    return 0;
+}
+
+/* The line of a trench, its middle moved aside by `aside`, to the right as seen from the smaller junction. */
+static struct curve line_of(const struct layout *l, const struct table *t, size_t i, double aside) {
+    int swap = t->left[i] > t->right[i];
+    struct curve c;
+    double d;
+    c.from = l->at[swap ? t->right[i] : t->left[i]];
+    c.to = l->at[swap ? t->left[i] : t->right[i]];
+    d = distance(c.from, c.to);
+    c.bend = between(c.from, c.to, 0.5);
+    if (d > 1e-6) {
+        c.bend.x += 2 * aside * (c.from.y - c.to.y) / d;
+        c.bend.y += 2 * aside * (c.to.x - c.from.x) / d;
+    }
+    return c;
+}
+
+static int same_ends(const struct table *t, size_t i, size_t k) {
+    return (t->left[i] == t->left[k] && t->right[i] == t->right[k]) || (t->left[i] == t->right[k] && t->right[i] == t->left[k]);
+}
+
+/* A trench that is alone between its ends is straight, or bent around a junction in its way. */
+static struct curve alone(const struct layout *l, const struct table *t, size_t i) {
+    struct curve c = line_of(l, t, i, 0);
+    int k;
+    for (k = 1; k <= 8 && hits(l, t, &c, i); k++) c = line_of(l, t, i, (k % 2 ? 1 : -1) * (k + 1) / 2 * 14.0);
+    return k <= 8 ? c : line_of(l, t, i, 0);
+}
+
+void layout_sheet(struct layout *l, const struct table *t) {
+    size_t i, k;
+    memset(l, 0, sizeof *l);
+    place(l, t);
+    for (i = 0; i < t->m; i++) {
+        size_t before = 0, all = 0;
+        for (k = 0; k < t->m; k++)
+            if (same_ends(t, i, k)) {
+                all++;
+                before += k < i;
+            }
+        if (all == 1) l->trench[i] = alone(l, t, i);
+        else l->trench[i] = line_of(l, t, i, ((double)before - (double)(all - 1) / 2) * (all <= 5 ? BESIDE : 5.0 * BESIDE / (double)all));
+    }
+    fit(l, t);
+}

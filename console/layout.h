@@ -1,0 +1,45 @@
+/* Where the junctions, trenches and labels of a picture stand. */
+#ifndef CONSOLE_LAYOUT_H
+#define CONSOLE_LAYOUT_H
+
+#include "table.h"
+
+struct point {
+    double x, y;
+};
+
+/* A trench: a line from one end to the other, bent towards a third point; that point is the middle where the line is straight. */
+struct curve {
+    struct point from, bend, to;
+};
+
+struct label {
+    struct point at; /* its middle */
+    double width;
+    int shown; /* 0 where there is no room for it */
+};
+
+enum { LABEL_FONT = 11, LABEL_HEIGHT = 13 };
+
+struct layout {
+    struct point at[STAR_MAX_JUNCTIONS + 1]; /* junction v at index v */
+    struct curve trench[STAR_MAX_ROWS];      /* trench i at index i - 1, and so for labels */
+    struct label label[STAR_MAX_ROWS];
+    double width, height, dot; /* dot: the radius of a junction */
+};
+
+/* Places the junctions so that two of them are about as far apart as the fewest trenches between them are many. Depends on which junctions the
+   trenches join and on nothing else, so that two plans of one network, or two quotes, lie alike. */
+void layout_places(const struct table *t, struct point at[STAR_MAX_JUNCTIONS + 1]);
+
+/* Places junctions and trenches on a sheet. Trenches between the same two junctions are drawn apart. */
+void layout_sheet(struct layout *l, const struct table *t);
+
+/* A point of a curve: k from 0, its start, to 1, its end. */
+struct point layout_on(const struct curve *c, double k);
+
+/* Places the label of trench i, `letters` letters long, where it covers no junction and no label already placed; no other trench either, if
+   that can be had. */
+void layout_label(struct layout *l, const struct table *t, size_t i, size_t letters);
+
+#endif

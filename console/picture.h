@@ -1,0 +1,29 @@
+/* Pictures of a network. */
+#ifndef CONSOLE_PICTURE_H
+#define CONSOLE_PICTURE_H
+
+#include "table.h"
+
+/* A table that the door takes, and what is said of it. */
+struct picture {
+    const struct table *t;
+    unsigned out, in;     /* the trenches of the exchange, 0 for none */
+    struct message words; /* the verdict */
+};
+
+/* How a trench is drawn: the four kinds share their colours and widths among the pictures. */
+enum look { OTHER, MARKED, TAKE_OUT, PUT_IN, LOOKS };
+
+struct style {
+    const char *name, *colour, *width, *says;
+};
+
+extern const struct style STYLES[LOOKS];
+
+/* How trench i, counted from 1, is drawn. */
+enum look picture_look(const struct picture *p, size_t i);
+
+void picture_svg(FILE *to, const struct picture *p);
+void picture_dot(FILE *to, const struct picture *p);
+
+#endif

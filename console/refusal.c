@@ -1,0 +1,93 @@
+/* Says what is wrong, and where in the file it stands. A number without words of its own here gets those of star_refusal_text. */
+#include "refusal.h"
+
+#include <inttypes.h>
+
+#include "unreached.h"
+
+void refusal_opens(struct message *to, unsigned number, const char *file, size_t line) {
+    say(to, "Refused (%u): ", number);
+    say_place(to, file, line);
+}
+
+void refusal_of_end(struct message *to, size_t trench, const struct span ends[2], uint32_t n) {
+    uint32_t end;
+    int i;
+    for (i = 0; i < 2; i++)
+        if (!text_number(ends[i], &end) || end < 1 || end > n) {
+            say(to, "trench %zu ends at junction ", trench);
+            say_word(to, ends[i]);
+            say(to, "; junctions are numbered from 1 to %" PRIu32 ".", n);
+            return;
+        }
+    say(to, "trench %zu joins junction %" PRIu32 " to itself.", trench, end);
+}
+
+void refusal_of_price(struct message *to, size_t trench, struct span price) {
+    say(to, "trench %zu has the price ", trench);
+    say_word(to, price);
+    say(to, "; a price is " PRICE_TEXT ".");
+}
+
+static void junction_count(struct message *to, const struct table *t) {
+    say(to, t->count.line == 0 ? "no junction from 1 on is named" : t->told ? "the number of junctions is " : "the largest junction is ");
+    say_word(to, t->count.text);
+    say(to, "; from 1 to %d junctions are taken.", STAR_MAX_JUNCTIONS);
+}
+
+static void mark_count(struct message *to, const struct table *t) {
+    size_t marks = table_marks(t);
+    say_count(to, marks, "trench is marked", "trenches are marked");
+    say(to, "; a network of ");
+    say_count(to, t->n, "junction has", "junctions has");
+    say(to, " exactly %" PRIu32 ".", t->n - 1);
+}
+
+static void no_network(struct message *to, const struct table *t) {
+    unsigned v = unreached(t);
+    say(to, "no set of trenches reaches every junction");
+    if (v > 0) say(to, ": junction %u cannot be reached from junction 1", v);
+    say(to, ".");
+}
+
+void refusal_words(struct message *to, const struct table *t, struct star_answer a) {
+    struct place none = {0, {NULL, 0}};
+    int of_trench = a.number == STAR_BAD_END || a.number == STAR_BAD_PRICE || a.number == STAR_BAD_MARK;
+    struct place at = of_trench && a.out >= 1 && a.out <= KEPT ? t->row[a.out - 1] : none;
+    struct span ends[2];
+    refusal_opens(to, a.number, t->file, a.number == STAR_BAD_JUNCTION_COUNT ? t->count.line : at.line);
+    switch (a.number) {
+    case STAR_BAD_JUNCTION_COUNT:
+        junction_count(to, t);
+        break;
+    case STAR_TOO_MANY_ROWS:
+        say(to, "there are %zu trenches; at most %d are taken.", t->m, STAR_MAX_ROWS);
+        break;
+    case STAR_BAD_END:
+        ends[0] = text_nth(at.text, 0);
+        ends[1] = text_nth(at.text, 1);
+        refusal_of_end(to, a.out, ends, t->n);
+        break;
+    case STAR_BAD_PRICE:
+        refusal_of_price(to, a.out, text_nth(at.text, 2));
+        break;
+    case STAR_BAD_MARK:
+        say(to, "trench %u has the mark ", a.out);
+        say_word(to, text_nth(at.text, 3));
+        say(to, "; a mark is 0 or 1.");
+        break;
+    case STAR_BAD_MARK_COUNT:
+        mark_count(to, t);
+        break;
+    case STAR_NOT_JOINED:
+        say(to, "the marked trenches do not reach junction %u from junction 1.", a.out);
+        break;
+    case STAR_NO_NETWORK:
+        no_network(to, t);
+        break;
+    default:
+        say(to, "%s (place %u).", star_refusal_text(a.number), a.out);
+    }
+}
+
+int refusal_of_plan(struct star_answer a) { return a.kind == STAR_REFUSED && (a.number == STAR_BAD_MARK_COUNT || a.number == STAR_NOT_JOINED); }

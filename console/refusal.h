@@ -1,0 +1,18 @@
+/* Refusals in words. */
+#ifndef CONSOLE_REFUSAL_H
+#define CONSOLE_REFUSAL_H
+
+#include "table.h"
+
+/* Says why the door refused a table: 'Refused (NUMBER): FILE:LINE: ..'. */
+void refusal_words(struct message *to, const struct table *t, struct star_answer a);
+
+/* Whether a refusal is about the marked trenches together: then the table itself is sound, and can be drawn and written. */
+int refusal_of_plan(struct star_answer a);
+
+/* What the refusals of tables and of STP texts have in common. */
+void refusal_opens(struct message *to, unsigned number, const char *file, size_t line);
+void refusal_of_end(struct message *to, size_t trench, const struct span ends[2], uint32_t n);
+void refusal_of_price(struct message *to, size_t trench, struct span price);
+
+#endif

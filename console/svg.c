@@ -1,0 +1,140 @@
+/* Writes a picture as SVG: trenches, then labels on white ground, then junctions; below them what is said of the plan, and what the lines mean. */
+#include <string.h>
+
+#include "layout.h"
+#include "picture.h"
+
+enum { LINE = 18, LETTER = 8, SAMPLE = 26 };
+
+/* The letters that mean something else in SVG. */
+static void letters(FILE *to, const char *text, size_t len) {
+    for (; len > 0; text++, len--)
+        if (*text == '&') fputs("&amp;", to);
+        else if (*text == '<') fputs("&lt;", to);
+        else if (*text == '>') fputs("&gt;", to);
+        else putc(*text, to);
+}
+
+/* How many letters of a text go on a line of at most `room`: whole words. */
+static size_t line_length(const char *text, size_t room) {
+    size_t len = strlen(text), k;
+    if (len <= room) return len;
+    for (k = room; k > 0; k--)
+        if (text[k] == ' ') return k;
+    return room;
+}
+
+/* Writes the verdict from a height down, and gives the height of the next line; counts alone where `to` is NULL. */
+static double verdict(FILE *to, const char *text, double width, double y) {
+    while (*text) {
+        size_t len = line_length(text, (size_t)(width - 24) / LETTER);
+        if (to) {
+            fprintf(to, "<text class=\"verdict\" x=\"12\" y=\"%.0f\">", y);
+            letters(to, text, len);
+            fprintf(to, "</text>\n");
+        }
+        y += LINE;
+        text += len;
+        while (*text == ' ') text++;
+    }
+    return y;
+}
+
+/* What the lines mean: a sample of each look that occurs. */
+static void key(FILE *to, const struct picture *p, double y) {
+    int used[LOOKS] = {0}, look;
+    double x = 12;
+    size_t i;
+    for (i = 1; i <= p->t->m; i++) used[picture_look(p, i)] = 1;
+    for (look = 0; look < LOOKS; look++)
+        if (used[look]) {
+            fprintf(to, "<path class=\"%s\" d=\"M%.0f %.0fh%d\"/><text class=\"key\" x=\"%.0f\" y=\"%.0f\">%s</text>\n", STYLES[look].name, x, y - 4, SAMPLE,
+                    x + SAMPLE + 6, y, STYLES[look].says);
+            x += SAMPLE + 18 + (double)strlen(STYLES[look].says) * LETTER;
+        }
+}
+
+static void label_text(char *text, size_t room, const struct table *t, size_t i) {
+    char price[FIGURES];
+    snprintf(text, room, "%zu: %s", i, table_price(price, t, i));
+}
+
+/* Places the labels, those of the exchange first and those of trenches that are not marked last; gives the number left out. */
+static size_t place_labels(struct layout *l, const struct picture *p) {
+    char text[2 * FIGURES];
+    size_t i, left_out = 0;
+    int look;
+    for (look = LOOKS - 1; look >= 0; look--)
+        for (i = 1; i <= p->t->m; i++)
+            if ((int)picture_look(p, i) == look) {
+                label_text(text, sizeof text, p->t, i);
+                layout_label(l, p->t, i, strlen(text));
+                left_out += !l->label[i - 1].shown;
+            }
+    return left_out;
+}
+
+static void trenches(FILE *to, const struct picture *p, const struct layout *l) {
+    const struct table *t = p->t;
+    char price[FIGURES];
+    size_t i;
+    int look;
+    for (look = 0; look < LOOKS; look++)
+        for (i = 1; i <= t->m; i++) {
+            const struct curve *c = &l->trench[i - 1];
+            if ((int)picture_look(p, i) != look) continue;
+            fprintf(to, "<path class=\"%s\" d=\"M%.1f %.1fQ%.1f %.1f %.1f %.1f\"><title>trench %zu: %u-%u, price %s, %s</title></path>\n", STYLES[look].name, c->from.x,
+                    c->from.y, c->bend.x, c->bend.y, c->to.x, c->to.y, i, t->left[i - 1], t->right[i - 1], table_price(price, t, i), STYLES[look].says);
+        }
+}
+
+static void labels(FILE *to, const struct picture *p, const struct layout *l) {
+    char text[2 * FIGURES];
+    size_t i;
+    for (i = 1; i <= p->t->m; i++) {
+        const struct label *own = &l->label[i - 1];
+        if (!own->shown) continue;
+        label_text(text, sizeof text, p->t, i);
+        fprintf(to, "<rect class=\"ground\" x=\"%.1f\" y=\"%.1f\" width=\"%.1f\" height=\"%d\"/>", own->at.x - own->width / 2, own->at.y - LABEL_HEIGHT / 2.0, own->width,
+                LABEL_HEIGHT);
+        fprintf(to, "<text class=\"label %s-label\" x=\"%.1f\" y=\"%.1f\">%s</text>\n", STYLES[picture_look(p, i)].name, own->at.x, own->at.y + LABEL_FONT * 0.36, text);
+    }
+}
+
+static void head(FILE *to, const char *title, double width, double height, double dot) {
+    int k;
+    fprintf(to, "<svg xmlns=\"http://www.w3.org/2000/svg\" width=\"%.0f\" height=\"%.0f\" viewBox=\"0 0 %.0f %.0f\">\n<title>", width, height, width, height);
+    letters(to, title, strlen(title));
+    fprintf(to, "</title>\n<style>path{fill:none;stroke-linecap:round}");
+    for (k = 0; k < LOOKS; k++)
+        fprintf(to, ".%s{stroke:%s;stroke-width:%s}.%s-label{fill:%s}", STYLES[k].name, STYLES[k].colour, STYLES[k].width, STYLES[k].name,
+                k == OTHER ? "#555" : STYLES[k].colour);
+    fprintf(to, ".out{stroke-dasharray:9 8}circle{fill:#fff;stroke:#222;stroke-width:1.5}.ground{fill:#fff;fill-opacity:.9}"
+                "text{font-family:Arial,'Liberation Sans',sans-serif}.verdict{font-size:14px;font-weight:bold}.key{font-size:12px;fill:#444}"
+                ".name{font-size:%.0fpx;text-anchor:middle}.label{font-size:%dpx;text-anchor:middle}"
+                ".marked-label,.out-label,.in-label{font-weight:bold}</style>\n<rect width=\"100%%\" height=\"100%%\" fill=\"#fff\"/>\n",
+            dot * 0.95, LABEL_FONT);
+}
+
+void picture_svg(FILE *to, const struct picture *p) {
+    static struct layout l;
+    const char *words = p->words.text;
+    size_t left_out;
+    double y;
+    uint32_t v;
+    layout_sheet(&l, p->t);
+    left_out = place_labels(&l, p);
+    y = l.height + LINE;
+    head(to, words, l.width, verdict(NULL, words, l.width, y) + 2 * LINE, l.dot);
+    trenches(to, p, &l);
+    labels(to, p, &l);
+    for (v = 1; v <= p->t->n; v++) {
+        fprintf(to, "<circle cx=\"%.1f\" cy=\"%.1f\" r=\"%.0f\"/>", l.at[v].x, l.at[v].y, l.dot);
+        fprintf(to, "<text class=\"name\" x=\"%.1f\" y=\"%.1f\">%u</text>\n", l.at[v].x, l.at[v].y + l.dot * 0.33, (unsigned)v);
+    }
+    y = verdict(to, words, l.width, y);
+    key(to, p, y);
+    fprintf(to, "<text class=\"key\" x=\"12\" y=\"%.0f\">A label has the trench's number and its price.", y + LINE);
+    if (left_out > 0) fprintf(to, " %zu of %zu found no room: 'star table' lists every trench in order.", left_out, p->t->m);
+    fprintf(to, "</text>\n</svg>\n");
+}

@@ -1,0 +1,98 @@
+/* Lines, words and numbers of a text, and messages. */
+#include "text.h"
+
+#include <stdarg.h>
+#include <stdio.h>
+#include <string.h>
+
+enum { QUOTED = 40 };
+
+static int blank(char c) { return c == ' ' || c == '\t' || c == '\n' || c == '\r'; }
+
+int text_line(struct span *rest, struct span *line) {
+    size_t k = 0;
+    if (rest->len == 0) return 0;
+    while (k < rest->len && rest->at[k] != '\n' && rest->at[k] != '\r') k++;
+    line->at = rest->at;
+    line->len = k;
+    if (k + 1 < rest->len && rest->at[k] == '\r' && rest->at[k + 1] == '\n') k++;
+    if (k < rest->len) k++;
+    rest->at += k;
+    rest->len -= k;
+    return 1;
+}
+
+int text_word(struct span *rest, struct span *word) {
+    size_t k = 0, start;
+    while (k < rest->len && blank(rest->at[k])) k++;
+    start = k;
+    while (k < rest->len && !blank(rest->at[k])) k++;
+    word->at = rest->at + start;
+    word->len = k - start;
+    rest->at += k;
+    rest->len -= k;
+    return word->len > 0;
+}
+
+struct span text_nth(struct span line, int k) {
+    struct span word;
+    int i;
+    for (i = 0; i <= k; i++) text_word(&line, &word);
+    return word;
+}
+
+int text_is(struct span word, const char *name) {
+    size_t k;
+    if (word.len != strlen(name)) return 0;
+    for (k = 0; k < word.len; k++) {
+        char c = word.at[k];
+        if (c >= 'a' && c <= 'z') c = (char)(c - 'a' + 'A');
+        if (c != name[k]) return 0;
+    }
+    return 1;
+}
+
+int text_number(struct span word, uint32_t *value) {
+    uint64_t x = 0;
+    size_t k;
+    for (k = 0; k < word.len; k++) {
+        if (word.at[k] < '0' || word.at[k] > '9') return 0;
+        x = x * 10 + (uint64_t)(word.at[k] - '0');
+        if (x > UINT32_MAX) x = UINT32_MAX;
+    }
+    *value = (uint32_t)x;
+    return word.len > 0;
+}
+
+void say(struct message *to, const char *format, ...) {
+    va_list words;
+    int more;
+    va_start(words, format);
+    more = vsnprintf(to->text + to->len, sizeof to->text - to->len, format, words);
+    va_end(words);
+    if (more > 0) to->len += (size_t)more;
+    if (to->len >= sizeof to->text) to->len = sizeof to->text - 1;
+}
+
+void say_place(struct message *to, const char *file, size_t line) {
+    if (!file) return;
+    say(to, "%.200s:", file);
+    if (line > 0) say(to, "%zu:", line);
+    say(to, " ");
+}
+
+void say_word(struct message *to, struct span s) {
+    size_t k;
+    for (k = 0; k < s.len && k < QUOTED; k++)
+        if ((s.at[k] >= ' ' && s.at[k] < 127) || s.at[k] == '\t') say(to, "%c", s.at[k] == '\t' ? ' ' : s.at[k]);
+        else say(to, "\\x%02x", (unsigned)(unsigned char)s.at[k]);
+    if (k < s.len) say(to, "..");
+}
+
+void say_quoted(struct message *to, struct span s) {
+    say(to, "'");
+    say_word(to, s);
+    say(to, "'");
+}
+
+void say_count(struct message *to, size_t count, const char *one, const char *more) { say(to, "%zu %s", count, count == 1 ? one : more); }

@@ -1,0 +1,360 @@
+-- The sixteen bytes mean what they should: what is read back is the answer's own fields, and over an accepted table demand 3 says what they are worth.
+-- Assumes nothing.
+use Prim.Native.Nat.{ℕ, zero, suc, _+_, _*_, _/_, _%_, _^_, _≤_, _<_}
+use borrow.Author.Tests.{ltb-false, eqb-true, eq-eqb, ne-eqb}
+use lib.Dec.{eqb}
+use lib.ListN.{length}
+use mathlib.Core.Bool.{Bool, true, false, cond, _||_}
+use mathlib.Core.List.{List, [], _∷_, _++_}
+use mathlib.Core.Logic.{_↔_, ⊎-elim}
+use mathlib.Core.Option.{Option, none, some}
+use mathlib.Core.Path.{_≡_, refl, sym, ap, _∙_, subst}
+use native.Mathlib.Decide.{ℕ-discrete}
+use native.Mathlib.Nat.{suc-mul, mul-le-mul-right}
+use native.Mathlib.Omega.{arith}
+use Rattle.demand3.proofs.Demand3.{apart, refused-passed, refused-lighter, passed-lighter, built-accepted, built-lighter, demand3}
+use Rattle.demand3.specs.Bytes.{Written, CheckedMeans, BuiltMeans, TableDeclined, CstCall, Mst1Call, CstDoorMeans, Mst1DoorMeans}
+use Rattle.demand3.specs.Demand3.{ClaimTree, LeastClaim, WorthExchange, Fault, bad-byte, bad-count, cut-off, Holds}
+use Rattle.refusal.specs.declared.Refusal.{Refusal}
+use Rattle.rowset.proofs.Laws.{uppermost-some}
+use Rattle.rowset.specs.Bytes.{little}
+use Rattle.rowset.specs.Sets.{uppermost, sum}
+use Rattle.star.proofs.Accepted.{some-cons, some-cause, some-causeAt, none-nil, cause-none, none-head, accepted-means}
+use Rattle.star.specs.Accepted.{AcceptedTable}
+use Rattle.star.specs.Call.{Call, rowsOf, weightOf, claimWeight, withClaim}
+use Rattle.star.specs.Cst.{Answer, refused, passed, lighter, verdict, cst}
+use Rattle.star.specs.Door.{Fields, fields, bytesOf, fieldBytes, readBack, wellLent, doorReturns, answerAfter, cstDoor, mst1Door, mst1DoorMarks}
+use Rattle.star.specs.Mst1.{built, mst1, builtMarks, mst1Marks}
+use Rattle.star.specs.Refusals.{maxRows, cause, badVertices, tooManyRows, badLengths, badEnds, tooHeavy, badRow, tableCauses, cstCauses, mst1Causes, orElse, refusal, Accepted}
+
+-- fields that fit their bytes
+record Fits (f : Fields) : Type 0 where
+  kind : f .kind < 256
+  number : f .number < 256
+  out : f .out < 65536
+  into : f .into < 65536
+  amount : f .amount < 18446744073709551616
+
+one-byte : (x : ℕ) → x < 256 → x % 256 + 256 * 0 ≡ x
+one-byte x h = omega arith
+
+two-bytes : (x : ℕ) → x < 65536 → x % 256 + 256 * (x / 256 % 256 + 256 * 0) ≡ x
+two-bytes x h = omega arith
+
+eight : (x : ℕ) → x < 18446744073709551616 → x % 256 + 256 * (x / 256 % 256 + 256 * (x / 256 / 256 % 256 + 256 * (x / 256 / 256 / 256 % 256 + 256 * (x / 256 / 256 / 256 / 256 % 256 + 256 * (x / 256 / 256 / 256 / 256 / 256 % 256 + 256 * (x / 256 / 256 / 256 / 256 / 256 / 256 % 256 + 256 * (x / 256 / 256 / 256 / 256 / 256 / 256 / 256 % 256 + 256 * 0))))))) ≡ x
+eight x h = omega arith
+
+field-bytes : (f : Fields) → Fits f → Written (fieldBytes f) f
+unfolding fieldBytes bytesOf readBack little
+field-bytes f h =
+    record {
+      sixteen = refl;
+      unused = refl;
+      fields = rw (one-byte (f .kind) (h .kind), one-byte (f .number) (h .number), two-bytes (f .out) (h .out), two-bytes (f .into) (h .into), eight (f .amount) (h .amount));
+    }
+
+-- a sum of at most m terms, each at most b
+sum-bound : (m b : ℕ) (w : ℕ → ℕ) (p : ℕ → Bool) → ((i : ℕ) → 1 ≤ i → i ≤ m → w i ≤ b) → sum m w p ≤ m * b
+unfolding sum
+sum-bound zero b w p h = omega arith
+sum-bound (suc m) b w p h = term (p (suc m)) (sum-bound m b w p (λ i l u. h i l (omega arith)))
+  where
+    term : (q : Bool) → sum m w p ≤ m * b → sum m w p + cond q (w (suc m)) 0 ≤ suc m * b
+    term true e = omega (arith, h (suc m) (omega arith) (omega arith), suc-mul m b)
+    term false e = omega (arith, suc-mul m b)
+
+-- a refusal of the table has a number of 1 to 5, and its place is 0 or a row
+record TableRefusal (r : Refusal) : Type 0 where
+  number : (1 ≤ r .number) × (r .number ≤ 5)
+  place : r .place ≤ 1024
+
+module _ (c : Call) (r : Refusal) where
+  table-refusal : refusal (tableCauses c) ≡ some r → TableRefusal r
+  unfolding tableCauses badVertices tooManyRows badLengths badRow
+  table-refusal e =
+      ⊎-elim (plain 1 (omega arith, omega arith) _) (λ h.
+      ⊎-elim (plain 2 (omega arith, omega arith) _) (λ k.
+      ⊎-elim (plain 3 (omega arith, omega arith) _) (λ z.
+      ⊎-elim (row (k .0)) (λ y. absurd (apart r (sym (y .1) ∙ none-nil))) (some-cons _ _ r (z .1)))
+      (some-cons _ _ r (k .1))) (some-cons _ _ r (h .1))) (some-cons _ _ r e)
+    where
+      plain : (k : ℕ) → (1 ≤ k) × (k ≤ 5) → (b : Bool) → cause b k 0 ≡ some r → TableRefusal r
+      plain k l b e = subst TableRefusal (some-cause b k 0 r e .1) (record { number = l; place = omega arith })
+
+      either-number : (b : Bool) → (1 ≤ cond b 4 5) × (cond b 4 5 ≤ 5)
+      either-number true = (omega arith, omega arith)
+      either-number false = (omega arith, omega arith)
+
+      row : tooManyRows (rowsOf c) ≡ none → badRow c ≡ some r → TableRefusal r
+      row few e =
+          let (j, u, q) = some-causeAt _ _ r e in
+          let low = uppermost-some (rowsOf c) j (λ k. badEnds c k || tooHeavy c k) u .1 in
+          subst TableRefusal q (record { number = either-number (badEnds c (uppermost (rowsOf c) (λ k. badEnds c k || tooHeavy c k))); place = omega (arith, ltb-false maxRows (rowsOf c) (cause-none _ 2 0 few)) })
+
+  -- where the table is refused, so is the call
+  refused-first : (ys : List (Option Refusal)) (xs : List (Option Refusal)) → refusal xs ≡ some r → refusal (xs ++ ys) ≡ some r
+  unfolding refusal orElse
+  refused-first ys [] e = absurd (apart r (sym e))
+  refused-first ys (none ∷ xs) e = refused-first ys xs e
+  refused-first ys (some q ∷ xs) e = e
+
+-- a table is accepted, or refused
+data Standing (c : Call) : Type 0 where
+  accepted : Accepted c → Standing c
+  turned : (r : Refusal) → refusal (tableCauses c) ≡ some r → Standing c
+
+standing : (c : Call) → Standing c
+standing c = go (refusal (tableCauses c)) refl
+  where
+    go : (o : Option Refusal) → refusal (tableCauses c) ≡ o → Standing c
+    go none e = accepted e
+    go (some r) e = turned r e
+
+module _ (c : Call) (r : Refusal) (e : refusal (tableCauses c) ≡ some r) where
+  cst-turned : cst c ≡ refused r
+  unfolding cst verdict cstCauses
+  cst-turned = ap (verdict c) (refused-first c r _ (tableCauses c) e)
+
+  mst1-turned : mst1 c ≡ refused r
+  unfolding mst1 built mst1Causes
+  mst1-turned = ap (built c) (refused-first c r _ (tableCauses c) e)
+
+  marks-turned : mst1Marks c ≡ c .mark
+  unfolding mst1Marks builtMarks mst1Causes
+  marks-turned = ap (builtMarks c) (refused-first c r _ (tableCauses c) e)
+
+-- the fields of a refusal of the table
+table-fits : (r : Refusal) → TableRefusal r → Fits (fields (refused r))
+unfolding fields
+table-fits r t = record { kind = omega arith; number = omega (arith, t .number); out = omega (arith, t .place); into = omega arith; amount = omega arith }
+
+table-declined : (r : Refusal) → TableRefusal r → TableDeclined (fields (refused r))
+unfolding fields
+table-declined r t = record { kind = refl; number = t .number }
+
+module _ (c : Call) (a : Accepted c) where
+  in-words : AcceptedTable c
+  in-words = accepted-means c .0 a
+
+  -- every weight of a set of rows fits 64 bits
+  weight-fits : (p : ℕ → Bool) → sum (rowsOf c) (weightOf c) p < 18446744073709551616
+  weight-fits p = omega (arith, sum-bound (rowsOf c) 2147483647 (weightOf c) p (λ i l u. in-words .weights i (l, u)), mul-le-mul-right 2147483647 (in-words .rows))
+
+  fault-fits : (r : Refusal) → Fault c r → Fits (fields (refused r))
+  unfolding fields
+  fault-fits r (bad-byte i row bad above) = record { kind = omega arith; number = omega arith; out = omega (arith, in-words .rows); into = omega arith; amount = omega arith }
+  fault-fits r (bad-count clean wrong) = record { kind = omega arith; number = omega arith; out = omega arith; into = omega arith; amount = omega arith }
+  fault-fits r (cut-off clean right v vertex away others) = record { kind = omega arith; number = omega arith; out = omega (arith, in-words .vertices .1); into = omega arith; amount = omega arith }
+
+  passed-fits : (weight : ℕ) → weight < 18446744073709551616 → Fits (fields (passed weight))
+  unfolding fields
+  passed-fits weight h = record { kind = omega arith; number = omega arith; out = omega arith; into = omega arith; amount = h }
+
+  worth-fits : (out into saving : ℕ) → WorthExchange c out into saving → Fits (fields (lighter out into saving))
+  unfolding fields claimWeight
+  worth-fits out into saving w =
+      record {
+        kind = omega arith;
+        number = omega arith;
+        out = omega (arith, w .out-row, in-words .rows);
+        into = omega (arith, w .in-row, in-words .rows);
+        amount = omega (arith, w .weight, claim-fits);
+      }
+    where
+      claim-fits : claimWeight c < 18446744073709551616
+      claim-fits = weight-fits _
+
+  -- the fields of CST's answer fit
+  cst-fits : Fits (fields (cst c))
+  unfolding claimWeight
+  cst-fits = go (cst c) refl
+    where
+      h : Holds c
+      h = demand3 c a
+
+      go : (x : Answer) → cst c ≡ x → Fits (fields x)
+      go (refused r) e = fault-fits r (h .fault r e)
+      go (passed weight) e = passed-fits weight (rw (h .weight weight e) (weight-fits _))
+      go (lighter out into saving) e = worth-fits out into saving (h .exchange out into saving e)
+
+  -- and those of MST1's
+  mst1-fits : Fits (fields (mst1 c))
+  unfolding mst1 built fields
+  mst1-fits = go (refusal (mst1Causes c)) refl
+    where
+      eleven-fits : Fits (fields (refused (record { number = 11; place = 0 })))
+      eleven-fits = record { kind = omega arith; number = omega arith; out = omega arith; into = omega arith; amount = omega arith }
+
+      go : (o : Option Refusal) → refusal (mst1Causes c) ≡ o → Fits (fields (built c o))
+      go none e = passed-fits _ (weight-fits _)
+      go (some r) e = subst (λ q. Fits (fields (refused q))) (sym (demand3 c a .refuses-only r (ap (built c) e))) eleven-fits
+
+  -- what CST's fields mean
+  checked-means : CheckedMeans c (fields (cst c))
+  unfolding fields
+  checked-means = go (cst c) refl
+    where
+      h : Holds c
+      h = demand3 c a
+
+      go : (x : Answer) → cst c ≡ x → CheckedMeans c (fields x)
+      go (refused r) e =
+          record {
+            passed = (λ k. absurd (omega arith), λ l. absurd (no (l .tree)));
+            weight = λ k. absurd (omega arith);
+            lighter = (λ k. absurd (omega arith), λ t. absurd (no (t .0)));
+            exchange = λ k. absurd (omega arith);
+            declined = (λ k. no, λ n. refl);
+            fault = λ k. h .fault r e;
+          }
+        where
+          no : ClaimTree c → ⊥
+          no = h .declines .0 (r, e)
+      go (passed weight) e =
+          record {
+            passed = (λ k. least, λ l. refl);
+            weight = λ k. h .weight weight e;
+            lighter = (λ k. absurd (omega arith), λ t. absurd (t .1 least));
+            exchange = λ k. absurd (omega arith);
+            declined = (λ k. absurd (omega arith), λ n. absurd (n (least .tree)));
+            fault = λ k. absurd (omega arith);
+          }
+        where
+          least : LeastClaim c
+          least = h .passes .0 (weight, e)
+      go (lighter out into saving) e =
+          record {
+            passed = (λ k. absurd (omega arith), λ l. absurd (not-least l));
+            weight = λ k. absurd (omega arith);
+            lighter = (λ k. (worth .claim-tree, not-least), λ t. refl);
+            exchange = λ k. worth;
+            declined = (λ k. absurd (omega arith), λ n. absurd (n (worth .claim-tree)));
+            fault = λ k. absurd (omega arith);
+          }
+        where
+          worth : WorthExchange c out into saving
+          worth = h .exchange out into saving e
+
+          not-least : LeastClaim c → ⊥
+          not-least l = let (w, k) = h .passes .1 l in passed-lighter k e
+
+  -- what MST1's fields and the marks afterwards mean
+  built-means : BuiltMeans c (fields (mst1 c)) (mst1Marks c)
+  unfolding fields
+  built-means = go (mst1 c) refl
+    where
+      h : Holds c
+      h = demand3 c a
+
+      go : (x : Answer) → mst1 c ≡ x → BuiltMeans c (fields x) (mst1Marks c)
+      go (refused r) e =
+          record {
+            built = (λ k. absurd (omega arith), λ t. absurd (none-tree (t .0) (t .1)));
+            least = λ k. absurd (omega arith);
+            weight = λ k. absurd (omega arith);
+            declined = (λ k. none-tree, λ n. refl);
+            number = λ k. (ap (λ q. q .number) eleven, ap (λ q. q .place) eleven);
+            kept = λ k. h .kept r e;
+          }
+        where
+          eleven : r ≡ record { number = 11; place = 0 }
+          eleven = h .refuses-only r e
+
+          none-tree : (other : List ℕ) → ClaimTree (withClaim c other) → ⊥
+          none-tree = h .refuses .0 (e ∙ ap refused eleven)
+      go (passed weight) e =
+          record {
+            built = (λ k. (mst1Marks c, least .tree), λ t. refl);
+            least = λ k. least;
+            weight = λ k. after .weight weight passes;
+            declined = (λ k. absurd (omega arith), λ n. absurd (n (mst1Marks c) (least .tree)));
+            number = λ k. absurd (omega arith);
+            kept = λ k. absurd (omega arith);
+          }
+        where
+          after : Holds (withClaim c (mst1Marks c))
+          after = demand3 (withClaim c (mst1Marks c)) (built-accepted c a weight e)
+
+          passes : cst (withClaim c (mst1Marks c)) ≡ passed weight
+          passes = h .builds weight e
+
+          least : LeastClaim (withClaim c (mst1Marks c))
+          least = after .passes .0 (weight, passes)
+      go (lighter out into saving) e = absurd (built-lighter c out into saving e)
+
+-- a lent answer has sixteen bytes, or another length
+well-lent : (answer : List ℕ) → length answer ≡ 16 → wellLent answer ≡ true
+unfolding wellLent
+well-lent answer e = eq-eqb _ _ e
+
+ill-lent : (answer : List ℕ) → (length answer ≡ 16 → ⊥) → wellLent answer ≡ false
+unfolding wellLent
+ill-lent answer n = ne-eqb _ _ n
+
+module _ (answer : List ℕ) where
+  returns-one : length answer ≡ 16 → doorReturns answer ≡ 1
+  unfolding doorReturns
+  returns-one e = ap (λ b. cond b 1 0) (well-lent answer e)
+
+  returns-zero : (length answer ≡ 16 → ⊥) → doorReturns answer ≡ 0
+  unfolding doorReturns
+  returns-zero n = ap (λ b. cond b 1 0) (ill-lent answer n)
+
+  after-written : (f : Fields) → length answer ≡ 16 → answerAfter answer f ≡ fieldBytes f
+  unfolding answerAfter
+  after-written f e = ap (λ b. cond b (fieldBytes f) answer) (well-lent answer e)
+
+  after-kept : (f : Fields) → (length answer ≡ 16 → ⊥) → answerAfter answer f ≡ answer
+  unfolding answerAfter
+  after-kept f n = ap (λ b. cond b (fieldBytes f) answer) (ill-lent answer n)
+
+  -- what was written is read back
+  read-back : (f : Fields) → Fits f → length answer ≡ 16 → Written (answerAfter answer f) f
+  read-back f h e = rw (after-written f e) (field-bytes f h)
+
+-- the fields fit, whatever the table
+cst-fits-all : (c : Call) → Fits (fields (cst c))
+cst-fits-all c =
+    elim (standing c) [
+      | accepted a ↦ cst-fits c a
+      | turned r e ↦ rw (cst-turned c r e) (table-fits r (table-refusal c r e))
+    ]
+
+mst1-fits-all : (c : Call) → Fits (fields (mst1 c))
+mst1-fits-all c =
+    elim (standing c) [
+      | accepted a ↦ mst1-fits c a
+      | turned r e ↦ rw (mst1-turned c r e) (table-fits r (table-refusal c r e))
+    ]
+
+-- a table that is not accepted in words is refused
+turned-away : (c : Call) → (AcceptedTable c → ⊥) → (r : Refusal) × (refusal (tableCauses c) ≡ some r)
+turned-away c n = elim (standing c) [ accepted a ↦ absurd (n (accepted-means c .0 a)) | turned r e ↦ (r, e) ]
+
+pub cst-door-means : CstDoorMeans
+unfolding cstDoor
+cst-door-means c answer =
+    record {
+      declined = λ n. (returns-zero answer n, after-kept answer (fields (cst c)) n);
+      returns = returns-one answer;
+      written = back;
+      means = λ e t. rw (back e .fields) (checked-means c (accepted-means c .1 t));
+      refused = λ e n. let (r, k) = turned-away c n in rw (back e .fields, cst-turned c r k) (table-declined r (table-refusal c r k));
+    }
+  where
+    back : length answer ≡ 16 → Written (answerAfter answer (fields (cst c))) (fields (cst c))
+    back = read-back answer (fields (cst c)) (cst-fits-all c)
+
+pub mst1-door-means : Mst1DoorMeans
+unfolding mst1Door mst1DoorMarks
+mst1-door-means c answer =
+    record {
+      declined = λ n. (returns-zero answer n, after-kept answer (fields (mst1 c)) n, ap (λ b. cond b (mst1Marks c) (c .mark)) (ill-lent answer n));
+      returns = returns-one answer;
+      written = back;
+      means = λ e t. rw (back e .fields, well-lent answer e) (built-means c (accepted-means c .1 t));
+      refused = λ e n. let (r, k) = turned-away c n in (rw (back e .fields, mst1-turned c r k) (table-declined r (table-refusal c r k)), rw (well-lent answer e) (marks-turned c r k));
+    }
+  where
+    back : length answer ≡ 16 → Written (answerAfter answer (fields (mst1 c))) (fields (mst1 c))
+    back = read-back answer (fields (mst1 c)) (mst1-fits-all c)

@@ -1,0 +1,110 @@
+-- Trials of the answers: which row comes in and which goes out, weights of four bytes, rows in later words of the path matrix, and the bytes of the door.
+-- Assumes nothing.
+use Prim.Native.Nat.{ℕ, _*_, _-_}
+use mathlib.Core.List.{List, [], _∷_, _++_}
+use mathlib.Core.Option.{none}
+use mathlib.Core.Path.{_≡_}
+use lib.ListN.{replicate}
+use Rattle.rowset.specs.Words.{matrixWords}
+use Rattle.star.specs.Call.{Call, callOf, withClaim, exchanged}
+use Rattle.star.specs.Cst.{passed, lighter}
+use Rattle.star.specs.Door.{Fields, fieldBytes, readBack, doorReturns, cstDoor, mst1Door, mst1DoorMarks}
+use Rattle.star.specs.MatrixPath.{pathColumn}
+use Rattle.star.specs.Trials.{Result, checked, built, filled, checks, builds, fills, small, yard}
+
+-- weights that use all four bytes: 1-2 of weight 16,909,060, 2-3 of 2,147,483,647 and 1-3 of 2,147,483,646
+abbrev pub dear : List ℕ → Call
+dear claim =
+    callOf 3 (1 ∷ 2 ∷ 1 ∷ []) (2 ∷ 3 ∷ 3 ∷ []) (4 ∷ 3 ∷ 2 ∷ 1 ∷ 255 ∷ 255 ∷ 255 ∷ 127 ∷ 254 ∷ 255 ∷ 255 ∷ 127 ∷ []) claim
+
+-- rows 1 to k between 1 and 2 of weight 1 each, and after them a row between 2 and 3 of weight 1; marked are the last two rows
+abbrev pub long : ℕ → Call
+long k =
+    callOf 3 (replicate k 1 ++ (2 ∷ [])) (replicate k 2 ++ (3 ∷ [])) (replicate (4 * k) 0 ++ small 1) (replicate (k - 1) 0 ++ (1 ∷ 1 ∷ []))
+
+-- what the definitions give
+abbrev pub given : List Result
+given =
+    checks (yard (1 ∷ 0 ∷ 1 ∷ 0 ∷ 1 ∷ []))  -- rows 2 and 4 both improve: the uppermost comes in; rows 1 and 5 are both heavier: the uppermost goes out
+    ∷ checks (yard (0 ∷ 1 ∷ 1 ∷ 0 ∷ 1 ∷ []))  -- row 1 improves by row 5 alone
+    ∷ checks (dear (1 ∷ 1 ∷ 0 ∷ []))
+    ∷ checks (dear (1 ∷ 0 ∷ 1 ∷ []))
+    ∷ builds (dear (0 ∷ 0 ∷ 0 ∷ []))
+    ∷ fills (long 64) 1 (replicate 48 5)  -- rows 64 and 65
+    ∷ []
+
+-- what they should give
+abbrev pub expected : List Result
+expected =
+    checked (lighter 1 2 2)
+    ∷ checked (lighter 5 1 1)
+    ∷ checked (lighter 2 3 1)
+    ∷ checked (passed 2164392706)
+    ∷ built (passed 2164392706) (1 ∷ 0 ∷ 1 ∷ [])
+    ∷ filled none (replicate 16 0 ++ ((9223372036854775808 ∷ replicate 15 0) ++ (9223372036854775808 ∷ 1 ∷ replicate 14 0)))
+    ∷ []
+
+-- an answer of nines, of the length given
+abbrev nines : ℕ → List ℕ
+nines k = replicate k 9
+
+-- the bytes of each kind; an answer of fifteen or seventeen bytes, with what is returned and the marks; the exchange of a claim
+abbrev pub givenBytes : List (List ℕ)
+givenBytes =
+    cstDoor (yard (1 ∷ 1 ∷ 0 ∷ 0 ∷ 1 ∷ [])) (nines 16)
+    ∷ cstDoor (yard (0 ∷ 1 ∷ 1 ∷ 1 ∷ 0 ∷ [])) (nines 16)
+    ∷ cstDoor (yard (1 ∷ 1 ∷ 1 ∷ 0 ∷ 0 ∷ [])) (nines 16)
+    ∷ mst1Door (yard (0 ∷ 0 ∷ 0 ∷ 0 ∷ 0 ∷ [])) (nines 16)
+    ∷ mst1DoorMarks (yard (0 ∷ 0 ∷ 0 ∷ 0 ∷ 0 ∷ [])) (nines 16)
+    ∷ mst1Door (callOf 2 [] [] [] []) (nines 16)
+    ∷ cstDoor (dear (1 ∷ 0 ∷ 1 ∷ [])) (nines 16)
+    ∷ fieldBytes (record { kind = 2; number = 3; out = 258; into = 1023; amount = 578437695752307201 })
+    ∷ cstDoor (yard (0 ∷ 1 ∷ 1 ∷ 1 ∷ 0 ∷ [])) (nines 15)
+    ∷ cstDoor (yard (0 ∷ 1 ∷ 1 ∷ 1 ∷ 0 ∷ [])) (nines 17)
+    ∷ mst1Door (yard (6 ∷ 0 ∷ 0 ∷ 0 ∷ 0 ∷ [])) (nines 15)
+    ∷ mst1DoorMarks (yard (6 ∷ 0 ∷ 0 ∷ 0 ∷ 0 ∷ [])) (nines 15)
+    ∷ mst1Door (yard (6 ∷ 0 ∷ 0 ∷ 0 ∷ 0 ∷ [])) (nines 17)
+    ∷ mst1DoorMarks (yard (6 ∷ 0 ∷ 0 ∷ 0 ∷ 0 ∷ [])) (nines 17)
+    ∷ (doorReturns (nines 15) ∷ doorReturns (nines 16) ∷ doorReturns (nines 17) ∷ [])
+    ∷ exchanged (1 ∷ 1 ∷ 1 ∷ 0 ∷ 0 ∷ []) 1 4
+    ∷ []
+
+abbrev pub expectedBytes : List (List ℕ)
+expectedBytes =
+    (0 ∷ 10 ∷ 4 ∷ 0 ∷ 0 ∷ 0 ∷ 0 ∷ 0 ∷ 0 ∷ 0 ∷ 0 ∷ 0 ∷ 0 ∷ 0 ∷ 0 ∷ 0 ∷ [])
+    ∷ (1 ∷ 0 ∷ 0 ∷ 0 ∷ 0 ∷ 0 ∷ 0 ∷ 0 ∷ 12 ∷ 0 ∷ 0 ∷ 0 ∷ 0 ∷ 0 ∷ 0 ∷ 0 ∷ [])
+    ∷ (2 ∷ 0 ∷ 1 ∷ 0 ∷ 4 ∷ 0 ∷ 0 ∷ 0 ∷ 1 ∷ 0 ∷ 0 ∷ 0 ∷ 0 ∷ 0 ∷ 0 ∷ 0 ∷ [])
+    ∷ (1 ∷ 0 ∷ 0 ∷ 0 ∷ 0 ∷ 0 ∷ 0 ∷ 0 ∷ 12 ∷ 0 ∷ 0 ∷ 0 ∷ 0 ∷ 0 ∷ 0 ∷ 0 ∷ [])
+    ∷ (1 ∷ 1 ∷ 0 ∷ 1 ∷ 0 ∷ [])
+    ∷ (0 ∷ 11 ∷ 0 ∷ 0 ∷ 0 ∷ 0 ∷ 0 ∷ 0 ∷ 0 ∷ 0 ∷ 0 ∷ 0 ∷ 0 ∷ 0 ∷ 0 ∷ 0 ∷ [])
+    ∷ (1 ∷ 0 ∷ 0 ∷ 0 ∷ 0 ∷ 0 ∷ 0 ∷ 0 ∷ 2 ∷ 3 ∷ 2 ∷ 129 ∷ 0 ∷ 0 ∷ 0 ∷ 0 ∷ [])
+    ∷ (2 ∷ 3 ∷ 2 ∷ 1 ∷ 255 ∷ 3 ∷ 0 ∷ 0 ∷ 1 ∷ 2 ∷ 3 ∷ 4 ∷ 5 ∷ 6 ∷ 7 ∷ 8 ∷ [])
+    ∷ nines 15
+    ∷ nines 17
+    ∷ nines 15
+    ∷ (6 ∷ 0 ∷ 0 ∷ 0 ∷ 0 ∷ [])
+    ∷ nines 17
+    ∷ (6 ∷ 0 ∷ 0 ∷ 0 ∷ 0 ∷ [])
+    ∷ (0 ∷ 1 ∷ 0 ∷ [])
+    ∷ (0 ∷ 1 ∷ 1 ∷ 1 ∷ 0 ∷ [])
+    ∷ []
+
+-- the same table with another claim
+abbrev pub OtherClaim : Type 0
+OtherClaim = withClaim (yard []) (1 ∷ []) ≡ yard (1 ∷ [])
+
+-- bytes read back: the kind, the number, two bytes each for out and in, and eight for the amount
+abbrev pub ReadBack : Type 0
+ReadBack =
+    readBack (2 ∷ 3 ∷ 2 ∷ 1 ∷ 255 ∷ 3 ∷ 9 ∷ 9 ∷ 1 ∷ 2 ∷ 3 ∷ 4 ∷ 5 ∷ 6 ∷ 7 ∷ 8 ∷ 9 ∷ [])
+    ≡ record { kind = 2; number = 3; out = 258; into = 1023; amount = 578437695752307201 }
+
+-- row 961 alone is marked: the columns of vertices 1 and 2
+abbrev pub LastWord : Type 0
+LastWord =
+    matrixWords (pathColumn (callOf 2 (replicate 961 1) (replicate 961 2) [] (replicate 960 0 ++ (1 ∷ []))) 1) 2
+    ≡ replicate 31 0 ++ (1 ∷ [])
+
+-- the theorem: each trial gives what it should
+abbrev pub AnswerTrialsHold : Type 0
+AnswerTrialsHold = (given ≡ expected) × (givenBytes ≡ expectedBytes) × OtherClaim × ReadBack × LastWord

@@ -1,0 +1,219 @@
+#!/usr/bin/env bash
+# Tests of the console: what it writes and how it ends, on good, odd and bad input.
+# usage: console.sh STAR..   the program, with words before it if it is to be run by another. Ends in one line 'N passed, M failed'.
+set -u
+cd "$(dirname "$0")/.."
+star=("$@") passed=0 failed=0 work=$(mktemp -d)
+trap 'rm -rf "$work"' EXIT
+yard=console/examples/yard.txt dear=console/examples/yard-dear.txt street=console/examples/street.stp
+
+verdict() { # NAME STATUS: counts a test whose last command ended with STATUS
+    if [ "$2" = 0 ]; then passed=$((passed + 1)); else
+        echo "console $1 failed:"
+        sed -n 1,5p "$work/all" 2>/dev/null
+        failed=$((failed + 1))
+    fi
+}
+
+# Runs the console on a text, given as printf takes it, and holds its status and what it writes, on both streams, to what is expected.
+try() { # NAME STATUS PATTERN TEXT ARGUMENTS..
+    local name=$1 expected=$2 pattern=$3 text=$4 status
+    shift 4
+    printf "$text" | "${star[@]}" "$@" >"$work/out" 2>"$work/err"
+    status=$?
+    { cat "$work/out" "$work/err"; echo "exit $status"; } >"$work/all"
+    [ "$status" = "$expected" ] && grep -Eq -- "$pattern" "$work/all"
+    verdict "$name" $?
+}
+
+# Each stored case is a file COMMAND-NAME.txt with its input; .out has what it writes, standard error after standard output, and its status.
+for input in tests/console/*.txt; do
+    case=$(basename "$input" .txt)
+    "${star[@]}" "${case%%-*}" <"$input" >"$work/out" 2>"$work/err"
+    status=$?
+    { cat "$work/out" "$work/err"; echo "exit $status"; } >"$work/all"
+    diff "$work/all" "tests/console/$case.out"
+    verdict "$case" $?
+done
+
+# The examples.
+try yard 0 'Total 12' '' check $yard
+try dear 1 'for 1 less' '' check $dear
+try stem 0 'Total 11' '' check console/examples/stem.txt
+try t1 0 'Total 20' '' check console/examples/t1.txt
+try t2 1 'for 2 less' '' check console/examples/t2.txt
+try city 0 'Total 130316' '' check console/examples/city.txt
+try build 0 'Total 130316' '' build console/examples/city.txt
+try street 0 'Total 249' '' build $street
+try street-unmarked 3 'star table' '' check $street
+"${star[@]}" table $street >"$work/street.txt"
+try street-table 0 'Total 249' '' build "$work/street.txt"
+{ cat $street; head -c 65536 /dev/zero | tr '\0' ' '; } >"$work/long.stp"
+try long 2 'Refused \(12\): .*long.stp: .*at most 65536' '' build "$work/long.stp"
+
+# Output that cannot be written is told, with a status of its own.
+for words in "check $yard" "build $yard" "build --table $yard" "draw $yard" "dot $yard" "table $yard" "--help" "check --help" "--version"; do
+    "${star[@]}" $words >/dev/full 2>"$work/all"
+    [ $? = 5 ] && grep -q 'standard output: it could not be written: No space left' "$work/all"
+    verdict "full: $words" $?
+    "${star[@]}" $words >&- 2>"$work/all"
+    [ $? = 5 ] && grep -q 'standard output: it could not be written' "$work/all"
+    verdict "closed: $words" $?
+done
+try full-file 5 '/dev/full: it could not be written' '' draw -o /dev/full $yard
+try no-folder 5 'nowhere/x.svg: it could not be written: No such file' '' draw -o "$work/nowhere/x.svg" $yard
+"${star[@]}" check >"$work/all" 2>&1 <&-
+[ $? = 3 ]
+verdict closed-input $?
+printf '1 2 5 1\n2 3 5 1\n1 3 5 1\n4 1 5 0\n' >"$work/ring.txt"
+"${star[@]}" draw -o "$work/mixed.svg" "$work/ring.txt" 2>&-
+[ $? = 2 ] && ! grep -q '^Refused' "$work/mixed.svg"
+verdict closed-messages $?
+
+# draw and dot tell refusals. A table that is refused gives no picture; a plan that is refused is drawn, with the refusal in the picture.
+rows() { for ((i = 0; i < $1; i++)); do printf '1 2 3 0\\n'; done; }
+for picture in draw dot; do
+    try "$picture-256" 2 'Refused \(1\)' 'junctions 256\n1 2 5 1\n' $picture
+    try "$picture-empty" 2 'Refused \(1\)' '' $picture
+    try "$picture-rows" 2 'Refused \(2\).*1025' "$(rows 1025)" $picture
+    try "$picture-mark" 2 'Refused \(6\)' '1 2 5 7\n' $picture
+    [ ! -s "$work/out" ]
+    verdict "$picture-no-picture" $?
+    try "$picture-ring" 2 '^Refused \(10\)' '' $picture "$work/ring.txt"
+    grep -q 'Refused (10): the marked trenches do not reach junction 4' "$work/out"
+    verdict "$picture-ring-words" $?
+    try "$picture-passed" 0 'Passed. Total 12' '' $picture $yard
+    try "$picture-lighter" 0 'A cheaper set exists, for 1 less: take out trench 1 ' '' $picture $dear
+    try "$picture-unmarked" 0 'No trench is marked' '' $picture $street
+done
+
+# Large and endless input is told quickly and in little room.
+yes '1 2 3 0' | head -n 2000001 >"$work/rows.txt"
+for words in check draw table; do
+    (ulimit -S -v 200000 && timeout 20 "${star[@]}" $words "$work/rows.txt") >"$work/all" 2>&1
+    [ $? = 2 ] && grep -q 'Refused (2): .*2000001 trenches' "$work/all"
+    verdict "many rows: $words" $?
+done
+(ulimit -S -v 200000 && timeout 20 "${star[@]}" check /dev/zero) >"$work/all" 2>&1
+[ $? = 3 ] && grep -q 'more than 16777216 bytes' "$work/all"
+verdict endless $?
+
+# Messages. Numbers of any length are numbers, and the door refuses them; lines are those of the file, comments counted.
+top='# a comment\n\n'
+try junction-large 2 'Refused \(1\): standard input:3: the largest junction is 4294967296;.* 255' "${top}4294967296 2 5 1\n" check
+try junction-large-told 2 'Refused \(4\): standard input:2: trench 1 ends at junction 4294967296;.* 1 to 4\.' 'junctions 4\n4294967296 2 5 1\n' check
+try price-large 2 'Refused \(5\): .*:1: trench 1 has the price 4294967296; .* 0 to 2147483647' '1 2 4294967296 1\n' check
+try price-larger 2 'Refused \(5\): .*the price 99999999999999999999999; ' '1 2 99999999999999999999999 1\n' check
+try mark-2 2 'Refused \(6\): standard input:4: trench 2 has the mark 2;' "${top}1 2 5 1\n2 3 4 2\n" check
+try mark-256 2 'Refused \(6\): standard input:4: trench 2 has the mark 256;' "${top}1 2 5 1\n2 3 4 256\n" check
+try end-above 2 'Refused \(4\): standard input:4: trench 1 ends at junction 9; .* 1 to 3' "${top}junctions 3\n1 9 5 1\n" check
+try end-left 2 'trench 1 ends at junction 0;' '0 2 5 1\n' check
+try end-equal 2 'Refused \(4\): standard input:4: trench 2 joins junction 2 to itself' "${top}1 2 5 1\n2 2 3 1\n" check
+try digits 2 'the largest junction is 9{40}\.\.; from 1 to 255' "$(printf '9%.0s' {1..700}) 2 5 1\n" check
+try one-mark 2 ': 1 trench is marked; a network of 4 junctions has exactly 3' '1 2 5 1\n2 3 3 0\n3 4 1 0\n' check
+try edges 2 'Refused \(13\): standard input:4: the line Edges says 3, and 2 E lines stand' '33D32945\nSECTION Graph\nNodes 3\nEdges 3\nE 1 2 5\nE 2 3 5\nEND\nEOF\n' build
+try edges-one 2 'says 3, and 1 E line stands' '33D32945\nSECTION Other\nSECTION Graph\nEdges 7\nE 1 2 3\nEND\nSECTION Graph\nNodes 3\nEdges 3\nE 1 2 5\nEND\nEOF\n' build
+try stp-end 2 'Refused \(4\): standard input:6: trench 2 joins junction 3 to itself' '33D32945\nSECTION Graph\nNodes 3\nEdges 2\nE 1 2 5\nE 3 3 5\nEND\nEOF\n' build
+try stp-name 2 'Refused \(12\): tests/console/build-stp-word.txt:5: ' '' build tests/console/build-stp-word.txt
+try four-columns 3 "standard input:4: '1 2' is not a trench" "${top}1 2 5 1\n1 2\n" check
+try five-columns 3 "'1 2 5 1 7' is not a trench" '1 2 5 1 7\n' check
+try word-junction 3 "standard input:1: 'x1' is not a junction, a number" 'x1 2 5 1\n' check
+try word-price 3 "'4.50' is not a price, a whole number from 0 to 2147483647" '1 2 4.50 1\n' check
+try word-mark 3 "'yes' is not a mark" '1 2 5 yes\n' check
+try csv 3 'not by commas or semicolons' 'left,right,price,mark\n1,2,5,1\n' check
+try semicolons 3 'not by commas or semicolons' '1;2;5;1\n' check
+try decimal-comma 3 "'4,50' is not a price.*not by commas" '1 2 4,50 1\n' check
+try byte-order-mark 0 'Total 5' '\xef\xbb\xbf1 2 5 1\n' check
+try byte-order-mark-stp 0 'Total 5' '\xef\xbb\xbf33D32945\nSECTION Graph\nNodes 2\nEdges 1\nE 1 2 5\nEND\nEOF\n' build
+try utf-16 3 'UTF-16 text; save it as UTF-8' '\xff\xfe1\x002\x00' check
+try cr-alone 0 'Total 8' '1 2 5 1\r2 3 3 1\r' check
+try cr-lf 3 'standard input:3: ' '1 2 5 1\r\n2 3 3 1\r\nx\r\n' check
+try cr-lines 3 'standard input:3: ' '1 2 5 1\r2 3 3 1\rx\r' check
+
+# Refusal 11 names the smallest junction that cannot be reached; in large tables too, and where prices are the largest.
+try apart 2 'Refused \(11\): standard input: .*: junction 3 cannot be reached from junction 1' '1 2 2147483647\n3 4 2147483647\n5 4 1\njunctions 6\n' build
+try apart-first 2 'junction 2 cannot be reached' '1 3 5\n3 4 5\n2 5 1\n' build
+python3 -B - "$work" <<'PYTHON'
+import random, sys
+random.seed(7)
+for number in range(12):
+    n = random.choice((40, 255))
+    parts = [random.randrange(2 + number % 3) for v in range(n)]
+    pairs = [(u, v) for u in range(n) for v in range(u) if parts[u] == parts[v]]
+    pairs = random.sample(pairs, min(len(pairs), random.choice((60, 1024))))
+    near = {v: set() for v in range(n)}
+    for u, v in pairs:
+        near[u].add(v)
+        near[v].add(u)
+    seen, rest = {0}, [0]
+    while rest:
+        for v in near[rest.pop()] - seen:
+            seen.add(v)
+            rest.append(v)
+    with open("%s/apart%d.txt" % (sys.argv[1], number), "w") as out:
+        out.write("junctions %d\n" % n + "".join("%d %d %d\n" % (u + 1, v + 1, random.choice((1, 9, 2147483647))) for u, v in pairs))
+    with open("%s/apart%d.least" % (sys.argv[1], number), "w") as out:
+        out.write(str(min(set(range(n)) - seen, default=-1) + 1))
+PYTHON
+for ((number = 0; number < 12; number++)); do
+    try "apart-$number" 2 "junction $(cat "$work/apart$number.least") cannot be reached" '' build "$work/apart$number.txt"
+done
+
+# Habits.
+try dash 0 'Total 5' '1 2 5 1\n' check -
+try help 0 '^usage: star check' '' --help
+try help-short 0 '^usage: star check' '' -h
+try help-after 0 '^usage: star check' '' build --help
+try help-after-short 0 '^usage: star check' '' draw -h $yard
+try version 0 '^star [0-9]+\.[0-9]+\.[0-9]+$' '' --version
+try usage-none 4 '^usage: star check' ''
+try usage-command 4 "unknown command 'mend'" '' mend
+try usage-option 4 "unknown option '--tabel'" '' build --tabel $yard
+try usage-table 4 "unknown option '--table'" '' check --table $yard
+try usage-files 4 "one file is read, and there is also '$dear'" '' check $yard $dear
+try usage-output 4 "no file follows '-o'" '' check $yard -o
+try missing 3 'nowhere.txt: No such file' '' check nowhere.txt
+try folder 3 'console: Is a directory' '' check console
+printf '1 2 5 1\n' >"$work/-o"
+(cd "$work" && "${star[@]}" check -- -o) >"$work/all" 2>&1
+verdict option-end $?
+try output 0 '^exit 0' '' check $yard -o "$work/verdict.txt"
+grep -q 'Total 12' "$work/verdict.txt" && [ "$(wc -l <"$work/all")" = 1 ]
+verdict output-file $?
+try output-dash 0 'Total 12' '' check -o - $yard
+try output-joined 0 '^exit 0' '' draw "-o$work/joined.svg" $yard
+[ -s "$work/joined.svg" ]
+verdict output-joined-file $?
+cp $yard "$work/same.txt"
+try output-same 0 '^exit 0' '' build --table -o "$work/same.txt" "$work/same.txt"
+try output-same-checked 0 'Total 12' '' check "$work/same.txt"
+try output-refused 2 'Refused \(2\)' "$(rows 1025)" table -o "$work/same.txt"
+try output-left 0 'Total 12' '' check "$work/same.txt"
+for file in $yard $dear $street console/examples/city.txt; do
+    "${star[@]}" build --table $file | "${star[@]}" check - >"$work/all" 2>&1
+    verdict "build --table $file" $?
+done
+try table-refused 2 '^Refused \(11\)' '1 2 5\n3 4 1\n' build --table
+[ ! -s "$work/out" ]
+verdict table-refused-empty $?
+"${star[@]}" table $dear >"$work/dear.txt"
+try table-plain 1 'for 1 less' '' check "$work/dear.txt"
+try table-mark 2 'Refused \(6\)' '1 2 5 3\n' table
+try table-plan 0 '^1 2 5 0$' '1 2 5\n2 3 4\n' table
+
+# dot has the colours of draw, and Graphviz takes it, where it is installed.
+"${star[@]}" dot $dear >"$work/all"
+"${star[@]}" draw $dear >"$work/draw.svg"
+for colour in c62828 1565c0 222222 9e9e9e; do
+    grep -q "$colour" "$work/all" && grep -q "$colour" "$work/draw.svg"
+    verdict "colour $colour" $?
+done
+grep -q '  1 -- 4 \[label="4: 4", color="#1565c0", fontcolor="#1565c0", penwidth=5\];' "$work/all"
+verdict dot-line $?
+if command -v neato >/dev/null; then
+    neato -Tsvg "$work/all" >"$work/neato.svg"
+    verdict neato $?
+fi
+
+echo "$passed passed, $failed failed"
+[ "$failed" = 0 ]

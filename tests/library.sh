@@ -1,0 +1,116 @@
+#!/usr/bin/env bash
+# Tests of what C programmers get: what make installs, the pkg-config file, the manual page, the example program, the texts; and what make
+# prints while the core is proved. Needs all to be built.
+# usage: library.sh   Ends in one line 'N passed, M failed'.
+set -u
+cd "$(dirname "$0")/.."
+passed=0 failed=0 work=$(mktemp -d)
+trap 'rm -rf "$work"' EXIT
+unset MAKEFLAGS MAKELEVEL MFLAGS DESTDIR PREFIX
+compiler=${CC:-cc} plus=${CXX:-c++}
+
+holds() { # NAME COMMAND..: counts a command that has to succeed
+    local name=$1
+    shift
+    if "$@" >"$work/said" 2>&1; then passed=$((passed + 1)); else
+        echo "library $name failed:"
+        tail -n 5 "$work/said"
+        failed=$((failed + 1))
+    fi
+}
+fails() { ! "$@"; }
+
+# make install takes what is built: no rt is asked, whatever it would say.
+mkdir "$work/no-rt"
+printf '#!/bin/sh\necho asked >"%s/asked"\nexit 1\n' "$work" >"$work/no-rt/rt"
+chmod +x "$work/no-rt/rt"
+to=$work/usr
+holds install env "PATH=$work/no-rt:$PATH" make install "PREFIX=$to"
+holds no-toolchain [ ! -e "$work/asked" ]
+for file in include/star.h lib/libstar.a lib/pkgconfig/star.pc bin/star share/man/man1/star.1; do holds "$file" [ -s "$to/$file" ]; done
+holds staged env "PATH=$work/no-rt:$PATH" make install "DESTDIR=$work/stage" PREFIX=/usr
+holds staged-prefix grep -qx 'prefix=/usr' "$work/stage/usr/lib/pkgconfig/star.pc"
+
+# One version: the header, the library, the console, the pkg-config file and the manual page.
+version=$("$to/bin/star" --version | sed 's/^star //')
+holds version-header grep -q "^#define STAR_VERSION \"$version\"$" "$to/include/star.h"
+holds version-numbers [ "$(sed -n 's/^#define STAR_VERSION_[A-Z]* //p' "$to/include/star.h" | paste -sd.)" = "$version" ]
+holds version-manual grep -q "^.TH STAR 1 .*star $version" "$to/share/man/man1/star.1"
+holds version-pc grep -qx "Version: $version" "$to/lib/pkgconfig/star.pc"
+
+# The flags: from pkg-config where it is installed.
+flags=(-I"$to/include" -L"$to/lib" -lstar)
+if command -v pkg-config >/dev/null; then
+    export PKG_CONFIG_PATH=$to/lib/pkgconfig
+    holds pkg-config pkg-config --exact-version="$version" star
+    read -ra flags < <(pkg-config --cflags --libs star)
+fi
+
+# The example program, as C99 and as C++17.
+strict=(-Wall -Wextra -Wpedantic -Werror)
+cat >"$work/expected" <<'TEXT'
+built: total 12
+  row 1: 1-2, price 5
+  row 2: 2-3, price 3
+  row 4: 1-4, price 4
+checked: total 12
+the dearer plan: take out row 1, put in row 4, and save 1
+with a fifth junction: refused 9, the marked rows are not one fewer than the junctions
+TEXT
+holds c99 "$compiler" -std=c99 "${strict[@]}" -o "$work/plan-c" console/examples/plan.c "${flags[@]}"
+holds c++17 "$plus" -std=c++17 "${strict[@]}" -o "$work/plan-cpp" -x c++ console/examples/plan.c -x none "${flags[@]}"
+for language in c cpp; do holds "plan-$language" diff "$work/expected" <("$work/plan-$language" 2>&1); done
+
+# A text for every refusal that the header names, each its own, and one for any other number.
+cat >"$work/texts.c" <<'TEXT'
+#include <stdio.h>
+#include <string.h>
+#include "star.h"
+int main(void) {
+    unsigned i, k;
+    for (i = 0; i <= 13; i++)
+        for (k = 0; k < i; k++)
+            if (strlen(star_refusal_text(i)) < 10 || strcmp(star_refusal_text(i), star_refusal_text(k)) == 0) return 1;
+    if (strcmp(star_refusal_text(STAR_NO_NETWORK), "no set of rows joins every junction") != 0) return 2;
+    return strcmp(star_refusal_text(1000000), star_refusal_text((unsigned)-1)) != 0;
+}
+TEXT
+holds texts-build "$compiler" -std=c99 "${strict[@]}" -o "$work/texts" "$work/texts.c" "${flags[@]}"
+holds texts "$work/texts"
+
+# The manual page: every command, option and status of the help, and no fault that a formatter finds.
+manual=$to/share/man/man1/star.1
+for word in check build draw dot table '\\-\\-table' '\\-o' '\\-h' '\\-\\-help' '\\-\\-version'; do holds "manual $word" grep -q -- "$word" "$manual"; done
+for status in 0 1 2 3 4 5; do holds "manual status $status" grep -qx ".B $status" "$manual"; done
+if command -v groff >/dev/null; then holds manual-format [ -z "$(groff -t -man -ww -z -Tascii "$manual" 2>&1)" ]; fi
+for word in 'star dot' '-o FILE' '--version' '5 the output'; do holds "help $word" grep -q -- "$word" <("$to/bin/star" --help); done
+
+# uninstall removes what install has put there, and nothing else.
+touch "$to/bin/other"
+holds uninstall make uninstall "PREFIX=$to"
+holds uninstalled [ "$(find "$to" -type f)" = "$to/bin/other" ]
+
+# While the core is proved make shows a line a crate, and keeps all in a log; where it is not proved make fails, and shows the log's end.
+cp -r Makefile include console "$work/no-rt"
+cat >"$work/no-rt/rt" <<'TEXT'
+#!/bin/sh
+echo "fn rowset::a: proved"; echo "library std: modules loaded=0"; echo "rt: rowset proved (12 s)"; echo "rt: slice proved (unchanged since it was last proved)"
+[ -e fault ] && { echo "door.rt:1: error: no proof"; exit 1; }
+mkdir -p target/staticlib && cp "$ARCHIVE_BUILT" target/staticlib/libdoor.a
+TEXT
+export ARCHIVE_BUILT=$PWD/target/staticlib/libdoor.a
+(cd "$work/no-rt" && PATH="$work/no-rt:$PATH" make -s run) >"$work/run" 2>&1
+holds run-crates grep -qx 'rt: rowset proved (12 s)' "$work/run"
+holds run-short fails grep -q '^fn \|^library\|slice' "$work/run"
+holds run-log grep -qx 'fn rowset::a: proved' "$work/no-rt/target/make-library.log"
+holds run-named grep -q 'target/make-library.log' "$work/run"
+holds run-time grep -Eqx 'proved \([0-9]+ s in all\)' "$work/run"
+holds run-verdict grep -q 'Total 12' "$work/run"
+touch "$work/no-rt/fault"
+(cd "$work/no-rt" && PATH="$work/no-rt:$PATH" make -s run) >"$work/run" 2>&1
+holds run-fails [ $? != 0 ]
+holds run-error grep -q 'error: no proof' "$work/run"
+holds readme grep -q 'minutes' README.md
+
+echo "$passed passed, $failed failed"
+[ "$failed" = 0 ]

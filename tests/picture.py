@@ -1,0 +1,128 @@
+"""Tests of the console's pictures: what stands in them, that nothing is printed over, and that plans of one network lie alike.
+usage: picture.py STAR   Ends in one line 'N passed, M failed'."""
+import os, random, subprocess, sys, tempfile
+import xml.etree.ElementTree as tree
+
+STAR = sys.argv[1:]
+SVG = "{http://www.w3.org/2000/svg}"
+counts = [0, 0]
+
+
+def check(name, holds):
+    counts[0 if holds else 1] += 1
+    if not holds:
+        print("picture", name, "failed")
+
+
+def run(command, rows, n, work):
+    path = os.path.join(work, "table.txt")
+    with open(path, "w") as out:
+        out.write("junctions %d\n" % n + "".join("%d %d %d %d\n" % row for row in rows))
+    return subprocess.run(STAR + [command, path], capture_output=True, text=True)
+
+
+class Picture:
+    """The parts of an SVG text, with their numbers."""
+
+    def __init__(self, text):
+        self.text = text
+        root = tree.fromstring(text)
+        parts = list(root)
+        number = lambda part, key: float(part.get(key))
+        self.size = number(root, "width"), number(root, "height")
+        self.circles = [(number(c, "cx"), number(c, "cy"), number(c, "r")) for c in parts if c.tag == SVG + "circle"]
+        self.trenches = [(p.find(SVG + "title").text, p.get("class"), p.get("d")) for p in parts if p.find(SVG + "title") is not None]
+        self.grounds = [tuple(number(r, key) for key in ("x", "y", "width", "height")) for r in parts if r.get("class") == "ground"]
+        self.labels = [t.text for t in parts if t.tag == SVG + "text" and t.get("class").startswith("label")]
+        self.verdict = " ".join(t.text for t in parts if t.get("class") == "verdict")
+        last = max([k for k, p in enumerate(parts) if p.find(SVG + "title") is not None], default=-1)
+        first = min([k for k, p in enumerate(parts) if p.get("class") == "ground"], default=len(parts))
+        self.labels_above = last < first
+
+    def middle(self, d):
+        x0, y0, x1, y1, x2, y2 = (float(w) for w in d.replace("M", " ").replace("Q", " ").split())
+        return x0 / 4 + x1 / 2 + x2 / 4, y0 / 4 + y1 / 2 + y2 / 4
+
+
+def apart(a, b):
+    return a[0] + a[2] <= b[0] + 0.1 or b[0] + b[2] <= a[0] + 0.1 or a[1] + a[3] <= b[1] + 0.1 or b[1] + b[3] <= a[1] + 0.1
+
+
+def off(ground, circle):
+    x, y, w, h = ground
+    dx = max(x - circle[0], circle[0] - x - w, 0)
+    dy = max(y - circle[1], circle[1] - y - h, 0)
+    return dx * dx + dy * dy >= circle[2] ** 2 - 1
+
+
+def judge(name, rows, n, labelled, work):
+    done = run("draw", rows, n, work)
+    p = Picture(done.stdout)
+    check(name + ": junctions", len(p.circles) == n)
+    check(name + ": trenches", sorted(t[0].rsplit(", ", 1)[0] for t in p.trenches) ==
+          sorted("trench %d: %d-%d, price %d" % (i + 1, a, b, w) for i, (a, b, w, mark) in enumerate(rows)))
+    check(name + ": labels", set(p.labels) <= {"%d: %d" % (i + 1, row[2]) for i, row in enumerate(rows)} and len(set(p.labels)) == len(p.labels))
+    check(name + ": enough labels", len(p.labels) >= labelled * len(rows))
+    check(name + ": labels over lines", p.labels_above and len(p.grounds) == len(p.labels))
+    check(name + ": labels apart", all(apart(a, b) for k, a in enumerate(p.grounds) for b in p.grounds[:k]))
+    check(name + ": labels beside junctions", all(off(g, c) for g in p.grounds for c in p.circles))
+    check(name + ": junctions apart", all((a[0] - b[0]) ** 2 + (a[1] - b[1]) ** 2 > (2 * a[2]) ** 2 for k, a in enumerate(p.circles) for b in p.circles[:k]))
+    inside = lambda x, y: 0 <= x <= p.size[0] and 0 <= y <= p.size[1]
+    check(name + ": on the sheet", all(inside(x, y) and inside(x + w, y + h) for x, y, w, h in p.grounds)
+          and all(inside(*p.middle(t[2])) for t in p.trenches) and all(inside(c[0], c[1]) for c in p.circles))
+    check(name + ": no rows", ">row" not in p.text and "row " not in p.text)
+    # Another plan and other prices: the junctions and the lines stay where they were.
+    others = [(a, b, (w * 7 + 3) % 100000, 1 - mark) for a, b, w, mark in rows]
+    q = Picture(run("draw", others, n, work).stdout)
+    check(name + ": junctions stay", p.circles == q.circles)
+    check(name + ": trenches stay", sorted(t[2] for t in p.trenches) == sorted(t[2] for t in q.trenches))
+    return p
+
+
+def marked(rows, n, work):
+    done = run("table", rows, n, work)
+    path = os.path.join(work, "built.txt")
+    with open(path, "w") as out:
+        out.write(done.stdout)
+    done = subprocess.run(STAR + ["build", "--table", path], capture_output=True, text=True)
+    return [tuple(int(w) for w in line.split()) for line in done.stdout.splitlines()[1:]]
+
+
+def near_network(n, degree, seed):
+    """Junctions at random places, each joined to the nearest few."""
+    random.seed(seed)
+    places = [(random.random(), random.random()) for v in range(n)]
+    pairs = set()
+    for u in range(n):
+        by_distance = sorted(range(n), key=lambda v: (places[u][0] - places[v][0]) ** 2 + (places[u][1] - places[v][1]) ** 2)
+        pairs |= {(min(u, v), max(u, v)) for v in by_distance[1:degree + 1]}
+    pairs |= {(v, v + 1) for v in range(0, n - 1, 7)}
+    return [(u + 1, v + 1, random.randrange(10000), 0) for u, v in sorted(pairs)]
+
+
+with tempfile.TemporaryDirectory() as work:
+    yard = [(1, 2, 5, 1), (2, 3, 3, 1), (3, 4, 5, 1), (1, 4, 4, 0), (1, 3, 6, 0)]
+    p = judge("yard", yard, 4, 1, work)
+    check("yard: verdict", p.verdict == "A cheaper set exists, for 1 less: take out trench 1 (1-2, price 5), put in trench 4 (1-4, price 4).")
+    check("yard: exchange", {(t[0].split(":")[0], t[1]) for t in p.trenches if t[1] in ("out", "in")} == {("trench 1", "out"), ("trench 4", "in")})
+    p = judge("yard built", marked(yard, 4, work), 4, 1, work)
+    check("yard built: verdict", p.verdict == "Passed. Total 12.")
+    judge("thirty", marked(near_network(30, 3, 5), 30, work), 30, 0.9, work)
+    with open("console/examples/city.txt") as city:
+        rows = [tuple(int(w) for w in line.split()) for line in city if line[0].isdigit()]
+    judge("city", rows, 255, 0.95, work)
+    judge("complete", [(u, v, u * v, 0) for u in range(1, 46) for v in range(u + 1, 46)], 45, 0.9, work)
+    judge("spokes", [(1, v, 2147483647, 1) for v in range(2, 256)], 255, 0.9, work)
+    judge("chain", [(v, v + 1, v, 1) for v in range(1, 40)], 40, 1, work)
+    judge("apart", [(1, 2, 5, 1), (2, 3, 3, 0), (4, 5, 5, 1)], 7, 1, work)
+    judge("alone", [], 1, 1, work)
+    # Trenches between the same two junctions are drawn apart.
+    parallel = [(1, 2, 5, 1), (2, 1, 3, 0), (1, 2, 7, 0), (2, 1, 7, 0), (1, 2, 1, 0)]
+    done = run("draw", parallel, 2, work)
+    if "Refused" not in done.stderr:
+        p = judge("parallel", parallel, 2, 1, work)
+        middles = [p.middle(t[2]) for t in p.trenches]
+        check("parallel: apart", all((a[0] - b[0]) ** 2 + (a[1] - b[1]) ** 2 > 144 for k, a in enumerate(middles) for b in middles[:k]))
+
+print("%d passed, %d failed" % tuple(counts))
+sys.exit(counts[1] > 0)
