@@ -6,17 +6,17 @@ ghost use Rattle.answer.specs.Records.{fieldsOf};
 // What bytes 6 and 7 hold.
 const UNUSED: u8 = 0;
 
-// The fields of an answer; a field that a kind lacks is 0.
+// The fields of an answer, named after CST's; each door says what it puts where. A field that a kind lacks is 0.
 pub struct Record {
-    // 0 refused, 1 passed or tree built, 2 lighter
+    // byte 0: 0 refused, 1 passed, tree built or text taken, 2 lighter
     pub kind: u32,
-    // the refusal's number
+    // byte 1: the refusal's number
     pub number: u32,
-    // the row that goes out, or the refusal's place
+    // bytes 2 and 3: the row that goes out or the refusal's place; of a text that is taken, n
     pub out: u32,
-    // the row that comes in
+    // bytes 4 and 5: the row that comes in; of a text that is taken, m
     pub into: u32,
-    // the weight or the saving
+    // bytes 8 to 15: the weight or the saving; of a text that is refused, the place
     pub amount: u64,
 }
 

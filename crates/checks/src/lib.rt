@@ -149,7 +149,9 @@ fn first_bad_row(n: u32, left: &[u8], right: &[u8], weight: &[u8]) -> usize
 // Causes 4 and 5, of a table with at most 1,024 rows, whatever its claim.
 fn rows_check(n: u32, left: &[u8], right: &[u8], weight: &[u8]) -> Outcome
     requires { ⌜ length (now left) ≤ maxRows ⌝ }
-    ensures { λ r. ⌜ ((mark : List ℕ) → refusalOf r ≡ refusal (rowCauses (callOf n (now (left .entry)) (now (right .entry)) (now (weight .entry)) mark))) ⌝ }
+    ensures { λ r.
+        let table = callOf n (now (left .entry)) (now (right .entry)) (now (weight .entry)) in
+        ⌜ ((mark : List ℕ) → refusalOf r ≡ refusal (rowCauses (table mark))) ⌝ }
 {
     let i = first_bad_row(n, left, right, weight);
     let number = if wrong_row(n, left, right, i) { 4 } else { 5 };
@@ -158,7 +160,9 @@ fn rows_check(n: u32, left: &[u8], right: &[u8], weight: &[u8]) -> Outcome
 
 // Causes 1 to 5.
 pub fn table_check(n: u32, left: &[u8], right: &[u8], weight: &[u8], mark: &[u8]) -> Outcome
-    ensures { λ r. ⌜ refusalOf r ≡ refusal (tableCauses (callOf n (now (left .entry)) (now (right .entry)) (now (weight .entry)) (now (mark .entry)))) ⌝ }
+    ensures { λ r.
+        let c = callOf n (now (left .entry)) (now (right .entry)) (now (weight .entry)) (now (mark .entry)) in
+        ⌜ refusalOf r ≡ refusal (tableCauses c) ⌝ }
 {
     let size = size_check(n, left.len());
     let Outcome::Done = size else {

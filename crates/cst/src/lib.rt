@@ -4,8 +4,9 @@ ghost use Prim.Native.Nat.{ℕ, _≤_};
 ghost use Rattle.rowset.specs.Bytes.{inRow};
 ghost use Rattle.slice.specs.Slices.{size, component};
 ghost use Rattle.star.specs.Cst.{cst};
-ghost use Rattle.star.specs.Call.{callOf};
+ghost use Rattle.star.specs.Call.{Call, callOf};
 ghost use Rattle.cst.specs.steps.Paths.{rowsAfter, heavierIn, exchangeOf, firstLighter, Walked};
+ghost use Rattle.cst.specs.steps.Records.{recordOf};
 ghost use Rattle.cst.specs.Verdicts.{answerOf};
 use checks::row_byte;
 use checks::row_weight;
@@ -88,7 +89,9 @@ fn first_lighter(matrix: &[u64], left: &[u8], right: &[u8], weight: &[u8], rows:
 
 // The verdict on a claim that is a spanning tree, by its path matrix from vertex 1.
 fn judge(matrix: &[u64], left: &[u8], right: &[u8], weight: &[u8], mark: &[u8]) -> Verdict
-    ensures { λ r. ⌜ ((n : ℕ) → Walked (callOf n (now (left .entry)) (now (right .entry)) (now (weight .entry)) (now (mark .entry))) (now (matrix .entry)) → answerOf r ≡ cst (callOf n (now (left .entry)) (now (right .entry)) (now (weight .entry)) (now (mark .entry)))) ⌝ }
+    ensures { λ r.
+        let call : ℕ → Call = λ n. callOf n (now (left .entry)) (now (right .entry)) (now (weight .entry)) (now (mark .entry)) in
+        ⌜ ((n : ℕ) → Walked (call n) (now (matrix .entry)) → answerOf r ≡ cst (call n)) ⌝ }
 {
     let marked = claim::claim_rows(mark);
     let unmarked = difference::without(claim::rows_to(left.len()), marked);
@@ -99,14 +102,29 @@ fn judge(matrix: &[u64], left: &[u8], right: &[u8], weight: &[u8], mark: &[u8]) 
     Verdict::Lighter(found)
 }
 
+// The record of a refusal; number and place are 0 where there is none.
+fn record_of(answer: Outcome) -> Refusal
+    ensures { λ r. ⌜ r ≡ recordOf answer ⌝ }
+{
+    let Outcome::Refused(refusal) = answer else {
+        return Refusal {
+            number: 0,
+            place: 0,
+        };
+    };
+    refusal
+}
+
 // CST: the verdict on the claim. Where MatrixPath refuses, its refusal is handed on unread.
 pub fn cst(n: u32, left: &[u8], right: &[u8], weight: &[u8], mark: &[u8]) -> Verdict
-    ensures { λ r. ⌜ answerOf r ≡ cst (callOf n (now (left .entry)) (now (right .entry)) (now (weight .entry)) (now (mark .entry))) ⌝ }
+    ensures { λ r.
+        let c = callOf n (now (left .entry)) (now (right .entry)) (now (weight .entry)) (now (mark .entry)) in
+        ⌜ answerOf r ≡ cst c ⌝ }
 {
     let mut own = [0u64; path::ALL_WORDS];
     let answer = path::matrix_path(n, left, right, weight, mark, 1, &mut own);
-    let Outcome::Refused(refusal) = answer else {
-        return judge(&own, left, right, weight, mark);
+    let Outcome::Done = answer else {
+        return Verdict::Refused(record_of(answer));
     };
-    Verdict::Refused(refusal)
+    judge(&own, left, right, weight, mark)
 }

@@ -48,7 +48,9 @@ pub extern "C" fn star_cst(
     answer: &mut [u8],
 ) -> u32
     ensures returned { λ r. ⌜ r ≡ doorReturns (now (answer .entry)) ⌝ }
-    ensures answered { λ r. ⌜ now (answer .exit) ≡ cstDoor (callOf n (now (left .entry)) (now (right .entry)) (now (weight .entry)) (now (mark .entry))) (now (answer .entry)) ⌝ }
+    ensures answered { λ r.
+        let c = callOf n (now (left .entry)) (now (right .entry)) (now (weight .entry)) (now (mark .entry)) in
+        ⌜ now (answer .exit) ≡ cstDoor c (now (answer .entry)) ⌝ }
 {
     if answer.len() != 16 {
         return 0;

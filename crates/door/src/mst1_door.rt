@@ -41,8 +41,9 @@ pub extern "C" fn star_mst1(
     answer: &mut [u8],
 ) -> u32
     ensures returned { λ r. ⌜ r ≡ doorReturns (now (answer .entry)) ⌝ }
-    ensures answered { λ r. ⌜ now (answer .exit) ≡ mst1Door (callOf n (now (left .entry)) (now (right .entry)) (now (weight .entry)) (now (mark .entry))) (now (answer .entry)) ⌝ }
-    ensures marks { λ r. ⌜ now (mark .exit) ≡ mst1DoorMarks (callOf n (now (left .entry)) (now (right .entry)) (now (weight .entry)) (now (mark .entry))) (now (answer .entry)) ⌝ }
+    ensures written { λ r.
+        let c = callOf n (now (left .entry)) (now (right .entry)) (now (weight .entry)) (now (mark .entry)) in
+        ⌜ (now (answer .exit) ≡ mst1Door c (now (answer .entry))) × (now (mark .exit) ≡ mst1DoorMarks c (now (answer .entry))) ⌝ }
 {
     if answer.len() != 16 {
         return 0;

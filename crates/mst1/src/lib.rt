@@ -168,8 +168,9 @@ fn tree_of(n: u32, left: &[u8], right: &[u8], weight: &[u8]) -> Grown
 
 // MST1: the refusal, and the marks stay as they were; or the tree's weight, and the marks are 1 for each chosen row and 0 for every other.
 pub fn mst1(n: u32, left: &[u8], right: &[u8], weight: &[u8], mark: &mut [u8]) -> Built
-    ensures answer { λ r. ⌜ answerOf r ≡ mst1 (callOf n (now (left .entry)) (now (right .entry)) (now (weight .entry)) (now (mark .entry))) ⌝ }
-    ensures marks { λ r. ⌜ now (mark .exit) ≡ mst1Marks (callOf n (now (left .entry)) (now (right .entry)) (now (weight .entry)) (now (mark .entry))) ⌝ }
+    ensures { λ r.
+        let c = callOf n (now (left .entry)) (now (right .entry)) (now (weight .entry)) (now (mark .entry)) in
+        ⌜ (answerOf r ≡ mst1 c) × (now (mark .exit) ≡ mst1Marks c) ⌝ }
 {
     if let Outcome::Refused(refusal) = checks::table_check(n, left, right, weight, mark) {
         return Built::Refused(refusal);

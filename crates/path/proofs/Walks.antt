@@ -14,7 +14,7 @@ use Rattle.graph.specs.Graph.{Graph, Sound, Inside, crosses}
 use Rattle.graph.specs.steps.Trail.{Trail, near, far, extend, trail}
 use Rattle.graph.proofs.Trail.{near-vertex, far-vertex, trail-vertex, trail-inside}
 use Rattle.rowset.specs.Searches.{equalTo}
-use Rattle.rowset.specs.Sets.{empty, upTo, both, either, oneOf, put, uppermost}
+use Rattle.rowset.specs.Sets.{empty, both, either, oneOf, put, uppermost}
 use Rattle.rowset.specs.Words.{columnWords, columnWordsFrom}
 use Rattle.rowset.proofs.Laws.{clash, put-other, in-upTo, uppermost-cut, uppermost-some, both-inside}
 use Rattle.matrix.specs.Matrix.{columnOf, withColumn}

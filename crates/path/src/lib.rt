@@ -155,7 +155,9 @@ fn path_check(
     s: u32,
     words: usize,
 ) -> Outcome
-    ensures { λ r. ⌜ refusalOf r ≡ refusal (beforeWalk (callOf n (now (left .entry)) (now (right .entry)) (now (weight .entry)) (now (mark .entry))) s words) ⌝ }
+    ensures { λ r.
+        let c = callOf n (now (left .entry)) (now (right .entry)) (now (weight .entry)) (now (mark .entry)) in
+        ⌜ refusalOf r ≡ refusal (beforeWalk c s words) ⌝ }
 {
     let claim = checks::claim_check(n, left, right, weight, mark);
     let Outcome::Done = claim else {
@@ -196,8 +198,9 @@ pub fn matrix_path(
     s: u32,
     r: &mut [u64],
 ) -> Outcome
-    ensures answer { λ o. ⌜ refusalOf o ≡ matrixPath (callOf n (now (left .entry)) (now (right .entry)) (now (weight .entry)) (now (mark .entry))) s (now (r .entry)) ⌝ }
-    ensures matrix { λ o. ⌜ now (r .exit) ≡ matrixAfter (callOf n (now (left .entry)) (now (right .entry)) (now (weight .entry)) (now (mark .entry))) s (now (r .entry)) ⌝ }
+    ensures { λ o.
+        let c = callOf n (now (left .entry)) (now (right .entry)) (now (weight .entry)) (now (mark .entry)) in
+        ⌜ (refusalOf o ≡ matrixPath c s (now (r .entry))) × (now (r .exit) ≡ matrixAfter c s (now (r .entry))) ⌝ }
 {
     let checked = path_check(n, left, right, weight, mark, s, r.len());
     let Outcome::Done = checked else {

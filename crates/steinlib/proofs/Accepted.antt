@@ -16,7 +16,7 @@ use Rattle.star.specs.Call.{callOf, weightOf}
 use Rattle.star.specs.Door.{bytesOf}
 use Rattle.star.specs.Refusals.{maxVertices, maxRows, cause, badVertices, tooManyRows, badLengths, badEnds, tooHeavy, badRow, tableCauses, orElse, refusal, Accepted}
 use Rattle.star.proofs.Accepted.{none-head, none-tail, none-both, none-nil, cause-none, none-cause}
-use Rattle.steinlib.specs.Accepted.{Taken, ImportHolds}
+use Rattle.steinlib.specs.Accepted.{ImportTaken, ImportHolds}
 use Rattle.steinlib.specs.Import.{maxText, bounded, readText, tableOf, badColumns, badEdges, importCauses, untaken, taken, sizes, answered, imported, filled, columnsOf, importRefusal, leftAfter, rightAfter, weightAfter}
 use Rattle.steinlib.specs.Reader.{Read, nothingRead, withGraph, withNodes, withEdges, withRow, Stand, opening, heading, sections, naming, skipping, skipped, ending, nodes, nodeCount, edges, edgeCount, lines, leftEnd, rightEnd, price, closed, Next, when, counted, numberThen, nextSection, named, graphLine, next, Reading, broken, whole, isClosed, follow, readFrom}
 use Rattle.words.specs.Names.{is}
@@ -293,7 +293,7 @@ module _ (text left right weight : List ℕ) (t : Read) (x : readText text ≡ w
   weight-read : take (4 * t .rows) (weightAfter text left right weight) ≡ t .weight
   weight-read = rw weight-is (filled-rows (t .weight) weight (4 * t .rows) weight-rows weight-fits)
 
-  taken-table : Taken text left right weight (t .nodes) (t .rows)
+  taken-table : ImportTaken text left right weight (t .nodes) (t .rows)
   taken-table =
       record {
         accepted = λ claim h. rw (left-read, right-read, weight-read) (read-accepted t _ _ _ fit check claim h);
@@ -349,5 +349,5 @@ import-holds text left right weight =
           };
     }
   where
-    go : (n m : ℕ) → (importRefusal text left right weight ≡ none) × ((t : Read) × (readText text ≡ whole t) × (t .nodes ≡ n) × (t .rows ≡ m)) → Taken text left right weight n m
+    go : (n m : ℕ) → (importRefusal text left right weight ≡ none) × ((t : Read) × (readText text ≡ whole t) × (t .nodes ≡ n) × (t .rows ≡ m)) → ImportTaken text left right weight n m
     go n m (o, (t, x, p, q)) = rw (p, q) at (taken-table text left right weight t x o)

@@ -11,7 +11,7 @@ use Rattle.star.specs.Refusals.{maxVertices, maxRows, Accepted}
 use Rattle.steinlib.specs.Import.{maxText, untaken, taken, imported, readText, columnsOf, leftAfter, rightAfter, weightAfter}
 
 -- after an import of the text into the three lent columns that answers n and m
-pub record Taken (text left right weight : List ℕ) (n m : ℕ) : Type 0 where
+pub record ImportTaken (text left right weight : List ℕ) (n m : ℕ) : Type 0 where
   -- with any claim of m bytes the first m rows are an accepted table: what CST, MST1 and MatrixPath take
   pub accepted : (claim : List ℕ) → length claim ≡ m →
       Accepted
@@ -43,12 +43,12 @@ pub record Taken (text left right weight : List ℕ) (n m : ℕ) : Type 0 where
   pub weight-kept : drop (4 * m) (weightAfter text left right weight) ≡ drop (4 * m) weight
 
 -- after an import that is refused
-pub record Untaken (text left right weight : List ℕ) : Type 0 where
+pub record ImportRefused (text left right weight : List ℕ) : Type 0 where
   pub left-kept : leftAfter text left right weight ≡ left
   pub right-kept : rightAfter text left right weight ≡ right
   pub weight-kept : weightAfter text left right weight ≡ weight
 
 -- the theorem, for every text and every three lent columns
 pub record ImportHolds (text left right weight : List ℕ) : Type 0 where
-  pub takes : (n m : ℕ) → imported text (length left) (length right) (length weight) ≡ taken n m → Taken text left right weight n m
-  pub refuses : (r : Refusal) → imported text (length left) (length right) (length weight) ≡ untaken r → Untaken text left right weight
+  pub takes : (n m : ℕ) → imported text (length left) (length right) (length weight) ≡ taken n m → ImportTaken text left right weight n m
+  pub refuses : (r : Refusal) → imported text (length left) (length right) (length weight) ≡ untaken r → ImportRefused text left right weight

@@ -8,7 +8,8 @@ use lib.ListN.{length, replicate, take}
 use Rattle.refusal.specs.declared.Refusal.{Refusal}
 use Rattle.star.specs.Door.{fieldBytes}
 use Rattle.steinlib.specs.Door.{importFields, importDoor, leftDoor, rightDoor, weightDoor}
-use Rattle.steinlib.specs.Import.{ImportAnswer, untaken, taken, imported, leftAfter, rightAfter, weightAfter}
+use Rattle.steinlib.specs.Import.{ImportAnswer, untaken, taken, sizes, imported, leftAfter, rightAfter, weightAfter}
+use Rattle.steinlib.specs.Reader.{broken}
 use Rattle.words.specs.Bytes.{bytes}
 
 -- a trial: what is given, and what it should be
@@ -94,8 +95,8 @@ numbers =
     ∷ (proper "33D32945\nSECTION Graph\nNodes 3\nEdges 4294967296\nE 1 2 5\nEND\nEOF", untaken (because 12 37))  -- a number too large
     ∷ (proper "33D32945\nSECTION Graph\nNodes 3\nEdges 4294967295\nE 1 2 5\nEND\nEOF", untaken (because 13 0))  -- the largest number is taken for a number
     ∷ (proper "33D32945\nSECTION Graph\nNodes 255\nEdges 2\nE 255 1 3\nE 1 255 3\nEND\nEOF", taken 255 2)  -- the ends 255 and 1
-    ∷ (proper "33D32945\nSECTION Graph\nNodes 255\nEdges 2\nE 1 2 3\nE 256 1 3\nEND\nEOF", untaken (because 4 2))  -- a left end of 256
-    ∷ (proper "33D32945\nSECTION Graph\nNodes 255\nEdges 2\nE 1 2 3\nE 1 256 3\nEND\nEOF", untaken (because 4 2))  -- a right end of 256
+    ∷ (proper "33D32945\nSECTION Graph\nNodes 255\nEdges 2\nE 1 2 3\nE 256 2 3\nEND\nEOF", untaken (because 4 2))  -- a left end of 256
+    ∷ (proper "33D32945\nSECTION Graph\nNodes 255\nEdges 2\nE 1 2 3\nE 2 256 3\nEND\nEOF", untaken (because 4 2))  -- a right end of 256
     ∷ (proper "33D32945\nSECTION Graph\nNodes 255\nEdges 1\nE 257 258 3\nEND\nEOF", untaken (because 4 1))  -- ends of 257 and 258, whose last bytes alone would be vertices
     ∷ (proper "33D32945\nSECTION Graph\nNodes 3\nEdges 1\nE 1 4 3\nEND\nEOF", untaken (because 4 1))  -- an end that is above n
     ∷ (proper "33D32945\nSECTION Graph\nNodes 255\nEdges 1\nE 300 400 3\nEND\nEOF", untaken (because 4 1))  -- two ends above 255, which are stored as equal
@@ -128,6 +129,7 @@ causes =
     ∷ (imported (bytes street) 1024 1024 4097, untaken (because 3 0))
     ∷ (imported (bytes astray) 1024 1024 4095, untaken (because 3 0))  -- 3 before 4
     ∷ (imported (bytes astray) 1024 1024 4096, untaken (because 4 2))
+    ∷ (sizes (broken 7), untaken (because 12 7))  -- a broken text has no sizes
     ∷ []
 
 -- lent columns of nines

@@ -55,7 +55,7 @@ fn verdict(v: Verdict) {
     }
 }
 
-// The marked rows of a claim, each after a blank; of a long claim only how many there are.
+// The marked rows of a claim, each after a blank.
 fn rows(mark: &[u8]) {
     let mut i: usize = 0;
     while i < mark.len() {
@@ -67,6 +67,7 @@ fn rows(mark: &[u8]) {
     }
 }
 
+// The weight of a tree that was built, and its rows where the table has at most 16.
 fn tree(weight: u64, mark: &[u8]) {
     text(b"tree of weight ");
     number(weight);

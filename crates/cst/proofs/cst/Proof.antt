@@ -4,20 +4,24 @@ use borrow.Author.Needs.{needs}
 use Rattle.refusal.specs.Outcomes.{refusalOf}
 use Rattle.cst.proofs.Paths.{refused-walk, done-walk}
 use Rattle.cst.specs.Verdicts.{answerOf}
+use Rattle.cst.specs.steps.Records.{recordOf}
 use Rattle.cst.proofs.cst.Statement.{statement}
 use Rattle.cst.proofs.cst.Tie as tie
 
 returns : tie.Need-returns
-unfolding refusalOf
+unfolding answerOf refusalOf recordOf
 returns c =
-    let p = c .before .before .before .before .before .matrix-path in
-    c .judge .ensures _ (done-walk _ _ refl _ (ap refusalOf (sym (c .before .before .enum-told .given .1)) ∙ p .ensures .0) (p .ensures .1))
+    let told = c .before in
+    let p = told .before .before .before .matrix-path in
+    rw (c .record-of .ensures, told .enum-told2 .given .1)
+    (refused-walk _ _ refl _ (ap refusalOf (sym (told .enum-told2 .given .1)) ∙ p .ensures .0))
 
 returns-2 : tie.Need-returns-2
-unfolding answerOf refusalOf
+unfolding refusalOf
 returns-2 c =
-    let p = c .before .before .before .before .matrix-path in
-    refused-walk _ _ refl _ (ap refusalOf (sym (c .before .answer .given .1)) ∙ p .ensures .0)
+    let told = c .before .before in
+    let p = told .before .before .before .matrix-path in
+    c .judge .ensures _ (done-walk _ _ refl _ (ap refusalOf (sym (told .enum-told .given .1)) ∙ p .ensures .0) (p .ensures .1))
 
 pub cst-spec : {M : Type 1} → statement M
 cst-spec =
@@ -27,7 +31,8 @@ cst-spec =
     (λ c κs. search needs)
     (λ c. search needs)
     (λ c. search needs)
-    (λ c. search needs)
     (λ c κs. search needs)
     returns
+    (λ c. search needs)
+    (λ c κs. search needs)
     returns-2)
