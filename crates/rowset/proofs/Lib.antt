@@ -5,3 +5,4 @@ pub mod Numbers
 pub mod Integers
 pub mod IntegerSearches
 pub mod Signed
+pub mod Trials

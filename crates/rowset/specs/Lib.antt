@@ -4,4 +4,6 @@ pub mod Columns
 pub mod Bytes
 pub mod Words
 pub mod Integers
+pub mod Counts
+pub mod Trials
 pub mod steps
