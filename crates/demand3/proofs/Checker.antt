@@ -12,8 +12,8 @@ use Rattle.graph.specs.Tree.{SpanningTree, onPath}
 use Rattle.rowset.proofs.Laws.{refuted, uppermost-some, uppermost-none, uppermost-zero, any-found, any-none}
 use Rattle.rowset.proofs.Members.{without-in, in-without}
 use Rattle.rowset.proofs.Integers.{integers, ltZ-false}
-use Rattle.rowset.proofs.IntegerSearches.{greaterThanℤ-in}
-use Rattle.rowset.specs.Searches.{greaterThanℤ}
+use Rattle.rowset.proofs.Searches.{greaterThan-in}
+use Rattle.rowset.specs.Searches.{greaterThan}
 use Rattle.rowset.specs.Sets.{upTo, without, uppermost}
 use Rattle.star.specs.Call.{Call, rowsOf, graphOf, weightOf, marked}
 use Rattle.star.specs.Cst.{between, heavier, improves, rowIn, rowOut}
@@ -29,7 +29,7 @@ module _ (c : Call) (ok : Sound (graphOf c)) (tree : SpanningTree (graphOf c) (m
   improving-exchange : (e f : ℕ) → graphOf c .rows f ≡ true → marked (c .mark) f ≡ false → heavier c f e ≡ true → Lighter (graphOf c) (weightOf c) (marked (c .mark)) e f
   unfolding heavier
   improving-exchange e f r out h =
-      let (path, heavy) = greaterThanℤ-in (weightOf c) (weightOf c f) (between c f) e h in
+      let (path, heavy) = greaterThan-in (weightOf c) (weightOf c f) (between c f) e h in
       lighter-exchange (graphOf c) ok (weightOf c) (marked (c .mark)) tree e f r out (ap (λ p. p e) (sym (between-path f r)) ∙ path) heavy
 
   improving : (f : ℕ) → improves c f ≡ true → Lighter (graphOf c) (weightOf c) (marked (c .mark)) (uppermost (rowsOf c) (heavier c f)) f
@@ -42,7 +42,7 @@ module _ (c : Call) (ok : Sound (graphOf c)) (tree : SpanningTree (graphOf c) (m
 
   -- no row to bring in exactly where the tree is good
   pub none-good : rowIn c ≡ 0 → Good (graphOf c) (weightOf c) (marked (c .mark))
-  unfolding rowIn improves heavier greaterThanℤ graphOf
+  unfolding rowIn improves heavier greaterThan graphOf
   none-good none f r out e path =
       let (lf, uf) = ok .position f r in
       let (le, ue) = ok .position e (tree .inside e (path-inside (graphOf c) ok (marked (c .mark)) tree _ _ e path)) in

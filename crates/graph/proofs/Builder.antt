@@ -18,9 +18,9 @@ use Rattle.graph.specs.Graph.{Graph, Sound, Walk, stay, crosses, withEnd
 use Rattle.graph.specs.Least.{Least}
 use Rattle.graph.specs.Tree.{SpanningTree}
 use Rattle.rowset.proofs.Laws.{clash, refuted, put-same, put-other, put-keeps, any-some, any-found, uppermost-some, count-put, count-empty, count-full, full-count, xor-false-same}
-use Rattle.rowset.specs.Searches.{smallestℤ}
+use Rattle.rowset.specs.Searches.{smallest}
 use Rattle.rowset.proofs.Integers.{integers}
-use Rattle.rowset.proofs.IntegerSearches.{smallestℤ-in, smallestℤ-least, smallestℤ-exists}
+use Rattle.rowset.proofs.Searches.{smallest-in, smallest-least, smallest-exists}
 use Rattle.rowset.specs.Integers.{total}
 use Rattle.rowset.specs.Sets.{empty, both, put, count}
 
@@ -63,11 +63,11 @@ module _ (g : Graph) (ok : Sound g) (w : ℕ → ℤ) where
   cheapest-some : (X : ℕ → Bool) (j : ℕ) → cheapest g w X ≡ suc j → (X (suc j) ≡ true) × ((i : ℕ) → g .rows i ≡ true → X i ≡ true → w (suc j) ≤ℤ w i)
   unfolding cheapest
   cheapest-some X j e =
-      let s = uppermost-some (g .m) j (smallestℤ (g .m) w X) e .0 in (
-        smallestℤ-in (g .m) w X (suc j) s,
+      let s = uppermost-some (g .m) j (smallest (g .m) w X) e .0 in (
+        smallest-in (g .m) w X (suc j) s,
         λ i r h.
             let (l, u) = ok .position i r in
-            smallestℤ-least (g .m) w X (suc j) i s l u h,
+            smallest-least (g .m) w X (suc j) i s l u h,
       )
 
   -- where X has no cheapest row, X has no row
@@ -78,7 +78,7 @@ module _ (g : Graph) (ok : Sound g) (w : ℕ → ℤ) where
       never : X i ≡ true → ⊥
       never h =
           let (l, u) = ok .position i r in
-          let (j, s) = any-found (g .m) (smallestℤ (g .m) w X) (smallestℤ-exists (g .m) w X (any-some (g .m) i X l u h)) in
+          let (j, s) = any-found (g .m) (smallest (g .m) w X) (smallest-exists (g .m) w X (any-some (g .m) i X l u h)) in
           omega arith
 
   -- the invariant holds of one vertex without a row

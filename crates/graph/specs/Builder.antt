@@ -5,7 +5,7 @@ use lib.IntN.{ℤ}
 use mathlib.Core.Bool.{Bool}
 use mathlib.Core.Option.{Option, none, some}
 use Rattle.graph.specs.Graph.{Graph, crosses, withEnds}
-use Rattle.rowset.specs.Searches.{smallestℤ}
+use Rattle.rowset.specs.Searches.{smallest}
 use Rattle.rowset.specs.Sets.{empty, both, put, uppermost}
 
 -- the fragment: its vertices and the rows that were chosen
@@ -19,7 +19,7 @@ nothing = record { vertices = empty; chosen = empty }
 
 -- the uppermost row of least weight in X, 0 if X has no row
 unfoldable pub cheapest : Graph → (ℕ → ℤ) → (ℕ → Bool) → ℕ
-cheapest g w X = uppermost (g .m) (smallestℤ (g .m) w X)
+cheapest g w X = uppermost (g .m) (smallest (g .m) w X)
 
 -- the fragment with row i chosen, where 0 says that there was none to choose
 unfoldable pub choose : Graph → Fragment → ℕ → Option Fragment

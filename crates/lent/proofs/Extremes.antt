@@ -6,7 +6,6 @@ use mathlib.Core.Path.{_≡_, refl, sym, _∙_, fun-ext}
 use lib.Dec.{eqb}
 use borrow.Author.Tests.{eqb-true, eq-eqb}
 use Rattle.rowset.specs.Columns.{inColumns}
-use Rattle.rowset.specs.Searches.{smallest, largest}
 use Rattle.rowset.specs.Sets.{any}
 use Rattle.rowset.proofs.Laws.{any-none, any-found, none-any, uppermost-some, clash, extreme as foremost, extreme-in, extreme-first, in-extreme}
 use Rattle.lent.specs.steps.Column.{preferred, extreme}
@@ -56,13 +55,13 @@ before-column c j k high a b =
 
 -- MIN and MAX are the rows that come first in the direction
 extreme-is : (high : Bool) (m : ℕ) (f : ℕ → ℕ) (X : ℕ → Bool) → extreme high m f X ≡ foremost (before high) m f X
-unfolding foremost smallest largest before
+unfolding foremost extreme before
 extreme-is true m f X = refl
 extreme-is false m f X = refl
 
 -- before any column is read every row is 0 and no selected row comes before another
 pub extreme-start : (high : Bool) (m : ℕ) (X : ℕ → Bool) → extreme high m (λ i. 0) X ≡ X
-unfolding smallest largest
+unfolding extreme
 extreme-start true m X = fun-ext (λ i. rw (none-any m _ (λ k l u. and-false (X k)), and-true))
 extreme-start false m X = fun-ext (λ i. rw (none-any m _ (λ k l u. and-false (X k)), and-true))
 

@@ -2,6 +2,7 @@ pub mod Orders
 pub mod Columns
 pub mod Steps
 pub mod Extremes
+pub mod Signs
 pub mod Loops
 pub mod Stores
 pub mod Counts

@@ -15,13 +15,13 @@ use borrow.Author.Tests.{eqb-true, eqb-false}
 use Rattle.rowset.specs.Columns.{inColumns}
 use Rattle.rowset.specs.Sets.{empty, upTo, any}
 use Rattle.rowset.proofs.Laws.{clash, refuted, upwards, upTo-in, any-none}
-use Rattle.rowset.specs.Searches.{equalTo, greaterThan}
+use Rattle.rowset.specs.Searches.{equalTo}
 use Rattle.slice.specs.Slices.{size, component}
 use Rattle.slice.specs.declared.Slice.{Slice}
 use Rattle.table.proofs.Columns.{as-number}
 use Rattle.table.specs.Tables.{column, blank}
 use Rattle.table.specs.declared.Table.{Table}
-use Rattle.lent.specs.steps.Column.{kept, grown, preferred, extreme}
+use Rattle.lent.specs.steps.Column.{kept, grown, above, preferred, extreme}
 use Rattle.rowset.proofs.Numbers.{number-below}
 use Rattle.lent.proofs.Steps.{match-step, great-step, great-start, kept-none, grown-none}
 use Rattle.lent.proofs.Extremes.{extreme-start, extreme-step}
@@ -160,7 +160,7 @@ pub record Compared (c : ℕ → ℕ → Bool) (first w : ℕ) (z₀ g z : Slice
   pub running : Running c first w z₀ z j
   pub greater : (X : ℕ → Bool)
       → component z₀ ≡ equalTo (inColumns c first 0) (w / 2 ^ (32 - first)) X
-      → component g ≡ greaterThan (inColumns c first (j - first)) (w / 2 ^ (32 - j)) X
+      → component g ≡ above (inColumns c first (j - first)) (w / 2 ^ (32 - j)) X
 
 module _ (c : ℕ → ℕ → Bool) (first w : ℕ) (z₀ : Slice) where
   pub compared-start : (g : Slice) → component g ≡ empty → Compared c first w z₀ g z₀ first
@@ -189,7 +189,7 @@ module _ (c : ℕ → ℕ → Bool) (first w : ℕ) (z₀ : Slice) where
   pub compared-all : (g z : Slice) (j : ℕ) (X : ℕ → Bool) → 32 ≤ j
       → component z₀ ≡ equalTo (inColumns c first 0) (w / 2 ^ (32 - first)) X
       → Compared c first w z₀ g z j
-      → component g ≡ greaterThan (inColumns c first (32 - first)) w X
+      → component g ≡ above (inColumns c first (32 - first)) w X
   compared-all g z j X h s m =
       let e : j - first ≡ 32 - first = omega arith in
       let d : 32 - j ≡ 0 = omega arith in
@@ -202,7 +202,7 @@ module _ (c : ℕ → ℕ → Bool) (first w : ℕ) (z₀ : Slice) where
   pub compared-none : (g z : Slice) (j : ℕ) (X : ℕ → Bool) → j < 32 → any size (component z) ≡ false
       → component z₀ ≡ equalTo (inColumns c first 0) (w / 2 ^ (32 - first)) X
       → Compared c first w z₀ g z j
-      → component g ≡ greaterThan (inColumns c first (32 - first)) w X
+      → component g ≡ above (inColumns c first (32 - first)) w X
   compared-none g z j X h e s m =
       compared-all g z 32 X (omega arith) s
       (upwards (Compared c first w z₀ g z) j 32 (omega arith) m (λ n l u h. rw add-one at (compared-still g z n (none-left z e) u h)))

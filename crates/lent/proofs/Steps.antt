@@ -7,8 +7,8 @@ use lib.Dec.{isEq, leb·suc-zero}
 use borrow.Author.Tests.{ne-eqb}
 use Rattle.rowset.specs.Columns.{inColumns}
 use Rattle.rowset.specs.Sets.{empty, both, without, either}
-use Rattle.rowset.specs.Searches.{equalTo, greaterThan}
-use Rattle.lent.specs.steps.Column.{kept, grown}
+use Rattle.rowset.specs.Searches.{equalTo}
+use Rattle.lent.specs.steps.Column.{kept, grown, above}
 use Rattle.lent.proofs.Orders.{before, ahead, isEq-next, ahead-next, before-compare}
 use Rattle.lent.proofs.Columns.{compare-column}
 
@@ -49,9 +49,9 @@ module _ (c : ℕ → ℕ → Bool) (j k v : ℕ) (d : Bool) (X : ℕ → Bool) 
   match-step = fun-ext (λ i. rw (compare-column c j k i v d, isEq-next, bits-equal, kept-at, and-assoc))
 
   -- GREAT: the rows that were greater, and those equal so far whose bit is 1 against 0
-  pub great-step : greaterThan (inColumns c j (suc k)) (2 * v + cond d 1 0) X
-      ≡ grown d (greaterThan (inColumns c j k) v X) (equalTo (inColumns c j k) v X) (c (j + suc k))
-  unfolding equalTo greaterThan before
+  pub great-step : above (inColumns c j (suc k)) (2 * v + cond d 1 0) X
+      ≡ grown d (above (inColumns c j k) v X) (equalTo (inColumns c j k) v X) (c (j + suc k))
+  unfolding equalTo above before
   great-step =
       fun-ext
       (λ i.
@@ -75,8 +75,8 @@ pub match-start-none : (v : ℕ) (X : ℕ → Bool) → (v ≡ 0 → ⊥) → eq
 unfolding equalTo empty
 match-start-none v X h = fun-ext (λ i. rw (ne-eqb 0 v (λ e. h (sym e)), and-false))
 
-pub great-start : (v : ℕ) (X : ℕ → Bool) → greaterThan (λ i. 0) v X ≡ empty
-unfolding greaterThan empty
+pub great-start : (v : ℕ) (X : ℕ → Bool) → above (λ i. 0) v X ≡ empty
+unfolding above empty
 great-start v X = fun-ext (λ i. rw (leb·suc-zero, and-false))
 
 -- where no row is in the running, a column changes nothing

@@ -1,17 +1,19 @@
 // A table's columns as they stand in a path matrix, lent, and the loops of MATCH, MIN, MAX and GREAT over them: a caller that searches often lends the columns and copies no table.
 // A column that is not wholly inside what is lent is Θ, so that every search is defined for a matrix of any size. MATCH reads the columns from right to left, the others from left to right.
-// A search leaves out the first columns, as many as it is told, and is about the number that a row holds in the others: 0 where none is left.
+// A search leaves out the first columns, as many as it is told. MATCH is about the number that a row holds in the others, 0 where none is left; GREAT, MIN and MAX are about the integer
+// that they stand for in two's complement: the first column that is read is that of the sign.
 use slice::Slice;
 use table::Table;
 ghost use mathlib.Core.Path.{_≡_};
-ghost use Prim.Native.Nat.{_-_, _/_, _^_};
+ghost use Prim.Native.Nat.{_+_, _-_, _/_, _^_, _<_};
 ghost use Rattle.rowset.specs.Columns.{width, inColumns};
 ghost use Rattle.rowset.specs.Counts.{equalRight, readWithin};
+ghost use Rattle.rowset.specs.Integers.{fromBits, integerIn};
 ghost use Rattle.rowset.specs.Searches.{equalTo, greaterThan, smallest, largest};
 ghost use Rattle.matrix.specs.Matrix.{matrixColumn};
 ghost use Rattle.slice.specs.Slices.{size, component};
 ghost use Rattle.table.specs.Tables.{column};
-ghost use Rattle.lent.specs.steps.Column.{kept, preferred, grown, extreme};
+ghost use Rattle.lent.specs.steps.Column.{kept, preferred, grown, turned, turnedBits, extreme};
 
 // The number of columns of a table, the words of a column and of a table, and the bits of a word.
 const WIDTH: usize = 32;
@@ -148,20 +150,46 @@ pub fn match_from(columns: &[u64], first: usize, w: u32, x: Slice) -> Slice
     found.rows
 }
 
-// GREAT: the selected rows that are greater than w. Beside the rows found greater, g, it carries MATCH's rows that are equal so far, z, and stops where there are none.
-pub fn great_from(columns: &[u64], first: usize, w: u32, x: Slice) -> Slice
-    ensures { λ r. ⌜ component r ≡ greaterThan (inColumns (matrixColumn (now (columns .entry))) first (width - first)) w (component x) ⌝ }
+// Column j + 1 of those that are compared: the first that is read is turned over, since a 1 there is the sign of a negative number.
+fn ordered(columns: &[u64], first: usize, j: usize) -> Slice
+    requires { ⌜ j < 32 ⌝ }
+    ensures { λ r. ⌜ component r ≡ turned first (matrixColumn (now (columns .entry))) (j + 1) ⌝ }
 {
+    let c = matrix::read_column(columns, j + 1);
+    if j == first { slice::not(c) } else { c }
+}
+
+// The digits of w in the columns that are not left out, the first of them turned over.
+fn turned_bits(first: usize, w: u32) -> u32
+    ensures { λ r. ⌜ r ≡ turnedBits (width - first) w ⌝ }
+{
+    if WIDTH <= first {
+        return 0;
+    }
+    let half = 1u64 << (WIDTH - 1 - first);
+    let y = w as u64 % (2 * half);
+    if y < half {
+        (y + half) as u32
+    } else {
+        (y - half) as u32
+    }
+}
+
+// GREAT: the selected rows that are greater than w, of which as many last digits are looked at as there are columns. Beside the rows found greater, g, it carries the rows that are equal so far, z, and stops where there are none.
+pub fn great_from(columns: &[u64], first: usize, w: u32, x: Slice) -> Slice
+    ensures { λ r. ⌜ component r ≡ greaterThan (integerIn (matrixColumn (now (columns .entry))) first (width - first)) (fromBits (width - first) w) (component x) ⌝ }
+{
+    let v = turned_bits(first, w);
     let mut g = Slice::empty();
-    let mut z = begin(first, w, x);
+    let mut z = x;
     let mut j = first;
     while j < WIDTH {
         if slice::zero(z) {
             return g;
         }
         let digit = WIDTH - 1 - j;
-        let b = (w >> digit) % 2 == 1;
-        let c = matrix::read_column(columns, j + 1);
+        let b = (v >> digit) % 2 == 1;
+        let c = ordered(columns, first, j);
         g = grow(g, z, c, b);
         z = keep(z, c, b);
         j += 1;
@@ -171,12 +199,12 @@ pub fn great_from(columns: &[u64], first: usize, w: u32, x: Slice) -> Slice
 
 // MAX where `high` is true and MIN where it is not.
 fn extreme_from(columns: &[u64], first: usize, high: bool, x: Slice) -> Slice
-    ensures { λ r. ⌜ component r ≡ extreme high size (inColumns (matrixColumn (now (columns .entry))) first (width - first)) (component x) ⌝ }
+    ensures { λ r. ⌜ component r ≡ extreme high size (inColumns (turned first (matrixColumn (now (columns .entry)))) first (width - first)) (component x) ⌝ }
 {
     let mut z = x;
     let mut j = first;
     while j < WIDTH {
-        z = prefer(z, matrix::read_column(columns, j + 1), high);
+        z = prefer(z, ordered(columns, first, j), high);
         j += 1;
     }
     z
@@ -184,14 +212,14 @@ fn extreme_from(columns: &[u64], first: usize, high: bool, x: Slice) -> Slice
 
 // MIN: the selected rows than which no selected row is smaller.
 pub fn min_from(columns: &[u64], first: usize, x: Slice) -> Slice
-    ensures { λ r. ⌜ component r ≡ smallest size (inColumns (matrixColumn (now (columns .entry))) first (width - first)) (component x) ⌝ }
+    ensures { λ r. ⌜ component r ≡ smallest size (integerIn (matrixColumn (now (columns .entry))) first (width - first)) (component x) ⌝ }
 {
     extreme_from(columns, first, false, x)
 }
 
 // MAX: the selected rows than which no selected row is larger.
 pub fn max_from(columns: &[u64], first: usize, x: Slice) -> Slice
-    ensures { λ r. ⌜ component r ≡ largest size (inColumns (matrixColumn (now (columns .entry))) first (width - first)) (component x) ⌝ }
+    ensures { λ r. ⌜ component r ≡ largest size (integerIn (matrixColumn (now (columns .entry))) first (width - first)) (component x) ⌝ }
 {
     extreme_from(columns, first, true, x)
 }

@@ -9,7 +9,6 @@ use mathlib.Core.Path.{_≡_, refl, sym, _∙_, ap, subst, fun-ext}
 use native.Mathlib.Decide.{ℕ-discrete}
 use native.Mathlib.Nat.{add-zero, eq-or-lt-of-le}
 use native.Mathlib.Omega.{arith}
-use Rattle.rowset.specs.Searches.{smallest}
 use Rattle.rowset.specs.Sets.{empty, upTo, both, put, takeOut, oneOf, any, firstOf, uppermost, sum, count, odd}
 
 -- ── Reasoning by cases and by induction ──
@@ -401,17 +400,3 @@ module _ {A : Type 0} (c : A → A → Bool) (m : ℕ) (f : ℕ → A) (X : ℕ 
       last : P m → any m (extreme c m f X) ≡ true
       last (inl h) = clash e (none-any m X h)
       last (inr (i, l, u, x, h)) = any-some m i (extreme c m f X) l u (in-extreme i x h)
-
--- the rows of least weight
-module _ (m : ℕ) (w : ℕ → ℕ) (X : ℕ → Bool) where
-  pub smallest-in : (i : ℕ) → smallest m w X i ≡ true → X i ≡ true
-  unfolding smallest extreme
-  smallest-in = extreme-in ltb m w X
-
-  pub smallest-least : (i k : ℕ) → smallest m w X i ≡ true → 1 ≤ k → k ≤ m → X k ≡ true → w i ≤ w k
-  unfolding smallest extreme
-  smallest-least i k e l u h = ltb-false (w k) (w i) (extreme-first ltb m w X i k e l u h)
-
-  pub smallest-exists : any m X ≡ true → any m (smallest m w X) ≡ true
-  unfolding smallest extreme
-  smallest-exists = extreme-exists ltb m w X (λ a. le-ltb a a (omega arith)) (λ a b d s t. lt-ltb a d (omega (arith, ltb-true a b s, ltb-true b d t)))

@@ -1,6 +1,5 @@
 -- The integers that bits stand for in two's complement.
--- Main statements: the order of the integers is that of the bits with the first one turned over (signed-order), so each search over the integers
--- is one over those bits (great-flipped, min-flipped, max-flipped); a sum of the integers is the sum of those bits' numbers less 2 ^ 31 for
+-- Main statements: the order of the integers is that of the bits with the first one turned over (signed-order); a sum of the integers is the sum of those bits' numbers less 2 ^ 31 for
 -- each (total-flipped); integers within k bits read back (bits-back), and 64 bits hold the sum of up to 2 ^ 32 integers of 32 bits (total-small, total-fits).
 -- Assumes nothing.
 use Prim.Native.Nat.{ℕ, zero, suc, _+_, _*_, _-_, _%_, _^_, _≤_, _<_}
@@ -13,9 +12,7 @@ use mathlib.Core.Path.{_≡_, refl, _∙_, ap, fun-ext}
 use native.Mathlib.Nat.{mod-eq-of-lt, pow-suc}
 use native.Mathlib.Omega.{arith}
 use Rattle.rowset.proofs.Integers.{up, down, integers, pos-parts, minus, difference, lt-ltZ, le-ltZ, total-parts}
-use Rattle.rowset.proofs.Laws.{any-ext, extreme}
 use Rattle.rowset.specs.Integers.{fromBits, toBits, signed, total}
-use Rattle.rowset.specs.Searches.{greaterThanℤ, smallestℤ, largestℤ}
 use Rattle.rowset.specs.Sets.{sum, count}
 use Rattle.rowset.specs.steps.Flipped.{flipped}
 
@@ -48,26 +45,6 @@ signed-order a b = go (ltb (flipped a) (flipped b)) refl
     go true e = lt-ltZ (signed a) (signed b) (omega (arith, integers, ltb-true (flipped a) (flipped b) e, signed-parts a, signed-parts b))
     go false e = le-ltZ (signed a) (signed b) (omega (arith, integers, ltb-false (flipped a) (flipped b) e, signed-parts a, signed-parts b))
 
--- ── The searches over the integers are those over the bits with the first one turned over ──
-
--- two orders that agree on the rows put the same rows first
-extreme-order : {A B : Type 0} (c : A → A → Bool) (d : B → B → Bool) (m : ℕ) (f : ℕ → A) (g : ℕ → B) (X : ℕ → Bool) → ((i k : ℕ) → c (f i) (f k) ≡ d (g i) (g k)) → extreme c m f X ≡ extreme d m g X
-unfolding extreme
-extreme-order c d m f g X h = fun-ext (λ i. ap (λ b. X i && not b) (any-ext m (λ k. X k && c (f k) (f i)) (λ k. X k && d (g k) (g i)) (λ k l u. rw (h k i))))
-
-module _ (f : ℕ → ℕ) (X : ℕ → Bool) where
-  pub great-flipped : (w : ℕ) (i : ℕ) → greaterThanℤ (λ k. signed (f k)) (signed w) X i ≡ (X i && ltb (flipped w) (flipped (f i)))
-  unfolding greaterThanℤ
-  great-flipped w i = rw (signed-order w (f i))
-
-  pub min-flipped : (m : ℕ) → smallestℤ m (λ k. signed (f k)) X ≡ extreme ltb m (λ k. flipped (f k)) X
-  unfolding smallestℤ extreme
-  min-flipped m = extreme-order ltZ ltb m (λ k. signed (f k)) (λ k. flipped (f k)) X (λ i k. signed-order (f i) (f k))
-
-  pub max-flipped : (m : ℕ) → largestℤ m (λ k. signed (f k)) X ≡ extreme (λ a b. ltb b a) m (λ k. flipped (f k)) X
-  unfolding largestℤ extreme
-  max-flipped m = extreme-order (λ a b. ltZ b a) (λ a b. ltb b a) m (λ k. signed (f k)) (λ k. flipped (f k)) X (λ i k. signed-order (f k) (f i))
-
 -- ── Sums ──
 
 -- a sum of the integers is the sum of the flipped bits' numbers, less 2 ^ 31 for each position
@@ -95,7 +72,7 @@ total-flipped m f p =
 -- ── What 64 bits hold ──
 
 -- the integer of k bits whose number is below 2 ^ k
-small-bits : (k x : ℕ) → x < 2 ^ k → fromBits k x ≡ cond (ltb (2 * x) (2 ^ k)) (pos x) (pos x -ℤ pos (2 ^ k))
+pub small-bits : (k x : ℕ) → x < 2 ^ k → fromBits k x ≡ cond (ltb (2 * x) (2 ^ k)) (pos x) (pos x -ℤ pos (2 ^ k))
 unfolding fromBits
 small-bits k x h = rw (mod-eq-of-lt h)
 

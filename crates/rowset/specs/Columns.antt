@@ -2,7 +2,7 @@
 -- Assumes nothing.
 use Prim.Native.Nat.{ℕ, zero, suc, _+_, _*_}
 use mathlib.Core.Bool.{Bool, cond}
-use Rattle.rowset.specs.Sets.{any}
+use Rattle.rowset.specs.Sets.{oneOf, any}
 
 -- the number of columns of a table
 abbrev pub width : ℕ
@@ -13,7 +13,8 @@ unfoldable pub inColumns : (ℕ → ℕ → Bool) → ℕ → ℕ → ℕ → �
 inColumns c j zero i = 0
 inColumns c j (suc k) i = 2 * inColumns c j k i + cond (c (j + suc k) i) 1 0
 
--- of the k columns after column j, the number of those before the first that has a row of 1 to m; all k where none has
-unfoldable pub emptyColumns : ℕ → (ℕ → ℕ → Bool) → ℕ → ℕ → ℕ
-emptyColumns m c j zero = 0
-emptyColumns m c j (suc k) = cond (any m (c (suc j))) 0 (suc (emptyColumns m c (suc j) k))
+-- of the k columns after column j, the number of those before the first that differs from column 1 at a row of 1 to m; all k where none does.
+-- The columns on the left that equal column 1 carry nothing but the sign, and all of them but the last may be left out
+unfoldable pub repeatedColumns : ℕ → (ℕ → ℕ → Bool) → ℕ → ℕ → ℕ
+repeatedColumns m c j zero = 0
+repeatedColumns m c j (suc k) = cond (any m (oneOf (c 1) (c (suc j)))) 0 (suc (repeatedColumns m c (suc j) k))

@@ -4,6 +4,7 @@ use Prim.Native.Nat.{ℕ, zero, suc, _*_, _-_, _%_, _^_}
 use mathlib.Core.Bool.{Bool, cond}
 use lib.Dec.{ltb}
 use lib.IntN.{ℤ, pos, negsuc, _+ℤ_, _-ℤ_}
+use Rattle.rowset.specs.Columns.{inColumns}
 
 -- the integer that the last k bits of x stand for in two's complement: their number y, less 2 ^ k where the first of them is 1
 unfoldable pub fromBits : ℕ → ℕ → ℤ
@@ -15,6 +16,10 @@ fromBits k x =
 unfoldable pub toBits : ℕ → ℤ → ℕ
 toBits k (pos n) = n
 toBits k (negsuc n) = 2 ^ k - suc n
+
+-- the integer that row i holds in the k columns after column j
+unfoldable pub integerIn : (ℕ → ℕ → Bool) → ℕ → ℕ → ℕ → ℤ
+integerIn c j k i = fromBits k (inColumns c j k i)
 
 -- the integer that 32 bits stand for: below 2,147,483,648 the number of the bits itself, otherwise less 4,294,967,296
 abbrev pub signed : ℕ → ℤ

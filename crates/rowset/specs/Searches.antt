@@ -1,12 +1,12 @@
--- The four searches of the machine, over any rows f (the number in each row) and any selection X: each looks only at the rows that X selects.
--- At the end, which rows each of them gives, in words. Assumes nothing.
-use Prim.Native.Nat.{ℕ, _≤_, _<_}
+-- The four searches of the machine over any selection X: each looks only at the rows that X selects. MATCH is over the numbers of the rows' bits;
+-- GREAT, MIN and MAX follow the order of the integers that the bits stand for. At the end, which rows each of them gives, in words. Assumes nothing.
+use Prim.Native.Nat.{ℕ, _≤_}
 use mathlib.Core.Bool.{Bool, true, not, _&&_}
 use mathlib.Core.Logic.{_↔_}
 use mathlib.Core.Path.{_≡_}
-use lib.Dec.{ltb, eqb}
+use lib.Dec.{eqb}
 use lib.IntN.{ℤ}
-use lib.Signed.{ltZ}
+use lib.Signed.{ltZ, _≤ℤ_, _<ℤ_}
 use Rattle.rowset.specs.Sets.{any}
 
 -- MATCH: the selected rows that equal w
@@ -14,38 +14,28 @@ unfoldable pub equalTo : (ℕ → ℕ) → ℕ → (ℕ → Bool) → ℕ → Bo
 equalTo f w X i = X i && eqb (f i) w
 
 -- GREAT: the selected rows that are greater than w
-unfoldable pub greaterThan : (ℕ → ℕ) → ℕ → (ℕ → Bool) → ℕ → Bool
-greaterThan f w X i = X i && ltb w (f i)
+unfoldable pub greaterThan : (ℕ → ℤ) → ℤ → (ℕ → Bool) → ℕ → Bool
+greaterThan f w X i = X i && ltZ w (f i)
 
 -- MIN: the selected rows than which no selected row of 1 to m is smaller
-unfoldable pub smallest : ℕ → (ℕ → ℕ) → (ℕ → Bool) → ℕ → Bool
-smallest m f X i = X i && not (any m (λ k. X k && ltb (f k) (f i)))
+unfoldable pub smallest : ℕ → (ℕ → ℤ) → (ℕ → Bool) → ℕ → Bool
+smallest m f X i = X i && not (any m (λ k. X k && ltZ (f k) (f i)))
 
 -- MAX: the selected rows than which no selected row of 1 to m is larger
-unfoldable pub largest : ℕ → (ℕ → ℕ) → (ℕ → Bool) → ℕ → Bool
-largest m f X i = X i && not (any m (λ k. X k && ltb (f i) (f k)))
+unfoldable pub largest : ℕ → (ℕ → ℤ) → (ℕ → Bool) → ℕ → Bool
+largest m f X i = X i && not (any m (λ k. X k && ltZ (f i) (f k)))
 
--- GREAT, MIN and MAX over rows of integers
-unfoldable pub greaterThanℤ : (ℕ → ℤ) → ℤ → (ℕ → Bool) → ℕ → Bool
-greaterThanℤ f w X i = X i && ltZ w (f i)
-
-unfoldable pub smallestℤ : ℕ → (ℕ → ℤ) → (ℕ → Bool) → ℕ → Bool
-smallestℤ m f X i = X i && not (any m (λ k. X k && ltZ (f k) (f i)))
-
-unfoldable pub largestℤ : ℕ → (ℕ → ℤ) → (ℕ → Bool) → ℕ → Bool
-largestℤ m f X i = X i && not (any m (λ k. X k && ltZ (f i) (f k)))
-
--- exactly which rows i each search gives, where the positions are 1 to m
-pub record Gives (m : ℕ) (f : ℕ → ℕ) (X : ℕ → Bool) (i : ℕ) : Type 0 where
+-- exactly which rows i each search gives, where the positions are 1 to m, the rows' bits are the numbers r and stand for the integers f
+pub record Gives (m : ℕ) (r : ℕ → ℕ) (f : ℕ → ℤ) (X : ℕ → Bool) (i : ℕ) : Type 0 where
   -- MATCH with w: row i is selected and equals w
-  pub of-match : (w : ℕ) → (equalTo f w X i ≡ true) ↔ ((X i ≡ true) × (f i ≡ w))
+  pub of-match : (w : ℕ) → (equalTo r w X i ≡ true) ↔ ((X i ≡ true) × (r i ≡ w))
   -- GREAT with w: row i is selected and is greater than w
-  pub of-great : (w : ℕ) → (greaterThan f w X i ≡ true) ↔ ((X i ≡ true) × (w < f i))
+  pub of-great : (w : ℤ) → (greaterThan f w X i ≡ true) ↔ ((X i ≡ true) × (w <ℤ f i))
   -- MIN: row i is selected, and no selected row is smaller
-  pub of-min : (smallest m f X i ≡ true) ↔ ((X i ≡ true) × ((k : ℕ) → 1 ≤ k → k ≤ m → X k ≡ true → f i ≤ f k))
+  pub of-min : (smallest m f X i ≡ true) ↔ ((X i ≡ true) × ((k : ℕ) → 1 ≤ k → k ≤ m → X k ≡ true → f i ≤ℤ f k))
   -- MAX: row i is selected, and no selected row is larger
-  pub of-max : (largest m f X i ≡ true) ↔ ((X i ≡ true) × ((k : ℕ) → 1 ≤ k → k ≤ m → X k ≡ true → f k ≤ f i))
+  pub of-max : (largest m f X i ≡ true) ↔ ((X i ≡ true) × ((k : ℕ) → 1 ≤ k → k ≤ m → X k ≡ true → f k ≤ℤ f i))
 
 -- The theorem that the four definitions mean what the document says of the searches; its proof is proofs/Searches.antt.
 abbrev pub SearchesInWords : Type 0
-SearchesInWords = (m : ℕ) (f : ℕ → ℕ) (X : ℕ → Bool) (i : ℕ) → Gives m f X i
+SearchesInWords = (m : ℕ) (r : ℕ → ℕ) (f : ℕ → ℤ) (X : ℕ → Bool) (i : ℕ) → Gives m r f X i

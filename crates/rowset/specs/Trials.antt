@@ -5,9 +5,11 @@ use mathlib.Core.Bool.{Bool, cond}
 use mathlib.Core.List.{List, [], _∷_, _++_}
 use mathlib.Core.Path.{_≡_}
 use lib.Dec.{eqb}
+use lib.IntN.{ℤ, pos, negsuc}
 use lib.ListN.{getD, replicate}
 use Rattle.rowset.specs.Bytes.{little, inRow}
-use Rattle.rowset.specs.Columns.{width, inColumns, emptyColumns}
+use Rattle.rowset.specs.Columns.{width, inColumns, repeatedColumns}
+use Rattle.rowset.specs.Integers.{fromBits, toBits, integerIn, signed, total}
 use Rattle.rowset.specs.Counts.{readWithin, columnsRead}
 use Rattle.rowset.specs.Searches.{equalTo, greaterThan, smallest, largest}
 use Rattle.rowset.specs.Sets.{empty, upTo, both, either, oneOf, without, put, takeOut, any, firstOf, uppermost, sum, count, odd}
@@ -75,27 +77,63 @@ rows i = getD (9 ∷ 5 ∷ 3 ∷ 5 ∷ 4 ∷ 3 ∷ []) i 0
 abbrev five : ℕ → Bool
 five = upTo 5
 
+-- the same rows as integers; and rows -1, -2,147,483,648, 0, 2,147,483,647, -1
+abbrev numbers : ℕ → ℤ
+numbers i = pos (rows i)
+
+abbrev mixed : ℕ → ℤ
+mixed i = signed (getD (9 ∷ 4294967295 ∷ 2147483648 ∷ 0 ∷ 2147483647 ∷ 4294967295 ∷ []) i 0)
+
 abbrev SearchesHold : Type 0
 SearchesHold =
     (
     -- MATCH: two rows equal, one of them selected, none equal, an unloaded row, Θ
     members 8 (equalTo rows 5 five) ∷ members 8 (equalTo rows 5 (these (2 ∷ 3 ∷ []))) ∷ members 8 (equalTo rows 6 five) ∷ members 8 (equalTo rows 0 (upTo 6)) ∷ members 8 (equalTo rows 5 empty)
     -- GREAT: not the rows equal to w
-    ∷ members 8 (greaterThan rows 3 five) ∷ members 8 (greaterThan rows 4 five) ∷ members 8 (greaterThan rows 5 five) ∷ members 8 (greaterThan rows 0 (upTo 6)) ∷ members 8 (greaterThan rows 3 (these (2 ∷ 4 ∷ []))) ∷ members 8 (greaterThan rows 0 empty)
+    ∷ members 8 (greaterThan numbers (pos 3) five) ∷ members 8 (greaterThan numbers (pos 4) five) ∷ members 8 (greaterThan numbers (pos 5) five) ∷ members 8 (greaterThan numbers (pos 0) (upTo 6)) ∷ members 8 (greaterThan numbers (pos 3) (these (2 ∷ 4 ∷ []))) ∷ members 8 (greaterThan numbers (pos 0) empty)
     -- MIN: two rows of least number, one, all that are selected, an unloaded row, Θ
-    ∷ members 8 (smallest 8 rows five) ∷ members 8 (smallest 8 rows (these (1 ∷ 3 ∷ 4 ∷ []))) ∷ members 8 (smallest 8 rows (these (1 ∷ 3 ∷ []))) ∷ members 8 (smallest 8 rows (upTo 6)) ∷ members 8 (smallest 8 rows empty)
+    ∷ members 8 (smallest 8 numbers five) ∷ members 8 (smallest 8 numbers (these (1 ∷ 3 ∷ 4 ∷ []))) ∷ members 8 (smallest 8 numbers (these (1 ∷ 3 ∷ []))) ∷ members 8 (smallest 8 numbers (upTo 6)) ∷ members 8 (smallest 8 numbers empty)
     -- MAX, likewise
-    ∷ members 8 (largest 8 rows five) ∷ members 8 (largest 8 rows (these (2 ∷ 4 ∷ 5 ∷ []))) ∷ members 8 (largest 8 rows (these (2 ∷ 5 ∷ []))) ∷ members 8 (largest 8 rows (these (6 ∷ 7 ∷ []))) ∷ members 8 (largest 8 rows empty)
+    ∷ members 8 (largest 8 numbers five) ∷ members 8 (largest 8 numbers (these (2 ∷ 4 ∷ 5 ∷ []))) ∷ members 8 (largest 8 numbers (these (2 ∷ 5 ∷ []))) ∷ members 8 (largest 8 numbers (these (6 ∷ 7 ∷ []))) ∷ members 8 (largest 8 numbers empty)
+    -- the order of the integers: GREAT with -2, -1, 0 and the least; MIN and MAX
+    ∷ members 8 (greaterThan mixed (negsuc 1) five) ∷ members 8 (greaterThan mixed (negsuc 0) five) ∷ members 8 (greaterThan mixed (pos 0) five) ∷ members 8 (greaterThan mixed (negsuc 2147483647) five)
+    ∷ members 8 (smallest 8 mixed five) ∷ members 8 (smallest 8 mixed (these (1 ∷ 3 ∷ 4 ∷ 5 ∷ []))) ∷ members 8 (largest 8 mixed five) ∷ members 8 (largest 8 mixed (these (1 ∷ 2 ∷ 5 ∷ [])))
     -- the last of 1 to m is compared with
-    ∷ members 8 (smallest 4 rows (these (3 ∷ 4 ∷ []))) ∷ members 8 (largest 3 rows (these (2 ∷ 3 ∷ [])))
+    ∷ members 8 (smallest 4 numbers (these (3 ∷ 4 ∷ []))) ∷ members 8 (largest 3 numbers (these (2 ∷ 3 ∷ [])))
     ∷ [])
     ≡ (
     (1 ∷ 3 ∷ []) ∷ (3 ∷ []) ∷ [] ∷ (6 ∷ []) ∷ []
     ∷ (1 ∷ 3 ∷ 4 ∷ []) ∷ (1 ∷ 3 ∷ []) ∷ [] ∷ (1 ∷ 2 ∷ 3 ∷ 4 ∷ 5 ∷ []) ∷ (4 ∷ []) ∷ []
     ∷ (2 ∷ 5 ∷ []) ∷ (4 ∷ []) ∷ (1 ∷ 3 ∷ []) ∷ (6 ∷ []) ∷ []
     ∷ (1 ∷ 3 ∷ []) ∷ (4 ∷ []) ∷ (2 ∷ 5 ∷ []) ∷ (6 ∷ 7 ∷ []) ∷ []
+    ∷ (1 ∷ 3 ∷ 4 ∷ 5 ∷ []) ∷ (3 ∷ 4 ∷ []) ∷ (4 ∷ []) ∷ (1 ∷ 3 ∷ 4 ∷ 5 ∷ [])
+    ∷ (2 ∷ []) ∷ (1 ∷ 5 ∷ []) ∷ (4 ∷ []) ∷ (1 ∷ 5 ∷ [])
     ∷ (4 ∷ []) ∷ (3 ∷ [])
     ∷ [])
+
+-- ── Integers ──
+
+-- the bit columns of the rows 5, 3, 5, 4, 65,541 and 4,294,967,295; the rows after them are unloaded
+abbrev columns : ℕ → ℕ → Bool
+columns j i = eqb (getD (5 ∷ 3 ∷ 5 ∷ 4 ∷ 65541 ∷ 4294967295 ∷ []) (i - 1) 0 / 2 ^ (32 - j) % 2) 1
+
+-- bits that stand for an integer: of 32, of 3 and of none; the bits of an integer; what rows hold in columns; sums
+abbrev IntegersHold : Type 0
+IntegersHold =
+    (
+    signed 0 ∷ signed 2147483647 ∷ signed 2147483648 ∷ signed 4294967295 ∷ signed 4294967296 ∷ fromBits 3 3 ∷ fromBits 3 4 ∷ fromBits 3 15 ∷ fromBits 0 5
+    ∷ integerIn columns 0 width 6 ∷ integerIn columns 29 3 1 ∷ integerIn columns 29 3 2 ∷ integerIn columns 28 4 1 ∷ integerIn columns 31 1 1
+    ∷ total 5 mixed five ∷ total 4 mixed five ∷ total 5 mixed (these (1 ∷ 4 ∷ [])) ∷ total 5 mixed empty ∷ total 0 mixed five
+    ∷ [])
+    ≡ (pos 0 ∷ pos 2147483647 ∷ negsuc 2147483647 ∷ negsuc 0 ∷ pos 0 ∷ pos 3 ∷ negsuc 3 ∷ negsuc 0 ∷ pos 0
+    ∷ negsuc 0 ∷ negsuc 2 ∷ pos 3 ∷ pos 5 ∷ negsuc 0
+    ∷ negsuc 2 ∷ negsuc 1 ∷ pos 2147483646 ∷ pos 0 ∷ pos 0
+    ∷ [])
+
+abbrev BitsHold : Type 0
+BitsHold =
+    (toBits 64 (pos 5) ∷ toBits 64 (negsuc 0) ∷ toBits 3 (negsuc 3) ∷ toBits 3 (pos 0) ∷ [])
+    ≡ (5 ∷ 18446744073709551615 ∷ 4 ∷ 0 ∷ [])
 
 -- ── Byte columns ──
 
@@ -139,10 +177,6 @@ WordsHold =
 
 -- ── Bit columns, and the number of them that MATCH reads ──
 
--- the bit columns of the rows 5, 3, 5, 4, 65,541 and 4,294,967,295; the rows after them are unloaded
-abbrev columns : ℕ → ℕ → Bool
-columns j i = eqb (getD (5 ∷ 3 ∷ 5 ∷ 4 ∷ 65541 ∷ 4294967295 ∷ []) (i - 1) 0 / 2 ^ (32 - j) % 2) 1
-
 abbrev ColumnsHold : Type 0
 ColumnsHold =
     (
@@ -150,12 +184,12 @@ ColumnsHold =
     inColumns columns 0 width 1 ∷ inColumns columns 0 width 2 ∷ inColumns columns 0 width 5 ∷ inColumns columns 0 width 6 ∷ inColumns columns 0 width 8
     -- row 1 in the last two and in the first 30, row 2 in columns 30 and 31, row 6 in column 1, in column 32 and in none
     ∷ inColumns columns 30 2 1 ∷ inColumns columns 0 30 1 ∷ inColumns columns 29 2 2 ∷ inColumns columns 0 1 6 ∷ inColumns columns 31 1 6 ∷ inColumns columns 4 0 6
-    -- columns with no row: none, up to column 15, up to column 29, those after column 10, all of the first 20, none after column 29, all
-    ∷ emptyColumns 8 columns 0 width ∷ emptyColumns 5 columns 0 width ∷ emptyColumns 4 columns 0 width ∷ emptyColumns 4 columns 10 22 ∷ emptyColumns 4 columns 0 20 ∷ emptyColumns 4 columns 29 3 ∷ emptyColumns 0 columns 0 width
+    -- columns that repeat column 1: up to the first of row 5, beside a row of -1 and without it, up to the first of rows 1 and 3, those after column 10, of the first 20, none after column 29, all
+    ∷ repeatedColumns 8 columns 1 31 ∷ repeatedColumns 5 columns 1 31 ∷ repeatedColumns 4 columns 1 31 ∷ repeatedColumns 4 columns 10 22 ∷ repeatedColumns 4 columns 1 19 ∷ repeatedColumns 4 columns 29 3 ∷ repeatedColumns 0 columns 1 31
     ∷ [])
     ≡ (5 ∷ 3 ∷ 65541 ∷ 4294967295 ∷ 0
     ∷ 1 ∷ 1 ∷ 1 ∷ 1 ∷ 1 ∷ 0
-    ∷ 0 ∷ 15 ∷ 29 ∷ 19 ∷ 20 ∷ 0 ∷ 32
+    ∷ 14 ∷ 14 ∷ 28 ∷ 19 ∷ 19 ∷ 0 ∷ 31
     ∷ [])
 
 -- the columns that MATCH reads for w, where X selects from eight rows
@@ -187,4 +221,4 @@ CountsHold =
 
 -- all trials of this crate
 abbrev pub TrialsHold : Type 0
-TrialsHold = SetsHold × NumbersHold × SearchesHold × BytesHold × WordsHold × ColumnsHold × CountsHold
+TrialsHold = SetsHold × NumbersHold × SearchesHold × IntegersHold × BitsHold × BytesHold × WordsHold × ColumnsHold × CountsHold

@@ -1,1 +1,1 @@
-pub mod Blanks
+pub mod Signs

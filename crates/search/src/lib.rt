@@ -1,11 +1,12 @@
 // The searches MATCH, MIN, MAX and GREAT over the rows of a table that a slice selects. Their loops stand in the crate `lent`, over columns that are lent, where the first columns may be left out.
-// What a row holds in the others is the row itself where the columns left out are Θ, `empty_columns` of them (the law `empty-row`), or where every row is below 2 ^ (32 - first) (the law `small-row`).
+// What a row holds in the others is the row itself, for MATCH, where every row is below 2 ^ (32 - first) (the law `small-row`); the integer is the row's, for GREAT, MIN and MAX, where `sign_columns` are left out (the law `sign-row`).
 use lent::Matched;
 use slice::Slice;
 use table::Table;
 ghost use mathlib.Core.Path.{_≡_};
-ghost use Rattle.rowset.specs.Columns.{width, emptyColumns};
+ghost use Rattle.rowset.specs.Columns.{repeatedColumns};
 ghost use Rattle.rowset.specs.Counts.{columnsRead};
+ghost use Rattle.rowset.specs.Integers.{signed};
 ghost use Rattle.rowset.specs.Searches.{equalTo, greaterThan, smallest, largest};
 ghost use Rattle.slice.specs.Slices.{size, component};
 ghost use Rattle.table.specs.Tables.{column, row};
@@ -13,18 +14,19 @@ ghost use Rattle.table.specs.Tables.{column, row};
 // The number of columns of a table.
 const WIDTH: usize = 32;
 
-// The number of columns on the left that are Θ, before the first that is not.
-pub fn empty_columns(t: Table) -> usize
-    ensures { λ r. ⌜ r ≡ emptyColumns size (column t) 0 width ⌝ }
+// The number of columns on the left that GREAT, MIN and MAX may leave out: those before the last of the columns on the left that equal column 1.
+pub fn sign_columns(t: Table) -> usize
+    ensures { λ r. ⌜ r ≡ repeatedColumns size (column t) 1 31 ⌝ }
 {
-    let mut j = 0;
+    let sign = t.columns[0];
+    let mut j = 1;
     while j < WIDTH {
-        if slice::some(t.columns[j]) {
-            return j;
+        if slice::some(slice::xor(sign, t.columns[j])) {
+            return j - 1;
         }
         j += 1;
     }
-    j
+    j - 1
 }
 
 // MATCH: the selected rows that equal w.
@@ -44,25 +46,25 @@ pub fn match_count(t: Table, w: u32, x: Slice) -> Matched
     lent::match_right(&stored.columns, 0, w, x)
 }
 
-// GREAT: the selected rows that are greater than w.
+// GREAT: the selected rows that are greater than w, in the order of the integers that 32 bits stand for.
 pub fn great(t: Table, w: u32, x: Slice) -> Slice
-    ensures { λ r. ⌜ component r ≡ greaterThan (row t) w (component x) ⌝ }
+    ensures { λ r. ⌜ component r ≡ greaterThan (λ i. signed (row t i)) (signed w) (component x) ⌝ }
 {
     let stored = lent::columns_of(t);
     lent::great_from(&stored.columns, 0, w, x)
 }
 
-// MIN: the selected rows than which no selected row is smaller.
+// MIN: the selected rows than which no selected row is smaller, in that order.
 pub fn min(t: Table, x: Slice) -> Slice
-    ensures { λ r. ⌜ component r ≡ smallest size (row t) (component x) ⌝ }
+    ensures { λ r. ⌜ component r ≡ smallest size (λ i. signed (row t i)) (component x) ⌝ }
 {
     let stored = lent::columns_of(t);
     lent::min_from(&stored.columns, 0, x)
 }
 
-// MAX: the selected rows than which no selected row is larger.
+// MAX: the selected rows than which no selected row is larger, in that order.
 pub fn max(t: Table, x: Slice) -> Slice
-    ensures { λ r. ⌜ component r ≡ largest size (row t) (component x) ⌝ }
+    ensures { λ r. ⌜ component r ≡ largest size (λ i. signed (row t i)) (component x) ⌝ }
 {
     let stored = lent::columns_of(t);
     lent::max_from(&stored.columns, 0, x)

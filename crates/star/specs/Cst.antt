@@ -6,7 +6,7 @@ use mathlib.Core.Bool.{Bool, _&&_}
 use mathlib.Core.Option.{Option, none, some}
 use Rattle.refusal.specs.declared.Refusal.{Refusal}
 use Rattle.rowset.specs.Bytes.{inRow}
-use Rattle.rowset.specs.Searches.{greaterThanℤ}
+use Rattle.rowset.specs.Searches.{greaterThan}
 use Rattle.rowset.specs.Sets.{upTo, oneOf, without, any, uppermost}
 use Rattle.star.specs.Call.{Call, rowsOf, weightOf, marked, claimWeight}
 use Rattle.star.specs.MatrixPath.{pathColumn}
@@ -24,7 +24,7 @@ between c i = oneOf (pathColumn c 1 (inRow 1 (c .left) i)) (pathColumn c 1 (inRo
 
 -- the rows on that path that are heavier than row i
 unfoldable pub heavier : Call → ℕ → ℕ → Bool
-heavier c i = greaterThanℤ (weightOf c) (weightOf c i) (between c i)
+heavier c i = greaterThan (weightOf c) (weightOf c i) (between c i)
 
 -- row i is unmarked, and a heavier row lies on the path between its ends
 unfoldable pub improves : Call → ℕ → Bool

@@ -1,5 +1,5 @@
--- `lent::extreme_from` meets its contract. The loop's invariant: z has the rows of x that come first in the columns read. The measure is what is left of the columns.
--- Assumes nothing.
+-- `lent::extreme_from` meets its contract. The loop's invariant: z has the rows of x that come first in the columns read, of which the first is turned over.
+-- The measure is what is left of the columns. Assumes nothing.
 use Prim.Native.Nat.{_-_}
 use native.Mathlib.Omega.{arith}
 use borrow.Author.Needs.{needs}
@@ -7,9 +7,10 @@ use Rattle.matrix.specs.Matrix.{matrixColumn}
 use Rattle.lent.proofs.Loops.{Sought, sought-start, sought-more, sought-all}
 use Rattle.lent.proofs.extreme_from.Statement.{statement}
 use Rattle.lent.proofs.extreme_from.Tie as tie
+use Rattle.lent.specs.steps.Column.{turned}
 
 abbrev Inv-loop : tie.InvT-loop
-Inv-loop words first high z₀ j₀ z j = Sought (matrixColumn words) first high z₀ z j
+Inv-loop words first high z₀ j₀ z j = Sought (turned first (matrixColumn words)) first high z₀ z j
 
 abbrev μ-loop : tie.MeasureT-loop
 μ-loop words first high z₀ j₀ z j = 32 - j
@@ -22,10 +23,9 @@ extreme-from-spec =
     Inv-loop
     μ-loop
     (λ c. sought-start _ _ _ _)
-    (λ c. omega arith)
-    (λ c. omega arith)
+    (λ c κs. omega arith)
     (λ c κs. search needs)
     (λ c. omega arith)
     (λ c. omega arith)
-    (λ c. sought-more _ _ _ _ _ _ _ (omega arith) (rw (c .before .read-column .ensures) at (c .prefer .ensures)) (c .before .before .before .loop .inv))
+    (λ c. sought-more _ _ _ _ _ _ _ (omega arith) (rw (c .before .ordered .ensures) at (c .prefer .ensures)) (c .before .before .before .loop .inv))
     (λ c. sought-all _ _ _ _ _ _ (omega arith) (c .before .loop .inv)))

@@ -1,4 +1,4 @@
--- `lent::great_from` meets its contract. The loop's invariant: z has the rows that equal w in the columns read, if it began so, and g those that are greater there.
+-- `lent::great_from` meets its contract. The loop's invariant: z has the rows that equal v in the columns read, of which the first is turned over, and g those that are greater there.
 -- The measure is what is left of the columns. Assumes nothing.
 use Prim.Native.Nat.{_-_}
 use native.Mathlib.Omega.{arith}
@@ -7,32 +7,40 @@ use borrow.Author.Tests.{not-true}
 use mathlib.Core.Path.{sym, _∙_}
 use Rattle.rowset.specs.Columns.{inColumns}
 use Rattle.matrix.specs.Matrix.{matrixColumn}
-use Rattle.lent.proofs.Loops.{Compared, compared-start, compared-more, compared-none, compared-all}
+use Rattle.lent.proofs.Loops.{Compared, compared-start, compared-more, compared-none, compared-all, component-in}
+use Rattle.lent.proofs.Signs.{great-turned, all-equal}
 use Rattle.lent.proofs.great_from.Statement.{statement}
 use Rattle.lent.proofs.great_from.Tie as tie
+use Rattle.lent.proofs.great_from.Reads as reads
+use Rattle.lent.proofs.great_from.Lts as lts
+use Rattle.lent.specs.steps.Column.{turned}
 
 abbrev Inv-loop : tie.InvT-loop
-Inv-loop words first w g₀ z₀ j₀ g z j = Compared (matrixColumn words) first w z₀ g z j
+Inv-loop words first w v g₀ z₀ j₀ g z j = Compared (turned first (matrixColumn words)) first v z₀ g z j
 
 abbrev μ-loop : tie.MeasureT-loop
-μ-loop words first w g₀ z₀ j₀ g z j = 32 - j
+μ-loop words first w v g₀ z₀ j₀ g z j = 32 - j
 
 returns : tie.Need-returns Inv-loop μ-loop
 unfolding inColumns
 returns c =
     let empty = not-true _ (sym (c .before .zero .ensures) ∙ c .if1 .taken) in
-    compared-none _ _ _ _ _ _ _ _ (omega arith) empty (c .before .before .before .before .begin .ensures) (c .before .before .before .loop .inv)
+    let v = c .before .before .before .before .before .turned-bits .ensures in
+    compared-none _ _ _ _ _ _ _ _ (omega arith) empty (all-equal _ _ _ v) (c .before .before .before .loop .inv)
+    ∙ great-turned _ _ _ (component-in _) _ _ v
 
 returns-2 : tie.Need-returns-2 Inv-loop μ-loop
 unfolding inColumns
-returns-2 c = compared-all _ _ _ _ _ _ _ _ (omega arith) (c .before .before .begin .ensures) (c .before .loop .inv)
+returns-2 c =
+    let v = c .before .before .before .turned-bits .ensures in
+    compared-all _ _ _ _ _ _ _ _ (omega arith) (all-equal _ _ _ v) (c .before .loop .inv)
+    ∙ great-turned _ _ _ (component-in _) _ _ v
 
 loop-again : tie.Need-loop-again Inv-loop μ-loop
 loop-again c =
-    let read = c .before .before .read-column .ensures in
+    let read = c .before .before .ordered .ensures in
     compared-more _ _ _ _ _ _ _ _ _ (omega arith) (rw read at (c .before .grow .ensures)) (rw read at (c .keep .ensures)) (c .before .before .before .before .before .before .loop .inv)
 
--- What `omega` answers: that each index is below the number of columns, that no sum or product of it wraps, and that the measure falls.
 pub great-from-spec : {M : Type 1} → statement M
 great-from-spec =
     tie.close
@@ -41,15 +49,14 @@ great-from-spec =
     μ-loop
     (λ c κs. search needs)
     (λ c κs. search needs)
-    (λ c. compared-start _ _ _ _ _ (c .before .empty .ensures))
+    (λ c. compared-start _ _ _ _ _ (c .empty .ensures))
     (λ c κs. search needs)
     returns
     (λ c. omega arith)
     (λ c. omega arith)
     (λ c. omega arith)
     (λ c. omega arith)
-    (λ c. omega arith)
-    (λ c κs. search needs)
+    (λ c κs. omega arith)
     (λ c κs. search needs)
     (λ c κs. search needs)
     (λ c. omega arith)
