@@ -11,10 +11,9 @@ ghost use Rattle.star.specs.Call.{callOf};
 ghost use Rattle.table.specs.Loads.{loadedRow};
 ghost use Rattle.path.specs.steps.Causes.{callCauses, checkCauses, unreachedCause};
 ghost use Rattle.path.specs.steps.Walks.{endsIn, stateOf, arrive, pass, along, step, walk, claimWalk};
+use lent::Stored;
 use refusal::Outcome;
 use refusal::Refusal;
-use search::lent;
-use search::lent::Stored;
 use slice::Slice;
 
 // The words of a column of a path matrix, and of a matrix with as many columns as there can be vertices.
