@@ -12,7 +12,6 @@ use checks::row_byte;
 use checks::row_weight;
 use refusal::Outcome;
 use refusal::Refusal;
-use search::lent;
 use slice::Slice;
 use slice::difference;
 

@@ -1,8 +1,9 @@
 // Runs the machine on cases whose results are known from outside, and prints what it gives; the file stdout has what it should print.
 // Standard input has a line for each case: what is printed before its result.
+use lent::Matched;
 use libc::STDIN_FILENO;
 use libc::STDOUT_FILENO;
-use search::Matched;
+use refusal::Refusal;
 use slice::Slice;
 use table::Table;
 
@@ -35,7 +36,7 @@ fn positions(x: Slice, printed: bool) -> usize {
     let mut rest = x;
     let mut n: usize = 0;
     while n < 1024 {
-        let s = slice::step_value(rest);
+        let s = slice::step_own(rest);
         let at = s.at;
         if at == 0 {
             return n;
@@ -118,6 +119,17 @@ fn rows_right(t: Table, taken: usize, four: bool) -> usize {
     right
 }
 
+// Whether a load was taken: its refusal has number 0 then.
+fn taken_or_not(refusal: Refusal) {
+    if refusal.number == 0 {
+        text(b" taken");
+    } else {
+        text(b" refused");
+        number(refusal.number as usize);
+        number(refusal.place as usize);
+    }
+}
+
 // A load of a column, of whose bytes the first `taken` are in the table afterwards: all, or none where the load is refused.
 fn report(column: &[u8], taken: usize, four: bool) {
     let loaded = if four {
@@ -128,8 +140,7 @@ fn report(column: &[u8], taken: usize, four: bool) {
     let refusal = loaded.refusal;
     let t = loaded.table;
     label();
-    number(refusal.number as usize);
-    number(refusal.place as usize);
+    taken_or_not(refusal);
     text(b", rows read back");
     number(rows_right(t, taken, four));
     text(b", row 1");
@@ -283,6 +294,22 @@ fn places(x: Slice) {
     value(slice::fnd(slice::put(slice::clr(), 1024, true)));
 }
 
+// STEP: the position that it gives, and the components that are left in the slice.
+fn stepped(x: Slice) {
+    label();
+    let s = slice::step_own(x);
+    number(s.at);
+    text(b", left");
+    positions(s.slice, true);
+    text(b"\n");
+}
+
+fn steps(x: Slice) {
+    stepped(x);
+    stepped(slice::put(slice::clr(), 1024, true));
+    stepped(slice::clr());
+}
+
 fn main() {
     loads();
     let t = small();
@@ -301,4 +328,5 @@ fn main() {
     text(b"slices\n");
     operations(x, slice::put(slice::put(slice::clr(), 3, true), 1024, true));
     places(x);
+    steps(x);
 }

@@ -12,11 +12,10 @@ use native.Mathlib.Omega.{arith}
 use lib.Dec.{eqb}
 use Rattle.graph.specs.Builder.{cheapest, treeOf, tree}
 use Rattle.graph.specs.Graph.{Graph}
-use Rattle.rowset.specs.Columns.{inColumns}
+use Rattle.rowset.specs.Columns.{inColumns, emptyColumns}
 use Rattle.rowset.specs.Searches.{equalTo, smallest}
 use Rattle.rowset.specs.Sets.{empty, either, oneOf, put, uppermost}
 use Rattle.rowset.proofs.Laws.{in-upTo, uppermost-some}
-use Rattle.search.specs.Blanks.{emptyColumns}
 use Rattle.search.proofs.Blanks.{empty-row}
 use Rattle.matrix.specs.Matrix.{matrixColumn}
 use Rattle.slice.specs.Slices.{size, component, written}

@@ -15,7 +15,6 @@ ghost use Rattle.mst1.specs.steps.Growth.{graphOn, loadedGraph, Grows, R
 ghost use Rattle.mst1.specs.Answers.{answerOf};
 use refusal::Outcome;
 use refusal::Refusal;
-use search::lent;
 use slice::Slice;
 use table::Table;
 

@@ -13,9 +13,8 @@ ghost use Rattle.path.specs.steps.Walks.{endsIn, stateOf, arrive, pass, 
 use checks::first;
 use checks::refused_at;
 use checks::refused_if;
+use lent::Stored;
 use refusal::Outcome;
-use search::lent;
-use search::lent::Stored;
 use slice::Slice;
 
 // The words of a column of a path matrix, and of a matrix with as many columns as there can be vertices.

@@ -106,10 +106,6 @@ module _ (m : ℕ) (p q : ℕ → Bool) (h : (i : ℕ) → 1 ≤ i → i ≤ m �
   unfolding uppermost
   uppermost-ext = upwards (λ n. uppermost n p ≡ uppermost n q) 0 m (omega arith) refl (λ n l u e. cc (h (suc n) (omega arith) u))
 
-  pub count-ext : count m p ≡ count m q
-  unfolding count
-  count-ext = sum-ext m _ _ p q h (λ i l u e. refl)
-
   pub odd-ext : odd m p ≡ odd m q
   unfolding odd
   odd-ext = upwards (λ n. odd n p ≡ odd n q) 0 m (omega arith) refl (λ n l u e. cc (h (suc n) (omega arith) u))

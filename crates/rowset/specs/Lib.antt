@@ -3,3 +3,5 @@ pub mod Searches
 pub mod Columns
 pub mod Bytes
 pub mod Words
+pub mod Counts
+pub mod Trials

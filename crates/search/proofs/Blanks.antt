@@ -8,16 +8,15 @@ use mathlib.Core.Bool.{Bool, true, false, cond, false≢true}
 use mathlib.Core.Path.{_≡_, refl, sym, ap, _∙_, fun-ext}
 use lib.ListN.{getD}
 use lib.Pow.{high}
-use Rattle.rowset.specs.Columns.{inColumns}
+use Rattle.rowset.specs.Columns.{inColumns, emptyColumns}
 use Rattle.rowset.specs.Sets.{any, empty}
 use Rattle.rowset.proofs.Laws.{any-none, refuted, clash}
 use Rattle.slice.specs.Slices.{size, component}
 use Rattle.table.specs.Tables.{width, blank, column, row}
 use Rattle.table.specs.declared.Table.{Table}
-use Rattle.search.specs.Blanks.{emptyColumns}
 use Rattle.rowset.proofs.Numbers.{number-split, number-below}
-use Rattle.search.proofs.Columns.{number-one}
-use Rattle.search.proofs.Loops.{none, column-read, component-in}
+use Rattle.lent.proofs.Columns.{number-one}
+use Rattle.lent.proofs.Loops.{none, column-read, component-in}
 
 module _ (c : ℕ → ℕ → Bool) where
   -- where the first k columns hold 0 in every row, the number in k + l columns is the number in the last l

@@ -3,3 +3,4 @@ pub mod Sets
 pub mod Laws
 pub mod Merge
 pub mod Stores
+pub mod Trials

@@ -202,3 +202,17 @@ pub fn step(x: &mut Slice) -> usize
     *x = s.slice;
     s.at
 }
+
+// STEP as a caller runs it: a slice of its own is lent, and STEP clears the uppermost 1 there.
+pub fn step_own(x: Slice) -> Stepped
+    ensures { λ r. ⌜
+        (r .at ≡ uppermost size (component x))
+        × (component (r .slice) ≡ takeOut (component x) (uppermost size (component x))) ⌝ }
+{
+    let mut rest = x;
+    let at = step(&mut rest);
+    Stepped {
+        at: at,
+        slice: rest,
+    }
+}

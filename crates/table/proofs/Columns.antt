@@ -9,15 +9,10 @@ use lib.Dec.{eqb}
 use mir.Val.{boolByte}
 use borrow.Author.Tests.{eqb-true, eqb-false}
 use Rattle.rowset.specs.Columns.{inColumns}
-use Rattle.rowset.proofs.Numbers.{bit-small}
 use Rattle.slice.specs.Slices.{bit}
 use Rattle.slice.proofs.Bits.{bit-zero, bit-suc}
 
--- a bit as a number has that bit
-bit-back : (b : Bool) → eqb (cond b 1 0) 1 ≡ b
-bit-back true = refl
-bit-back false = refl
-
+-- a digit below 2 is its bit as a number
 digit-back : (d : ℕ) → d < 2 → cond (eqb d 1) 1 0 ≡ d
 digit-back d h = go (eqb d 1) refl
   where
@@ -43,17 +38,6 @@ module _ (c : ℕ → ℕ → Bool) where
       let high : inColumns c s n i ≡ w / 2 =
       number-bits s n (w / 2) i (omega (arith, pow-suc 2 n)) (λ k l. (rw suc-sub-suc at (f (suc k) (omega arith))) ∙ bit-suc w k) in
       rw (high, low, digit-back (w % 2) (omega arith)) (omega arith)
-
-  -- a column is a bit of the number
-  pub number-bit : (s n i k : ℕ) → k < n → bit (inColumns c s n i) k ≡ c (s + (n - k)) i
-  unfolding inColumns
-  number-bit s zero i k h = absurd (omega arith)
-  number-bit s (suc n) i zero h =
-      let e : (2 * inColumns c s n i + cond (c (s + suc n) i) 1 0) % 2 ≡ cond (c (s + suc n) i) 1 0 = omega (arith, bit-small (c (s + suc n) i)) in
-      rw sub-zero (bit-zero (2 * inColumns c s n i + cond (c (s + suc n) i) 1 0) ∙ ap (λ d. eqb d 1) e ∙ bit-back (c (s + suc n) i))
-  number-bit s (suc n) i (suc k) h =
-      let e : (2 * inColumns c s n i + cond (c (s + suc n) i) 1 0) / 2 ≡ inColumns c s n i = omega (arith, bit-small (c (s + suc n) i)) in
-      rw suc-sub-suc (bit-suc (2 * inColumns c s n i + cond (c (s + suc n) i) 1 0) k ∙ ap (λ d. bit d k) e ∙ number-bit s n i k (omega arith))
 
 -- columns that agree hold the same number
 pub number-ext : (c d : ℕ → ℕ → Bool) (s t n i : ℕ) → ((k : ℕ) → 1 ≤ k → k ≤ n → c (s + k) i ≡ d (t + k) i) → inColumns c s n i ≡ inColumns d t n i

@@ -1,24 +1,24 @@
--- Laws of tables for whoever uses them: what the columns and rows are outside their ranges, a row's bound, and that the columns are the rows' bits.
+-- Laws of tables for whoever uses them: what the columns and rows are outside their ranges, and the table of zeros.
 -- Assumes nothing.
-use Prim.Native.Nat.{ℕ, zero, suc, _+_, _-_, _^_, _≤_, _<_}
-use mathlib.Core.Bool.{false}
+use Prim.Native.Nat.{ℕ, zero, suc, _+_, _-_, _≤_, _<_}
+use mathlib.Core.Bool.{Bool, true, false}
 use mathlib.Core.Path.{_≡_, refl, sym, _∙_, fun-ext}
-use native.Mathlib.Nat.{zero-add, lt-of-lt-of-le}
 use native.Mathlib.Omega.{arith}
+use native.Mathlib.Decide.{decLt}
+use mathlib.Core.Logic.{by-cases}
 use lib.ListN.{length, getD, replicate, List·getD-eq-default}
-use lib.Pow.{pow-mono}
 use Rattle.rowset.specs.Sets.{empty, upTo}
-use Rattle.slice.specs.Slices.{size, bit, component}
+use Rattle.slice.specs.Slices.{size, component}
 use Rattle.slice.specs.declared.Slice.{Slice}
 use Rattle.slice.proofs.Bits.{bit-of-zero}
-use Rattle.planes.proofs.Digits.{bit-above}
 use Rattle.slice.proofs.Laws.{component-outside}
+use Rattle.slice.proofs.Sets.{upTo-inside}
 use Rattle.slice.proofs.Stores.{getD-within}
 use Rattle.planes.proofs.Words.{blank-empty}
-use Rattle.table.specs.Tables.{width, blank, column, row}
+use Rattle.rowset.proofs.Laws.{clash}
+use Rattle.table.specs.Tables.{width, blank, column, row, NothingOutside}
 use Rattle.table.specs.declared.Table.{Table}
-use Rattle.rowset.proofs.Numbers.{number-below}
-use Rattle.table.proofs.Columns.{number-bits, number-bit}
+use Rattle.table.proofs.Columns.{number-bits}
 
 -- column j + 1 stands at index j
 pub column-at : (t : Table) (j : ℕ) (d : Slice) → j < length (t .columns) → component (getD (t .columns) j d) ≡ column t (suc j)
@@ -56,32 +56,19 @@ pub rows-of-empty : (t : Table) → column t ≡ (λ j. empty) → row t ≡ (λ
 unfolding row empty
 rows-of-empty t e = fun-ext (λ i. number-bits (column t) 0 width 0 i (omega arith) (λ k h. rw (e, bit-of-zero)))
 
--- a row is below 2 ^ 32
-pub row-below : (t : Table) (i : ℕ) → row t i < 2 ^ 32
-unfolding row
-row-below t i = number-below (column t) 0 width i
-
 -- no column has a row outside 1 to 1,024
-pub column-outside : (t : Table) (j i : ℕ) → upTo size i ≡ false → column t j i ≡ false
+column-outside : (t : Table) (j i : ℕ) → upTo size i ≡ false → column t j i ≡ false
 unfolding column empty
 column-outside t zero i h = refl
 column-outside t (suc j) i h = component-outside (getD (t .columns) j blank) i h
 
--- a row outside 1 to 1,024 is 0
-pub row-outside : (t : Table) (i : ℕ) → upTo size i ≡ false → row t i ≡ 0
+-- ROW outside 1 to 1,024 is 0, and COL outside 1 to 32 is empty
+pub nothing-outside : NothingOutside
 unfolding row
-row-outside t i h = number-bits (column t) 0 width 0 i (omega arith) (λ k l. column-outside t (0 + (32 - k)) i h ∙ sym (bit-of-zero k))
-
--- column 32 − k holds the bits k of the rows
-pub column-bits : (t : Table) (k : ℕ) → k < 32 → column t (32 - k) ≡ (λ i. bit (row t i) k)
-unfolding row
-column-bits t k h = fun-ext (λ i. (rw zero-add at (sym (number-bit (column t) 0 width i k h))))
-
--- where every row is below 2 ^ k, the columns left of the last k are empty
-pub columns-above : (t : Table) (k : ℕ) → ((i : ℕ) → row t i < 2 ^ k) → (j : ℕ) → j + k ≤ 32 → column t j ≡ empty
-unfolding empty
-columns-above t k small zero h = column-below t 0 (omega arith)
-columns-above t k small (suc j) h =
-    let e : 32 - (31 - j) ≡ suc j = omega arith in
-    (rw e at (column-bits t (31 - j) (omega arith)))
-    ∙ fun-ext (λ i. bit-above (row t i) (31 - j) (lt-of-lt-of-le (small i) (pow-mono (omega arith))))
+nothing-outside t len =
+    record {
+      rows = λ i h. number-bits (column t) 0 width 0 i (omega arith) (λ k l. column-outside t (0 + (32 - k)) i h ∙ sym (bit-of-zero k));
+      columns =
+          λ j h. by-cases (decLt j 1) (column-below t j)
+          (λ a. by-cases (decLt width j) (λ b. column-above t j (omega arith)) (λ b. clash (upTo-inside width j (omega arith) (omega arith)) h));
+    }

@@ -3,17 +3,18 @@
 use Prim.Native.Nat.{ℕ, zero, suc, _+_, _-_, _*_, _%_, _^_, _≤_, _<_}
 use mathlib.Core.Bool.{Bool, true, false, cond}
 use mathlib.Core.List.{List}
-use mathlib.Core.Logic.{by-cases}
+use mathlib.Core.Logic.{_↔_, by-cases}
 use mathlib.Core.Path.{_≡_, refl, sym, ap, _∙_, fun-ext}
 use native.Mathlib.Nat.{one-mul, zero-add, add-zero, sub-zero, mul-le-mul-left, le-of-suc-le-suc, add-comm, add-suc, sub-self, pow-zero, pow-suc, pow-le-pow-right, lt-of-lt-of-le}
 use native.Mathlib.Decide.{decLt}
 use native.Mathlib.Numerals.{add-one, towards-suc}
 use native.Mathlib.Omega.{arith}
-use lib.Dec.{leb, eqb, eqb·suc-zero}
+use lib.Dec.{leb, ltb, eqb, eqb·suc-zero}
 use lib.ListN.{length, getD, List·getD-eq-default}
-use borrow.Author.Tests.{le-leb, lt-leb, lt-ltb, le-ltb, eq-eqb, ne-eqb}
+use borrow.Author.Tests.{le-leb, lt-leb, lt-ltb, le-ltb, ltb-true, ltb-false, eq-eqb, ne-eqb, eqb-true, eqb-false}
 use Rattle.rowset.specs.Columns.{inColumns}
-use Rattle.rowset.specs.Sets.{empty, upTo}
+use Rattle.refusal.specs.declared.Refusal.{Refusal}
+use Rattle.rowset.specs.Sets.{upTo}
 use Rattle.rowset.specs.Bytes.{little, inRow}
 use Rattle.planes.specs.Planes.{plane, bitPlane}
 use Rattle.slice.specs.Slices.{size, component}
@@ -23,12 +24,12 @@ use Rattle.slice.proofs.Bits.{bit-of-zero}
 use Rattle.slice.proofs.Sets.{upTo-inside, upTo-below, upTo-above}
 use Rattle.slice.proofs.Stores.{getD-within}
 use Rattle.table.specs.Tables.{blank, column, row}
-use Rattle.table.specs.Loads.{loadRefused, loadRefusal, loadedRow, BytesHandedIn, QuadsHandedIn}
+use Rattle.table.specs.Loads.{loadRefused, loadRefusal, loadedRow, BytesHandedIn, QuadsHandedIn, LoadsReadBack}
 use Rattle.table.specs.steps.Loading.{byteIn, upperBytes}
 use Rattle.table.specs.declared.Table.{Table}
 use Rattle.rowset.proofs.Numbers.{number-split}
 use Rattle.table.proofs.Columns.{number-ext, number-bits}
-use Rattle.table.proofs.Laws.{column-at, columns-above}
+use Rattle.table.proofs.Laws.{column-at}
 
 -- column j of the table with one byte more on the right
 abbrev pub moved : Table → Planes → ℕ → ℕ → Bool
@@ -174,20 +175,41 @@ pub loaded-taken : (k : ℕ) (l : List ℕ) → loadRefusal k l ≡ loadRefused 
 unfolding loadedRow
 loaded-taken k l e = fun-ext (λ i. rw e)
 
--- After loading, ROW gives each row as the number handed in.
-pub bytes-handed-in : (l : List ℕ) (t : Table) → length l ≤ 1024 → row t ≡ loadedRow 1 l → BytesHandedIn l t
-unfolding inRow little
-bytes-handed-in l t h e = record { loaded = λ i q. inColumns i ∙ rw (one-mul, add-zero); rest = λ i q. inColumns i ∙ little-past l (1 * i) 1 (omega arith) }
+-- exactly which columns are taken
+taken : (k : ℕ) (l : List ℕ) → (loadRefusal k l .number ≡ 0) ↔ ((length l ≤ k * size) × (length l % k ≡ 0))
+taken k l = (λ e. go e (ltb (k * size) (length l)) refl (eqb (length l % k) 0) refl, λ h. ap (λ (r : Refusal). r .number) (load-taken k l (h .0) (h .1)))
   where
-    inColumns : (i : ℕ) → row t (i + 1) ≡ little l (1 * i) 1
-    inColumns i = rw (e ∙ loaded-taken 1 l (load-taken 1 l (omega arith) (omega arith)), add-one)
+    go : loadRefusal k l .number ≡ 0 → (b : Bool) → ltb (k * size) (length l) ≡ b → (d : Bool) → eqb (length l % k) 0 ≡ d → (length l ≤ k * size) × (length l % k ≡ 0)
+    go e true f d g = let z : _≡_ {A = ℕ} 2 0 = sym (ap (λ (r : Refusal). r .number) (load-long k l (ltb-true _ _ f))) ∙ e in absurd (omega arith)
+    go e false f true g = (ltb-false _ _ f, eqb-true _ _ g)
+    go e false f false g = let z : _≡_ {A = ℕ} 3 0 = sym (ap (λ (r : Refusal). r .number) (load-uneven k l (ltb-false _ _ f) (eqb-false _ _ g))) ∙ e in absurd (omega arith)
 
-pub quads-handed-in : (l : List ℕ) (t : Table) → length l ≤ 4096 → length l % 4 ≡ 0 → row t ≡ loadedRow 4 l → QuadsHandedIn l t
-unfolding inRow little
-quads-handed-in l t h m e = record { loaded = λ i q. inColumns i ∙ simp towards-suc (omega arith); rest = λ i q. inColumns i ∙ little-past l (4 * i) 4 q }
-  where
-    inColumns : (i : ℕ) → row t (i + 1) ≡ little l (4 * i) 4
-    inColumns i = rw (e ∙ loaded-taken 4 l (load-taken 4 l h m), add-one)
+module _ (l : List ℕ) (t : Table) where
+  bytes-handed-in : length l ≤ 1024 → row t ≡ loadedRow 1 l → BytesHandedIn l t
+  unfolding inRow little
+  bytes-handed-in h e = record { loaded = λ i q. inColumns i ∙ rw (one-mul, add-zero); rest = λ i q. inColumns i ∙ little-past l (1 * i) 1 (omega arith) }
+    where
+      inColumns : (i : ℕ) → row t (i + 1) ≡ little l (1 * i) 1
+      inColumns i = rw (e ∙ loaded-taken 1 l (load-taken 1 l (omega arith) (omega arith)), add-one)
+
+  quads-handed-in : length l ≤ 4096 → length l % 4 ≡ 0 → row t ≡ loadedRow 4 l → QuadsHandedIn l t
+  unfolding inRow little
+  quads-handed-in h m e = record { loaded = λ i q. inColumns i ∙ simp towards-suc (omega arith); rest = λ i q. inColumns i ∙ little-past l (4 * i) 4 q }
+    where
+      inColumns : (i : ℕ) → row t (i + 1) ≡ little l (4 * i) 4
+      inColumns i = rw (e ∙ loaded-taken 4 l (load-taken 4 l h m), add-one)
+
+-- a table loaded into bit columns reads back row by row as it was
+pub loads-read-back : LoadsReadBack
+unfolding loadedRow
+loads-read-back =
+    record {
+      bytes-taken = λ l. (λ e. omega (arith, taken 1 l .0 e .0), λ h. taken 1 l .1 (omega arith, omega arith));
+      quads-taken = λ l. (λ e. (omega (arith, taken 4 l .0 e .0), taken 4 l .0 e .1), λ h. taken 4 l .1 (omega (arith, h .0), h .1));
+      bytes-back = λ l t e r. bytes-handed-in l t (omega (arith, taken 1 l .0 e .0)) r;
+      quads-back = λ l t e r. quads-handed-in l t (omega (arith, taken 4 l .0 e .0)) (taken 4 l .0 e .1) r;
+      zeros = λ k l t n r i. rw (r, ne-eqb (loadRefusal k l .number) 0 n);
+    }
 
 -- a row loaded from k bytes is below 256 ^ k
 pub loaded-below : (l : List ℕ) → ((i : ℕ) → getD l i 0 < 256) → (k i : ℕ) → loadedRow k l i < 256 ^ k
@@ -198,7 +220,3 @@ loaded-below l bytes k i = go (eqb (loadRefusal k l .number) 0) i
     go true zero = omega (arith, little-below l bytes 0 k)
     go true (suc i) = little-below l bytes (k * i) k
     go false i = omega (arith, little-below l bytes 0 k)
-
--- in a table loaded from one-byte rows columns 1 to 24 are empty
-pub bytes-narrow : (l : List ℕ) → ((i : ℕ) → getD l i 0 < 256) → (t : Table) → row t ≡ loadedRow 1 l → (j : ℕ) → j ≤ 24 → column t j ≡ empty
-bytes-narrow l bytes t e j h = columns-above t 8 (λ i. rw e (loaded-below l bytes 1 i)) j (omega arith)

@@ -3,8 +3,8 @@
 use borrow.Author.Needs.{needs}
 use native.Mathlib.Omega.{arith}
 use mathlib.Core.Path.{_∙_}
-use Rattle.search.specs.Counts.{columnsRead}
-use Rattle.search.proofs.Counts.{right-row}
+use Rattle.rowset.specs.Counts.{columnsRead}
+use Rattle.lent.proofs.Counts.{right-row}
 use Rattle.search.proofs.match_count.Statement.{statement}
 use Rattle.search.proofs.match_count.Tie as tie
 

@@ -1,16 +1,13 @@
--- `search::min` meets its contract: a row is the number in all columns.
+-- `search::min` meets its contract: the words are those of the table's columns, and a row is the number in all of them.
 -- Assumes nothing.
 use borrow.Author.Needs.{needs}
 use Rattle.table.specs.Tables.{row}
 use Rattle.search.proofs.min.Statement.{statement}
 use Rattle.search.proofs.min.Tie as tie
 
-extreme-from-requires : tie.Need-extreme-from-requires
-extreme-from-requires c κs = search needs
-
 returns : tie.Need-returns
 unfolding row
-returns c = c .extreme-from .ensures
+returns c = rw (c .before .before .before .before .columns-of .ensures) at (c .min-from .ensures)
 
 pub min-spec : {M : Type 1} → statement M
-min-spec = tie.close (tie.spec extreme-from-requires returns)
+min-spec = tie.close (tie.spec (λ c κs. search needs) (λ c κs. search needs) returns)

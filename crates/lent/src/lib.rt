@@ -1,0 +1,197 @@
+// A table's columns as they stand in a path matrix, lent, and the loops of MATCH, MIN, MAX and GREAT over them: a caller that searches often lends the columns and copies no table.
+// A column that is not wholly inside what is lent is Θ, so that every search is defined for a matrix of any size. MATCH reads the columns from right to left, the others from left to right.
+// A search leaves out the first columns, as many as it is told, and is about the number that a row holds in the others: 0 where none is left.
+use slice::Slice;
+use table::Table;
+ghost use mathlib.Core.Path.{_≡_};
+ghost use Prim.Native.Nat.{_-_, _/_, _^_};
+ghost use Rattle.rowset.specs.Columns.{width, inColumns};
+ghost use Rattle.rowset.specs.Counts.{equalRight, readWithin};
+ghost use Rattle.rowset.specs.Searches.{equalTo, greaterThan, smallest, largest};
+ghost use Rattle.matrix.specs.Matrix.{matrixColumn};
+ghost use Rattle.slice.specs.Slices.{size, component};
+ghost use Rattle.table.specs.Tables.{column};
+ghost use Rattle.lent.specs.steps.Column.{kept, preferred, grown, extreme};
+
+// The number of columns of a table, the words of a column and of a table, and the bits of a word.
+const WIDTH: usize = 32;
+
+const COLUMN: usize = 16;
+
+const ALL: usize = 512;
+
+const BITS: usize = 64;
+
+// A table's columns, one after the other.
+pub struct Stored {
+    pub columns: [u64; ALL],
+}
+
+// What MATCH gives: the rows that it found, and the number of columns that it read.
+pub struct Matched {
+    pub rows: Slice,
+    pub read: usize,
+}
+
+// The columns of a table, to be lent.
+pub fn columns_of(t: Table) -> Stored
+    ensures { λ r. ⌜ matrixColumn (r .columns) ≡ column t ⌝ }
+{
+    let mut columns = [0u64; ALL];
+    let mut j = 0;
+    while j < WIDTH {
+        matrix::write_column(&mut columns, j + 1, t.columns[j]);
+        j += 1;
+    }
+    Stored { columns: columns }
+}
+
+// Component i of column j.
+fn bit_at(columns: &[u64], j: usize, i: usize) -> bool
+    ensures { λ r. ⌜ r ≡ matrixColumn (now (columns .entry)) j i ⌝ }
+{
+    if j < 1 {
+        return false;
+    }
+    if columns.len() / COLUMN < j {
+        return false;
+    }
+    if i < 1 {
+        return false;
+    }
+    if slice::SIZE < i {
+        return false;
+    }
+    let k = i - 1;
+    let w = columns[COLUMN * (j - 1) + k / BITS];
+    (w >> (k % BITS)) % 2 == 1
+}
+
+// ROW: the number that row i holds in the columns that are not left out.
+pub fn row_from(columns: &[u64], first: usize, i: usize) -> u32
+    ensures { λ r. ⌜ r ≡ inColumns (matrixColumn (now (columns .entry))) first (width - first) i ⌝ }
+{
+    let mut r: u32 = 0;
+    let mut j = first;
+    while j < WIDTH {
+        r = r * 2 + bit_at(columns, j + 1, i) as u32;
+        j += 1;
+    }
+    r
+}
+
+// The rows of z whose bit in the column c is b.
+fn keep(z: Slice, c: Slice, b: bool) -> Slice
+    ensures { λ r. ⌜ component r ≡ kept b (component z) (component c) ⌝ }
+{
+    if b {
+        slice::and(z, c)
+    } else {
+        slice::difference::without(z, c)
+    }
+}
+
+// The rows of z whose bit in the column c is b, and all of z where there is no such row.
+fn prefer(z: Slice, c: Slice, b: bool) -> Slice
+    ensures { λ r. ⌜ component r ≡ preferred size b (component z) (component c) ⌝ }
+{
+    let y = keep(z, c, b);
+    if slice::some(y) { y } else { z }
+}
+
+// The rows found greater, g, and with them the rows of z that are greater at the column c, where the bit to compare with is b.
+fn grow(g: Slice, z: Slice, c: Slice, b: bool) -> Slice
+    ensures { λ r. ⌜ component r ≡ grown b (component g) (component z) (component c) ⌝ }
+{
+    if b { g } else { slice::or(g, slice::and(z, c)) }
+}
+
+// The selected rows before any column is read: all of them, or none where w is too large for the columns that are not left out.
+fn begin(first: usize, w: u32, x: Slice) -> Slice
+    ensures { λ r. ⌜ component r ≡ equalTo (λ i. 0) (w / 2 ^ (width - first)) (component x) ⌝ }
+{
+    let columns = if first < WIDTH { WIDTH - first } else { 0 };
+    if (w as u64) >> columns == 0 {
+        x
+    } else {
+        Slice::empty()
+    }
+}
+
+// MATCH of w's last digits in the columns that are not left out, from column 32 to the left; it stops where no row is left in the running.
+pub fn match_right(columns: &[u64], first: usize, w: u32, x: Slice) -> Matched
+    ensures rows { λ r. ⌜ component (r .rows) ≡ equalRight (matrixColumn (now (columns .entry))) w (width - first) (component x) ⌝ }
+    ensures read { λ r. ⌜ r .read ≡ readWithin (width - first) size (matrixColumn (now (columns .entry))) w (component x) ⌝ }
+{
+    let count = if first < WIDTH { WIDTH - first } else { 0 };
+    let mut z = x;
+    let mut k = 0;
+    while k < count {
+        if slice::zero(z) {
+            return Matched { rows: z, read: k };
+        }
+        z = keep(
+            z,
+            matrix::read_column(columns, WIDTH - k),
+            (w >> k) % 2 == 1,
+        );
+        k += 1;
+    }
+    Matched { rows: z, read: k }
+}
+
+// MATCH: the selected rows that equal w.
+pub fn match_from(columns: &[u64], first: usize, w: u32, x: Slice) -> Slice
+    ensures { λ r. ⌜ component r ≡ equalTo (inColumns (matrixColumn (now (columns .entry))) first (width - first)) w (component x) ⌝ }
+{
+    let found = match_right(columns, first, w, begin(first, w, x));
+    found.rows
+}
+
+// GREAT: the selected rows that are greater than w. Beside the rows found greater, g, it carries MATCH's rows that are equal so far, z, and stops where there are none.
+pub fn great_from(columns: &[u64], first: usize, w: u32, x: Slice) -> Slice
+    ensures { λ r. ⌜ component r ≡ greaterThan (inColumns (matrixColumn (now (columns .entry))) first (width - first)) w (component x) ⌝ }
+{
+    let mut g = Slice::empty();
+    let mut z = begin(first, w, x);
+    let mut j = first;
+    while j < WIDTH {
+        if slice::zero(z) {
+            return g;
+        }
+        let digit = WIDTH - 1 - j;
+        let b = (w >> digit) % 2 == 1;
+        let c = matrix::read_column(columns, j + 1);
+        g = grow(g, z, c, b);
+        z = keep(z, c, b);
+        j += 1;
+    }
+    g
+}
+
+// MAX where `high` is true and MIN where it is not.
+fn extreme_from(columns: &[u64], first: usize, high: bool, x: Slice) -> Slice
+    ensures { λ r. ⌜ component r ≡ extreme high size (inColumns (matrixColumn (now (columns .entry))) first (width - first)) (component x) ⌝ }
+{
+    let mut z = x;
+    let mut j = first;
+    while j < WIDTH {
+        z = prefer(z, matrix::read_column(columns, j + 1), high);
+        j += 1;
+    }
+    z
+}
+
+// MIN: the selected rows than which no selected row is smaller.
+pub fn min_from(columns: &[u64], first: usize, x: Slice) -> Slice
+    ensures { λ r. ⌜ component r ≡ smallest size (inColumns (matrixColumn (now (columns .entry))) first (width - first)) (component x) ⌝ }
+{
+    extreme_from(columns, first, false, x)
+}
+
+// MAX: the selected rows than which no selected row is larger.
+pub fn max_from(columns: &[u64], first: usize, x: Slice) -> Slice
+    ensures { λ r. ⌜ component r ≡ largest size (inColumns (matrixColumn (now (columns .entry))) first (width - first)) (component x) ⌝ }
+{
+    extreme_from(columns, first, true, x)
+}

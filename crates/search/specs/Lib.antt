@@ -1,4 +1,0 @@
-pub mod Blanks
-pub mod Counts
-pub mod Trials
-pub mod steps
