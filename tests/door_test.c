@@ -1,6 +1,9 @@
 /* Compares the doors with the plain implementation on many tables: valid and damaged ones, each refusal alone and several at once, boundary
  * lengths, ties, parallel rows, claims that are near the least tree, the largest table. Guard bytes stand around every lent column.
+ * The largest table is tried in a thread with the stack that the header names.
  * usage: door_test [TABLES]   prints one line 'N passed, M failed' */
+#define _POSIX_C_SOURCE 200809L
+#include <pthread.h>
 #include <stdio.h>
 #include <stdlib.h>
 #include <string.h>
@@ -8,7 +11,7 @@
 #include "plain.h"
 #include "star.h"
 
-enum { GUARD = 32, ROOM = 1032, FILL = 0xA5 };
+enum { GUARD = 32, ROOM = 1032, FILL = 0xA5, STACK = 128 << 10 };
 
 static uint64_t state = 88172645463325252u;
 
@@ -250,10 +253,28 @@ static void nulls(void) {
         }
 }
 
+/* Both doors in a thread of 128 KiB, on the largest table: the tree that is built passes. */
+static void *on_small_stack(void *said) {
+    ((uint32_t *)said)[0] = lent(255, 1);
+    ((uint32_t *)said)[1] = lent(255, 0);
+    return NULL;
+}
+
+static void small_stack(void) {
+    pthread_attr_t attr;
+    pthread_t thread;
+    uint32_t said[2] = {0, 0};
+    fresh(255, 1024, 1000, 1);
+    tell(!pthread_attr_init(&attr) && !pthread_attr_setstacksize(&attr, STACK) && !pthread_create(&thread, &attr, on_small_stack, said) && !pthread_join(thread, NULL)
+             && said[0] == 1 && said[1] == 1 && star_read_answer(at(&answer)).kind == STAR_PASSED,
+         "a thread of 128 KiB", 255);
+}
+
 int main(int count, char **words) {
     unsigned long tables = count > 1 ? strtoul(words[1], NULL, 10) : 200000, k;
     limits();
     nulls();
+    small_stack();
     for (k = 0; k < tables; k++) one(k);
     printf("%lu passed, %lu failed\n", passed, failed);
     return failed != 0;
