@@ -42,6 +42,7 @@ static int free_of(const struct layout *l, const struct table *t, size_t i, int 
     const struct label *own = &l->label[i - 1];
     size_t k;
     uint32_t v;
+    if (own->at.x < own->width / 2 || own->at.x > l->width - own->width / 2) return 0;
     for (v = 1; v <= t->n; v++)
         if (covers(own, l->at[v], l->dot + 1)) return 0;
     for (k = 0; k < t->m; k++) {
@@ -51,16 +52,28 @@ static int free_of(const struct layout *l, const struct table *t, size_t i, int 
     return 1;
 }
 
+/* Puts a label on its trench, or beside it: to the left (-1) or to the right (1). */
+static void put(struct label *own, const struct curve *c, double along, int side) {
+    double dx = c->to.x - c->from.x, dy = c->to.y - c->from.y, d = sqrt(dx * dx + dy * dy) + 1e-6, by;
+    by = side * (fabs(dy / d) * own->width / 2 + fabs(dx / d) * LABEL_HEIGHT / 2 + 3);
+    own->at = layout_on(c, along);
+    own->at.x -= by * dy / d;
+    own->at.y += by * dx / d;
+}
+
 void layout_label(struct layout *l, const struct table *t, size_t i, size_t letters) {
     static const double along[] = {0.5, 0.45, 0.55, 0.4, 0.6, 0.35, 0.65, 0.3, 0.7, 0.25, 0.75, 0.2, 0.8};
+    /* on the trench and no other; on the trench; beside it and on no other */
+    static const struct {
+        int side, trenches_too;
+    } ways[] = {{0, 1}, {0, 0}, {1, 1}, {-1, 1}};
     struct label *own = &l->label[i - 1];
-    int trenches_too;
-    size_t k;
+    size_t way, k;
     own->width = (double)letters * LABEL_FONT * 0.62 + 3;
-    for (trenches_too = 1; trenches_too >= 0; trenches_too--)
+    for (way = 0; way < sizeof ways / sizeof ways[0]; way++)
         for (k = 0; k < sizeof along / sizeof along[0]; k++) {
-            own->at = layout_on(&l->trench[i - 1], along[k]);
-            if (!free_of(l, t, i, trenches_too)) continue;
+            put(own, &l->trench[i - 1], along[k], ways[way].side);
+            if (!free_of(l, t, i, ways[way].trenches_too)) continue;
             own->shown = 1;
             return;
         }

@@ -38,8 +38,8 @@ void layout_sheet(struct layout *l, const struct table *t);
 /* A point of a curve: k from 0, its start, to 1, its end. */
 struct point layout_on(const struct curve *c, double k);
 
-/* Places the label of trench i, `letters` letters long, where it covers no junction and no label already placed; no other trench either, if
-   that can be had. */
+/* Places the label of trench i, `letters` letters long, on the trench, or close beside it where there is no room; it covers no junction and no
+   label already placed, and no other trench if that can be had. */
 void layout_label(struct layout *l, const struct table *t, size_t i, size_t letters);
 
 #endif
