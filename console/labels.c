@@ -17,50 +17,71 @@ static int covers(const struct label *a, struct point p, double radius) {
     return dx * dx + dy * dy < radius * radius;
 }
 
-static int outside(double x, double reach, double a, double b, double c) {
-    return (a < x - reach && b < x - reach && c < x - reach) || (a > x + reach && b > x + reach && c > x + reach);
+/* Narrows the part of a line, from *first to *last of its length, to where start + k * step lies between -reach and reach. */
+static int narrow(double start, double step, double reach, double *first, double *last) {
+    double a = (-reach - start) / step, b = (reach - start) / step;
+    if (fabs(step) < 1e-9) return fabs(start) <= reach;
+    if (a > b) {
+        double c = a;
+        a = b;
+        b = c;
+    }
+    if (a > *first) *first = a;
+    if (b < *last) *last = b;
+    return *first <= *last;
 }
 
-/* Whether a label covers a part of a line, taken as pieces that are straight. */
+/* Whether a label covers a part of a trench, taken as straight pieces. */
 static int crossed(const struct label *a, const struct curve *c) {
-    int k, i;
-    if (outside(a->at.x, a->width / 2 + 1, c->from.x, c->bend.x, c->to.x)) return 0;
-    if (outside(a->at.y, LABEL_HEIGHT / 2.0 + 1, c->from.y, c->bend.y, c->to.y)) return 0;
+    int k;
     for (k = 0; k < PIECES; k++) {
         struct point p = layout_on(c, (double)k / PIECES), q = layout_on(c, (double)(k + 1) / PIECES);
-        for (i = 0; i <= 4; i++) {
-            struct point r;
-            r.x = p.x + (q.x - p.x) * i / 4;
-            r.y = p.y + (q.y - p.y) * i / 4;
-            if (covers(a, r, 1)) return 1;
-        }
+        double first = 0, last = 1;
+        if (narrow(p.x - a->at.x, q.x - p.x, a->width / 2 + 1, &first, &last) && narrow(p.y - a->at.y, q.y - p.y, LABEL_HEIGHT / 2.0 + 1, &first, &last)) return 1;
     }
     return 0;
 }
 
-static int free_of(const struct layout *l, const struct table *t, size_t i, int trenches_too) {
+/* What a label of some trench may cover: nothing of another one; light ones; any. */
+enum cover { NONE, LIGHT, ANY };
+
+static int free_of(const struct layout *l, const struct table *t, size_t i, enum cover may) {
     const struct label *own = &l->label[i - 1];
     size_t k;
     uint32_t v;
+    if (own->at.x < own->width / 2 || own->at.x > l->width - own->width / 2) return 0;
     for (v = 1; v <= t->n; v++)
         if (covers(own, l->at[v], l->dot + 1)) return 0;
     for (k = 0; k < t->m; k++) {
         if (l->label[k].shown && labels_touch(own, &l->label[k])) return 0;
-        if (trenches_too && k != i - 1 && crossed(own, &l->trench[k])) return 0;
+        if (k != i - 1 && (may == NONE || (may == LIGHT && l->trench[k].heavy)) && crossed(own, &l->trench[k])) return 0;
     }
     return 1;
 }
 
+/* Puts a label on its trench, or beside it: to the left (-1) or to the right (1). */
+static void put(struct label *own, const struct curve *c, double along, int side) {
+    double dx = c->to.x - c->from.x, dy = c->to.y - c->from.y, d = sqrt(dx * dx + dy * dy) + 1e-6, by;
+    by = side * (fabs(dy / d) * own->width / 2 + fabs(dx / d) * LABEL_HEIGHT / 2 + 3);
+    own->at = layout_on(c, along);
+    own->at.x -= by * dy / d;
+    own->at.y += by * dx / d;
+}
+
 void layout_label(struct layout *l, const struct table *t, size_t i, size_t letters) {
     static const double along[] = {0.5, 0.45, 0.55, 0.4, 0.6, 0.35, 0.65, 0.3, 0.7, 0.25, 0.75, 0.2, 0.8};
+    static const struct {
+        int side;
+        enum cover may;
+    } ways[] = {{0, NONE}, {0, LIGHT}, {1, NONE}, {-1, NONE}, {0, ANY}};
+    size_t count = sizeof ways / sizeof ways[0] - !l->trench[i - 1].heavy; /* the last way is for heavy trenches */
     struct label *own = &l->label[i - 1];
-    int trenches_too;
-    size_t k;
+    size_t way, k;
     own->width = (double)letters * LABEL_FONT * 0.62 + 3;
-    for (trenches_too = 1; trenches_too >= 0; trenches_too--)
+    for (way = 0; way < count; way++)
         for (k = 0; k < sizeof along / sizeof along[0]; k++) {
-            own->at = layout_on(&l->trench[i - 1], along[k]);
-            if (!free_of(l, t, i, trenches_too)) continue;
+            put(own, &l->trench[i - 1], along[k], ways[way].side);
+            if (!free_of(l, t, i, ways[way].may)) continue;
             own->shown = 1;
             return;
         }

@@ -110,6 +110,7 @@ static struct curve line_of(const struct layout *l, const struct table *t, size_
     int swap = t->left[i] > t->right[i];
     struct curve c;
     double d;
+    c.heavy = 0;
     c.from = l->at[swap ? t->right[i] : t->left[i]];
     c.to = l->at[swap ? t->left[i] : t->right[i]];
     d = distance(c.from, c.to);

@@ -11,6 +11,7 @@ struct point {
 /* A trench: a line from one end to the other, bent towards a third point; that point is the middle where the line is straight. */
 struct curve {
     struct point from, bend, to;
+    int heavy; /* whether it is drawn heavily: labels of light ones do not cover it, lest it look dashed */
 };
 
 struct label {
@@ -38,8 +39,8 @@ void layout_sheet(struct layout *l, const struct table *t);
 /* A point of a curve: k from 0, its start, to 1, its end. */
 struct point layout_on(const struct curve *c, double k);
 
-/* Places the label of trench i, `letters` letters long, where it covers no junction and no label already placed; no other trench either, if
-   that can be had. */
+/* Places the label of trench i, `letters` letters long, on the trench, or close beside it where there is no room. It covers no junction and no
+   label already placed; no other trench if that can be had; a heavy one only where its own is heavy too. */
 void layout_label(struct layout *l, const struct table *t, size_t i, size_t letters);
 
 #endif

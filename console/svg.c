@@ -64,6 +64,7 @@ static size_t place_labels(struct layout *l, const struct picture *p) {
     char text[2 * FIGURES];
     size_t i, left_out = 0;
     int look;
+    for (i = 1; i <= p->t->m; i++) l->trench[i - 1].heavy = picture_look(p, i) != OTHER;
     for (look = LOOKS - 1; look >= 0; look--)
         for (i = 1; i <= p->t->m; i++)
             if ((int)picture_look(p, i) == look) {

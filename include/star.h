@@ -18,7 +18,8 @@
  * The caller owes that each pointer has as many readable bytes behind it as its length says (writable
  * ones behind answer, behind mark in star_mst1, and behind the three columns in star_import), and that
  * a column that is written overlaps no other. An empty column may be lent as a null pointer with
- * length 0. Nothing else is asked.
+ * length 0. The calling thread has stack left, 128 KiB for star_cst and star_mst1 and 1 MiB for
+ * star_import, whatever is lent. Nothing else is asked.
  */
 #ifndef STAR_H
 #define STAR_H

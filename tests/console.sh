@@ -107,12 +107,15 @@ try price-larger 2 'Refused \(5\): .*the price 99999999999999999999999; ' '1 2 9
 try mark-2 2 'Refused \(6\): standard input:4: trench 2 has the mark 2;' "${top}1 2 5 1\n2 3 4 2\n" check
 try mark-256 2 'Refused \(6\): standard input:4: trench 2 has the mark 256;' "${top}1 2 5 1\n2 3 4 256\n" check
 try end-above 2 'Refused \(4\): standard input:4: trench 1 ends at junction 9; .* 1 to 3' "${top}junctions 3\n1 9 5 1\n" check
+try end-257 2 'Refused \(4\): .* ends at junction 257;' 'junctions 4\n257 2 5 1\n' check
+try end-258 2 'Refused \(4\): .* ends at junction 258;' 'junctions 4\n1 258 5 1\n' check
 try end-left 2 'trench 1 ends at junction 0;' '0 2 5 1\n' check
 try end-equal 2 'Refused \(4\): standard input:4: trench 2 joins junction 2 to itself' "${top}1 2 5 1\n2 2 3 1\n" check
 try digits 2 'the largest junction is 9{40}\.\.; from 1 to 255' "$(printf '9%.0s' {1..700}) 2 5 1\n" check
 try one-mark 2 ': 1 trench is marked; a network of 4 junctions has exactly 3' '1 2 5 1\n2 3 3 0\n3 4 1 0\n' check
 try edges 2 'Refused \(13\): standard input:4: the line Edges says 3, and 2 E lines stand' '33D32945\nSECTION Graph\nNodes 3\nEdges 3\nE 1 2 5\nE 2 3 5\nEND\nEOF\n' build
 try edges-one 2 'says 3, and 1 E line stands' '33D32945\nSECTION Other\nSECTION Graph\nEdges 7\nE 1 2 3\nEND\nSECTION Graph\nNodes 3\nEdges 3\nE 1 2 5\nEND\nEOF\n' build
+try edges-end 2 'says 3, and 1 E line stands' '33D32945\nSECTION Other\nEND x\nSECTION Graph\nEdges 7\nE 1 2 3\nEND\nSECTION Graph\nNodes 3\nEdges 3\nE 1 2 5\nEND\nEOF\n' build
 try stp-end 2 'Refused \(4\): standard input:6: trench 2 joins junction 3 to itself' '33D32945\nSECTION Graph\nNodes 3\nEdges 2\nE 1 2 5\nE 3 3 5\nEND\nEOF\n' build
 try stp-name 2 'Refused \(12\): tests/console/build-stp-word.txt:5: ' '' build tests/console/build-stp-word.txt
 try four-columns 3 "standard input:4: '1 2' is not a trench" "${top}1 2 5 1\n1 2\n" check
@@ -155,7 +158,14 @@ for number in range(12):
     with open("%s/apart%d.least" % (sys.argv[1], number), "w") as out:
         out.write(str(min(set(range(n)) - seen, default=-1) + 1))
 PYTHON
-for ((number = 0; number < 12; number++)); do
+# A chain at the top, then trenches beside it that fill the table: those at the top count as much as those at the bottom.
+{
+    echo 'junctions 255'
+    for ((v = 1; v < 254; v++)); do echo "$v $((v + 1)) 1"; done
+    for ((u = 2; u < 60; u++)); do for ((v = u + 2; v < 60; v++)); do echo "$u $v 7"; done; done | head -n 771
+} >"$work/apart12.txt"
+echo 255 >"$work/apart12.least"
+for ((number = 0; number < 13; number++)); do
     try "apart-$number" 2 "junction $(cat "$work/apart$number.least") cannot be reached" '' build "$work/apart$number.txt"
 done
 

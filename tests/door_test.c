@@ -1,6 +1,9 @@
 /* Compares the doors with the plain implementation on many tables: valid and damaged ones, each refusal alone and several at once, boundary
  * lengths, ties, parallel rows, claims that are near the least tree, the largest table. Guard bytes stand around every lent column.
+ * The largest table is tried in a thread with the stack that the header names.
  * usage: door_test [TABLES]   prints one line 'N passed, M failed' */
+#define _POSIX_C_SOURCE 200809L
+#include <pthread.h>
 #include <stdio.h>
 #include <stdlib.h>
 #include <string.h>
@@ -8,7 +11,7 @@
 #include "plain.h"
 #include "star.h"
 
-enum { GUARD = 32, ROOM = 1032, FILL = 0xA5 };
+enum { GUARD = 32, ROOM = 1032, FILL = 0xA5, STACK = 128 << 10 };
 
 static uint64_t state = 88172645463325252u;
 
@@ -123,6 +126,14 @@ static uint32_t damage(uint32_t n, size_t m) {
 /* The guards go back around a column whose length was changed. */
 static void reguard(struct column *c) { memset(c->bytes + GUARD + c->len, FILL, sizeof c->bytes - GUARD - c->len); }
 
+/* Calls a door; an empty column is lent as a null pointer. */
+static uint8_t *lend(struct column *c) { return c->len ? at(c) : NULL; }
+
+static uint32_t lent(uint32_t n, int build) {
+    return build ? star_mst1(n, lend(&left), left.len, lend(&right), right.len, lend(&weight), weight.len, lend(&mark), mark.len, lend(&answer), answer.len)
+                 : star_cst(n, lend(&left), left.len, lend(&right), right.len, lend(&weight), weight.len, lend(&mark), mark.len, lend(&answer), answer.len);
+}
+
 static int agree(uint32_t n, int build) {
     static struct column mine, marks;
     struct column l = left, r = right, w = weight;
@@ -131,8 +142,7 @@ static int agree(uint32_t n, int build) {
     mine = answer;
     marks = mark;
     plain = (build ? plain_mst1 : plain_cst)(&c, at(&mine), mine.len);
-    said = build ? star_mst1(n, left.len ? at(&left) : NULL, left.len, at(&right), right.len, at(&weight), weight.len, at(&mark), mark.len, at(&answer), answer.len)
-                 : star_cst(n, left.len ? at(&left) : NULL, left.len, at(&right), right.len, at(&weight), weight.len, at(&mark), mark.len, at(&answer), answer.len);
+    said = lent(n, build);
     return said == plain && !memcmp(answer.bytes, mine.bytes, sizeof mine.bytes) && !memcmp(mark.bytes, marks.bytes, sizeof marks.bytes)
         && guarded(&answer) && guarded(&mark) && !memcmp(left.bytes, l.bytes, sizeof l.bytes) && !memcmp(right.bytes, r.bytes, sizeof r.bytes)
         && !memcmp(weight.bytes, w.bytes, sizeof w.bytes);
@@ -187,9 +197,84 @@ static void limits(void) {
         }
 }
 
+/* The yard's table with a tree as its claim, before the columns that a call lends as null pointers are emptied. */
+static void yard(void) {
+    static const uint8_t l[] = {1, 2, 3, 1, 1}, r[] = {2, 3, 4, 4, 3}, w[] = {5, 3, 5, 4, 6}, tree[] = {1, 1, 0, 1, 0};
+    size_t i;
+    make(&left, 5);
+    make(&right, 5);
+    make(&weight, 20);
+    make(&mark, 5);
+    make(&answer, 16);
+    memcpy(at(&left), l, sizeof l);
+    memcpy(at(&right), r, sizeof r);
+    memcpy(at(&mark), tree, sizeof tree);
+    for (i = 0; i < sizeof w; i++) set_price(i, w[i]);
+}
+
+/* A null pointer with length 0 for each column of each door, alone and for all of them. */
+static void nulls(void) {
+    static const struct {
+        const char *empty; /* the columns that are lent as null pointers */
+        uint32_t n, returns;
+        unsigned kind[2], number[2]; /* of star_cst and of star_mst1 */
+        uint64_t amount;
+    } call[] = {
+        {"", 4, 1, {STAR_PASSED, STAR_PASSED}, {0, 0}, 12},
+        {"l", 4, 1, {STAR_REFUSED, STAR_REFUSED}, {STAR_BAD_LENGTHS, STAR_BAD_LENGTHS}, 0},
+        {"r", 4, 1, {STAR_REFUSED, STAR_REFUSED}, {STAR_BAD_LENGTHS, STAR_BAD_LENGTHS}, 0},
+        {"w", 4, 1, {STAR_REFUSED, STAR_REFUSED}, {STAR_BAD_LENGTHS, STAR_BAD_LENGTHS}, 0},
+        {"m", 4, 1, {STAR_REFUSED, STAR_REFUSED}, {STAR_BAD_LENGTHS, STAR_BAD_LENGTHS}, 0},
+        {"a", 4, 0, {0, 0}, {0, 0}, 0},
+        {"lrwm", 0, 1, {STAR_REFUSED, STAR_REFUSED}, {STAR_BAD_JUNCTION_COUNT, STAR_BAD_JUNCTION_COUNT}, 0},
+        {"lrwm", 1, 1, {STAR_PASSED, STAR_PASSED}, {0, 0}, 0},
+        {"lrwm", 2, 1, {STAR_REFUSED, STAR_REFUSED}, {STAR_BAD_MARK_COUNT, STAR_NO_NETWORK}, 0},
+        {"lrwma", 1, 0, {0, 0}, {0, 0}, 0},
+    };
+    size_t i;
+    int build;
+    for (i = 0; i < sizeof call / sizeof call[0]; i++)
+        for (build = 0; build < 2; build++) {
+            struct star_answer said;
+            const char *e = call[i].empty;
+            int ok;
+            yard();
+            if (strchr(e, 'l')) make(&left, 0);
+            if (strchr(e, 'r')) make(&right, 0);
+            if (strchr(e, 'w')) make(&weight, 0);
+            if (strchr(e, 'm')) make(&mark, 0);
+            if (strchr(e, 'a')) make(&answer, 0);
+            tell(agree(call[i].n, build), build ? "star_mst1 with null pointers" : "star_cst with null pointers", call[i].n);
+            memset(at(&answer), FILL, answer.len);
+            ok = lent(call[i].n, build) == call[i].returns;
+            said = star_read_answer(at(&answer));
+            if (call[i].returns) ok = ok && said.kind == call[i].kind[build] && said.number == call[i].number[build] && said.amount == call[i].amount && !said.out && !said.in;
+            tell(ok, build ? "star_mst1's answer to null pointers" : "star_cst's answer to null pointers", call[i].n);
+        }
+}
+
+/* Both doors in a thread of 128 KiB, on the largest table: the tree that is built passes. */
+static void *on_small_stack(void *said) {
+    ((uint32_t *)said)[0] = lent(255, 1);
+    ((uint32_t *)said)[1] = lent(255, 0);
+    return NULL;
+}
+
+static void small_stack(void) {
+    pthread_attr_t attr;
+    pthread_t thread;
+    uint32_t said[2] = {0, 0};
+    fresh(255, 1024, 1000, 1);
+    tell(!pthread_attr_init(&attr) && !pthread_attr_setstacksize(&attr, STACK) && !pthread_create(&thread, &attr, on_small_stack, said) && !pthread_join(thread, NULL)
+             && said[0] == 1 && said[1] == 1 && star_read_answer(at(&answer)).kind == STAR_PASSED,
+         "a thread of 128 KiB", 255);
+}
+
 int main(int count, char **words) {
     unsigned long tables = count > 1 ? strtoul(words[1], NULL, 10) : 200000, k;
     limits();
+    nulls();
+    small_stack();
     for (k = 0; k < tables; k++) one(k);
     printf("%lu passed, %lu failed\n", passed, failed);
     return failed != 0;

@@ -1,13 +1,16 @@
 /* Holds star_import to the plain reader of tests/stp, on the texts that tests/stp/generate.py wrote to a file, and to what it promises of the
- * lent bytes: guard bytes around every column and the answer, rows past m, columns and answers of wrong lengths, null pointers.
+ * lent bytes: guard bytes around every column and the answer, rows past m, columns and answers of wrong lengths, null pointers. All of it runs in a
+ * thread with a stack of 1 MiB, which the header says is enough for any text.
  * usage: import_test FILE [EVERY]   takes each EVERYth text; prints one line 'N passed, M failed' */
+#define _POSIX_C_SOURCE 200809L
+#include <pthread.h>
 #include <stdio.h>
 #include <stdlib.h>
 #include <string.h>
 
 #include "star.h"
 
-enum { GUARD = 64, ROWS = STAR_MAX_ROWS, ROOM = 4 * ROWS + 64 };
+enum { GUARD = 64, ROWS = STAR_MAX_ROWS, ROOM = 4 * ROWS + 64, STACK = 1 << 20, DEEPEST = 4677 };
 
 static uint64_t state = 88172645463325252u;
 
@@ -49,6 +52,13 @@ struct item {
 };
 
 static unsigned long passed, failed, refused[256], taken;
+static size_t deepest; /* the most sections of a text that was lent */
+
+static size_t sections(const struct item *t) {
+    size_t i, k = 0;
+    for (i = 0; i + 8 <= t->len; i++) k += !memcmp(t->text + i, "\nSECTION", 8);
+    return k;
+}
 
 static void tell(int ok, const char *what, const struct item *t) {
     if (ok) {
@@ -112,6 +122,42 @@ static void wrong_answer(const struct item *t, size_t len) {
     lend(&weight, 4 * ROWS);
     lend(&answer, len);
     tell(call(t, 0), "an answer of a wrong length", t);
+}
+
+/* A null pointer with length 0 for each column, alone and for all of them, with a text of one row. */
+static void nulls(void) {
+    static const char text[] = "33D32945\nSECTION Graph\nNodes 4\nEdges 1\nE 1 2 5\nEND\nEOF";
+    static const struct {
+        const char *empty; /* the columns that are lent as null pointers */
+        uint32_t returns;
+        unsigned kind, number, n, m;
+    } lent[] = {
+        {"", 1, STAR_PASSED, 0, 4, 1},
+        {"t", 1, STAR_REFUSED, STAR_BAD_TEXT, 0, 0},
+        {"l", 1, STAR_REFUSED, STAR_BAD_LENGTHS, 0, 0},
+        {"r", 1, STAR_REFUSED, STAR_BAD_LENGTHS, 0, 0},
+        {"w", 1, STAR_REFUSED, STAR_BAD_LENGTHS, 0, 0},
+        {"a", 0, 0, 0, 0, 0},
+        {"lrw", 1, STAR_REFUSED, STAR_BAD_LENGTHS, 0, 0},
+        {"tlrw", 1, STAR_REFUSED, STAR_BAD_TEXT, 0, 0},
+        {"tlrwa", 0, 0, 0, 0, 0},
+    };
+    static const uint8_t row[] = {1, 2, 5, 0, 0, 0};
+    size_t i;
+    for (i = 0; i < sizeof lent / sizeof lent[0]; i++) {
+        struct item t = {0};
+        const char *e = lent[i].empty;
+        uint8_t said[STAR_ANSWER_BYTES] = {0};
+        if (!strchr(e, 't')) t.text = (uint8_t *)text, t.len = sizeof text - 1;
+        lend(&left, strchr(e, 'l') ? 0 : ROWS);
+        lend(&right, strchr(e, 'r') ? 0 : ROWS);
+        lend(&weight, strchr(e, 'w') ? 0 : 4 * ROWS);
+        lend(&answer, strchr(e, 'a') ? 0 : STAR_ANSWER_BYTES);
+        said[0] = (uint8_t)lent[i].kind, said[1] = (uint8_t)lent[i].number, said[2] = (uint8_t)lent[i].n, said[4] = (uint8_t)lent[i].m;
+        expect(&answer, said, answer.len);
+        if (lent[i].m) expect(&left, row, 1), expect(&right, row + 1, 1), expect(&weight, row + 2, 4);
+        tell(call(&t, lent[i].returns), "null pointers", &t);
+    }
 }
 
 static void every_way(const struct item *t) {
@@ -180,16 +226,22 @@ static int next(FILE *in, struct item *t) {
     return get(in, t->left, t->said.m) && get(in, t->right, t->said.m) && get(in, t->weight, 4 * t->said.m) ? 1 : -1;
 }
 
-int main(int words, char **word) {
+static const char *file;
+static unsigned long every = 1; /* a part of the texts need not have every refusal */
+
+static void *whole_test(void *unused) {
     static const unsigned numbers[] = {12, 13, 1, 2, 3, 4, 5};
     static struct item t;
-    unsigned long every = words > 2 ? strtoul(word[2], NULL, 10) : 1, k; /* a part of the texts need not have every refusal */
-    FILE *in = words > 1 ? fopen(word[1], "rb") : NULL;
+    unsigned long k;
+    FILE *in = file ? fopen(file, "rb") : NULL;
     int more = in ? 1 : -1, whole = 0;
     size_t i;
     for (k = 0; more == 1; k++) {
         more = next(in, &t);
-        if (more == 1 && every && k % every == 0) every_way(&t);
+        if (more == 1 && every && k % every == 0) {
+            every_way(&t);
+            if (sections(&t) > deepest) deepest = sections(&t);
+        }
         if (more == 1 && t.said.kind == STAR_PASSED && t.said.m > 0 && !whole) lent_short(&t), whole = 1;
         free(t.text);
         t.text = NULL;
@@ -202,10 +254,25 @@ int main(int words, char **word) {
     right_lengths(&t);          /* no text: a null pointer with length 0 */
     wrong_lengths(&t, 0, 0, 0); /* and nothing else either */
     wrong_answer(&t, 0);
+    nulls();
     go_on();
     for (i = 0; i < sizeof numbers / sizeof numbers[0]; i++)
         if (every == 1 && !refused[numbers[i]]) fprintf(stderr, "no text was refused %u\n", numbers[i]), failed++;
     if (!taken) fprintf(stderr, "no text was read\n"), failed++;
+    if (every == 1 && deepest < DEEPEST) fprintf(stderr, "no text had %d sections\n", DEEPEST), failed++;
+    (void)unused;
+    return NULL;
+}
+
+int main(int words, char **word) {
+    pthread_attr_t attr;
+    pthread_t thread;
+    if (words > 1) file = word[1];
+    if (words > 2) every = strtoul(word[2], NULL, 10);
+    if (pthread_attr_init(&attr) || pthread_attr_setstacksize(&attr, STACK) || pthread_create(&thread, &attr, whole_test, NULL) || pthread_join(thread, NULL)) {
+        fprintf(stderr, "no thread with a stack of %d bytes\n", STACK);
+        failed++;
+    }
     printf("%lu passed, %lu failed\n", passed, failed);
     return failed != 0;
 }

@@ -21,9 +21,9 @@ add() {
 "$build/door_test" 200000 | tee "$work/door"
 add "$work/door"
 
-# The import, on texts whose answers a plain reader gives: the door, on a stack of 8 MiB, and the program, run under the kit's loader as rt does.
+# The import, on texts whose answers a plain reader gives: the door, in a thread of 1 MiB, and the program, run under the kit's loader as rt does.
 python3 -B tests/stp/generate.py "$work/texts"
-(ulimit -S -s 8192 && "$build/import_test" "$work/texts") | tee "$work/import"
+"$build/import_test" "$work/texts" | tee "$work/import"
 add "$work/import"
 kit=${RATTLE_HOME:-$(dirname "$(dirname "$(readlink -f "$(command -v rt)")")")}
 loader=$kit/on/$(uname -m)/toolchain/lib/ld-linux-x86-64.so.2

@@ -34,14 +34,38 @@ class Picture:
         self.trenches = [(p.find(SVG + "title").text, p.get("class"), p.get("d")) for p in parts if p.find(SVG + "title") is not None]
         self.grounds = [tuple(number(r, key) for key in ("x", "y", "width", "height")) for r in parts if r.get("class") == "ground"]
         self.labels = [t.text for t in parts if t.tag == SVG + "text" and t.get("class").startswith("label")]
+        self.light = [t.get("class") == "label other-label" for t in parts if t.tag == SVG + "text" and t.get("class").startswith("label")]
         self.verdict = " ".join(t.text for t in parts if t.get("class") == "verdict")
         last = max([k for k, p in enumerate(parts) if p.find(SVG + "title") is not None], default=-1)
         first = min([k for k, p in enumerate(parts) if p.get("class") == "ground"], default=len(parts))
         self.labels_above = last < first
 
-    def middle(self, d):
+    def points(self, d, count):
+        """Points of a trench, from one end to the other."""
         x0, y0, x1, y1, x2, y2 = (float(w) for w in d.replace("M", " ").replace("Q", " ").split())
-        return x0 / 4 + x1 / 2 + x2 / 4, y0 / 4 + y1 / 2 + y2 / 4
+        for k in range(count + 1):
+            b = k / count
+            a = 1 - b
+            yield a * a * x0 + 2 * a * b * x1 + b * b * x2, a * a * y0 + 2 * a * b * y1 + b * b * y2
+
+    def middle(self, d):
+        return list(self.points(d, 2))[1]
+
+    def over_heavy(self):
+        """Labels of light trenches that cover a part of a heavy one."""
+        cells = {}
+        for k, (x, y, w, h) in enumerate(self.grounds):
+            for i in range(int(x) // 50, int(x + w) // 50 + 1):
+                for j in range(int(y) // 50, int(y + h) // 50 + 1):
+                    cells.setdefault((i, j), []).append(k)
+        found = set()
+        for title, look, d in self.trenches:
+            for px, py in self.points(d, 300) if look != "other" else ():
+                for k in cells.get((int(px) // 50, int(py) // 50), ()):
+                    x, y, w, h = self.grounds[k]
+                    if self.light[k] and x < px < x + w and y < py < y + h:
+                        found.add(self.labels[k])
+        return found
 
 
 def apart(a, b):
@@ -67,6 +91,7 @@ def judge(name, rows, n, labelled, work):
     check(name + ": labels apart", all(apart(a, b) for k, a in enumerate(p.grounds) for b in p.grounds[:k]))
     check(name + ": labels beside junctions", all(off(g, c) for g in p.grounds for c in p.circles))
     check(name + ": junctions apart", all((a[0] - b[0]) ** 2 + (a[1] - b[1]) ** 2 > (2 * a[2]) ** 2 for k, a in enumerate(p.circles) for b in p.circles[:k]))
+    check(name + ": heavy trenches whole", not p.over_heavy())
     inside = lambda x, y: 0 <= x <= p.size[0] and 0 <= y <= p.size[1]
     check(name + ": on the sheet", all(inside(x, y) and inside(x + w, y + h) for x, y, w, h in p.grounds)
           and all(inside(*p.middle(t[2])) for t in p.trenches) and all(inside(c[0], c[1]) for c in p.circles))

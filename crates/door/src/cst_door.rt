@@ -5,6 +5,7 @@ use cst::Verdict;
 ghost use mathlib.Core.Path.{_≡_};
 ghost use Rattle.answer.specs.Records.{fieldsOf};
 ghost use Rattle.star.specs.Call.{callOf};
+ghost use Rattle.demand3.specs.Bytes.{CstCall};
 ghost use Rattle.cst.specs.Verdicts.{answerOf};
 ghost use Rattle.star.specs.Door.{fields, doorReturns, cstDoor};
 
@@ -37,7 +38,7 @@ pub fn of_verdict(v: Verdict) -> Record
     }
 }
 
-// CST through the door.
+// CST through the door. `means` says what the bytes are worth: what is read back, and what it says of the table's spanning trees.
 #[no_mangle]
 pub extern "C" fn star_cst(
     n: u32,
@@ -51,6 +52,9 @@ pub extern "C" fn star_cst(
     ensures answered { λ r.
         let c = callOf n (now (left .entry)) (now (right .entry)) (now (weight .entry)) (now (mark .entry)) in
         ⌜ now (answer .exit) ≡ cstDoor c (now (answer .entry)) ⌝ }
+    ensures means { λ r.
+        let c = callOf n (now (left .entry)) (now (right .entry)) (now (weight .entry)) (now (mark .entry)) in
+        ⌜ CstCall c (now (answer .entry)) (now (answer .exit)) r ⌝ }
 {
     if answer.len() != 16 {
         return 0;

@@ -5,6 +5,7 @@ use mst1::Built;
 ghost use mathlib.Core.Path.{_≡_};
 ghost use Rattle.answer.specs.Records.{fieldsOf};
 ghost use Rattle.star.specs.Call.{callOf};
+ghost use Rattle.demand3.specs.Bytes.{Mst1Call};
 ghost use Rattle.mst1.specs.Answers.{answerOf};
 ghost use Rattle.star.specs.Door.{fields, doorReturns, mst1Door, mst1DoorMarks};
 
@@ -31,6 +32,7 @@ pub fn of_built(b: Built) -> Record
 }
 
 // MST1 through the door: the marks are written where a tree is built, and stay as they are otherwise.
+// `means` says what the bytes and the marks are worth.
 #[no_mangle]
 pub extern "C" fn star_mst1(
     n: u32,
@@ -44,6 +46,9 @@ pub extern "C" fn star_mst1(
     ensures written { λ r.
         let c = callOf n (now (left .entry)) (now (right .entry)) (now (weight .entry)) (now (mark .entry)) in
         ⌜ (now (answer .exit) ≡ mst1Door c (now (answer .entry))) × (now (mark .exit) ≡ mst1DoorMarks c (now (answer .entry))) ⌝ }
+    ensures means { λ r.
+        let c = callOf n (now (left .entry)) (now (right .entry)) (now (weight .entry)) (now (mark .entry)) in
+        ⌜ Mst1Call c (now (answer .entry)) (now (answer .exit)) (now (mark .exit)) r ⌝ }
 {
     if answer.len() != 16 {
         return 0;

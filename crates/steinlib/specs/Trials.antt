@@ -2,7 +2,7 @@
 -- Assumes nothing.
 use Prim.Native.Nat.{ℕ, zero, suc}
 use Prim.Native.String.{String}
-use mathlib.Core.List.{List, [], _∷_, _++_, map}
+use mathlib.Core.List.{List, [], _∷_, _++_}
 use mathlib.Core.Path.{_≡_}
 use lib.ListN.{length, replicate, take}
 use Rattle.refusal.specs.declared.Refusal.{Refusal}
@@ -11,13 +11,11 @@ use Rattle.steinlib.specs.Door.{importFields, importDoor, leftDoor, righ
 use Rattle.steinlib.specs.Import.{ImportAnswer, untaken, taken, sizes, imported, leftAfter, rightAfter, weightAfter}
 use Rattle.steinlib.specs.Reader.{broken}
 use Rattle.words.specs.Bytes.{bytes}
+use Rattle.words.specs.Trials.{Hold}
 
 -- a trial: what is given, and what it should be
 abbrev Trial : Type 0
 Trial = ImportAnswer × ImportAnswer
-
-abbrev Hold : {A : Type 0} → List (A × A) → Type 0
-Hold {A} trials = map {A = A × A} {B = A} (λ t. t .0) trials ≡ map {A = A × A} {B = A} (λ t. t .1) trials
 
 -- an import into columns of 1,024 rows
 abbrev proper : String → ImportAnswer

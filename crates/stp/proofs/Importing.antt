@@ -1,6 +1,6 @@
 -- Laws of what follows the reading: the causes of a text that was read, and what a text without one gives.
 -- Assumes nothing.
-use Prim.Native.Nat.{ℕ, _*_, _≤_, _<_}
+use Prim.Native.Nat.{ℕ, _*_, _≤_}
 use borrow.Author.Tests.{eq-eqb, ne-eqb, eqb-true, lt-ltb, le-ltb, ltb-false}
 use lib.Dec.{eqb, ltb}
 use lib.ListN.{length, drop}
@@ -14,11 +14,10 @@ use Rattle.refusal.specs.declared.Refusal.{Refusal}
 use Rattle.star.specs.Call.{Call, callOf}
 use Rattle.star.specs.Refusals.{maxRows, cause, badVertices, tooManyRows, badLengths, badRow, tableCauses, orElse, refusal}
 use Rattle.star.proofs.Accepted.{none-head, none-tail, none-cons, none-both, none-nil, none-cause, cause-none, refusal-append}
-use Rattle.steinlib.specs.Import.{maxText, bounded, readText, tableOf, badColumns, badEdges, importCauses, untaken, taken, sizes, answered, filled, columnsOf}
-use Rattle.steinlib.specs.Reader.{Read, Reading, broken, whole, opening, nothingRead, readFrom}
-use Rattle.words.specs.Text.{words}
-use Rattle.stp.specs.steps.Reading.{finished}
-use Rattle.stp.specs.declared.lines.Step.{Step}
+use Rattle.steinlib.specs.Import.{tableOf, badColumns, badEdges, importCauses, untaken, taken, sizes, answered, filled, columnsOf}
+use Rattle.steinlib.specs.Reader.{Read, Reading, broken, whole}
+use Rattle.reader.specs.Readings.{finished}
+use Rattle.reader.specs.declared.lines.Step.{Step}
 
 -- causes of which one applies decide before later ones
 refusal-first : (xs ys : List (Option Refusal)) (x : Refusal) → refusal xs ≡ some x → refusal (xs ++ ys) ≡ some x
@@ -68,16 +67,6 @@ module _ (l r w : ℕ) where
   pub columns-first : (x : Option Refusal) → (not (eqb l 1024) || not (eqb r 1024) || not (eqb w 4096)) ≡ true → some (record { number = 3; place = 0 }) ≡ refusal (badColumns l r w ∷ x ∷ [])
   unfolding badColumns cause refusal orElse
   columns-first x e = rw e
-
--- ── The text's length ──
-
-pub text-long : (text : List ℕ) → maxText < length text → readText text ≡ broken maxText
-unfolding readText bounded
-text-long text h = rw (lt-ltb _ _ h)
-
-pub text-short : (text : List ℕ) → length text ≤ maxText → readText text ≡ readFrom (length text) opening nothingRead (words text)
-unfolding readText bounded
-text-short text h = rw (le-ltb _ _ h)
 
 -- ── What follows the refusal, if there is one ──
 

@@ -1,28 +1,9 @@
--- What an import's answer says, by its cases, and what a text that was read comes to.
+-- What an import's answer says, by its cases.
 -- Assumes nothing.
-use Prim.Native.Nat.{ℕ}
-use lib.ListN.{length}
-use mathlib.Core.List.{List}
-use mathlib.Core.Option.{Option}
-use mathlib.Core.Path.{_≡_}
-use Rattle.refusal.specs.declared.Refusal.{Refusal}
-use Rattle.star.specs.Refusals.{refusal}
-use Rattle.steinlib.specs.Import.{ImportAnswer, untaken, taken, importCauses, answered, filled, columnsOf}
-use Rattle.steinlib.specs.Reader.{Reading}
+use Rattle.steinlib.specs.Import.{ImportAnswer, untaken, taken}
 use Rattle.stp.specs.declared.Imported.{Imported}
 use Rattle.stp.specs.declared.Imported.the-variants.{Taken, Refused}
 
 unfoldable pub answerOf : Imported → ImportAnswer
 answerOf (Taken s) = taken (s .n) (s .m)
 answerOf (Refused r) = untaken r
-
--- the refusal of a text that was read, with the lent columns
-abbrev pub refusalFor : Reading → List ℕ → List ℕ → List ℕ → Option Refusal
-refusalFor x left right weight = refusal (importCauses x (length left) (length right) (length weight))
-
--- the answer to a text that was read, and the lent columns afterwards
-pub record Settled (x : Reading) (left right weight : List ℕ) (answer : Imported) (left' right' weight' : List ℕ) : Type 0 where
-  pub told : answerOf answer ≡ answered (refusalFor x left right weight) x
-  pub lefts : left' ≡ filled (refusalFor x left right weight) (columnsOf x .left) left
-  pub rights : right' ≡ filled (refusalFor x left right weight) (columnsOf x .right) right
-  pub weights : weight' ≡ filled (refusalFor x left right weight) (columnsOf x .weight) weight

@@ -1,3 +1,1 @@
-pub mod Lines
-pub mod Reading
-pub mod Sections
+pub mod Settled

@@ -1,43 +1,24 @@
-// The import of a SteinLib STP text into the three columns of a table. The text is read whole, into columns of its own, before a lent column is written.
-// The section reader and the line reader call each other, once a section.
-ghost use mathlib.Core.Bool.{true, false, _&&_};
+// The import of a SteinLib STP text into the three columns of a table. The text is read whole, into columns of the reader's own, before a lent column is written.
 ghost use mathlib.Core.List.{[], _∷_, _++_};
 ghost use mathlib.Core.Option.{none};
 ghost use mathlib.Core.Path.{_≡_};
-ghost use Prim.Native.Nat.{_-_, _*_, _≤_, _<_};
-ghost use lib.ListN.{length, take, drop};
+ghost use Prim.Native.Nat.{_*_, _≤_};
+ghost use lib.ListN.{length, take, drop, getD};
+ghost use Rattle.reader.specs.Readings.{Sized, readOf, rowsOf, finished};
 ghost use Rattle.refusal.specs.Outcomes.{refusalOf};
 ghost use Rattle.star.specs.Refusals.{badVertices, tooManyRows, badRow, refusal};
 ghost use Rattle.steinlib.specs.Import.{imported, maxText, readText, tableOf, badColumns, importCauses, leftAfter, rightAfter, weightAfter};
-ghost use Rattle.steinlib.specs.Reader.{Read, nothingRead, whole, opening, sections, naming, closed, readFrom};
-ghost use Rattle.words.specs.Names.{same};
-ghost use Rattle.words.specs.Text.{words, wordsAt};
-ghost use Rattle.stp.specs.steps.Sections.{headed};
-ghost use Rattle.stp.specs.steps.Reading.{readOf, resumed, finished, lineStand, lineRead};
-ghost use Rattle.stp.specs.Answers.{answerOf, Settled};
-use lines::Found;
-use lines::ROWS;
-use lines::Step;
+ghost use Rattle.stp.specs.Answers.{answerOf};
+ghost use Rattle.stp.specs.steps.Settled.{Settled};
+use reader::lines::EDGES;
+use reader::lines::FOUND;
+use reader::lines::LINES;
+use reader::lines::NODES;
+use reader::lines::ROWS;
+use reader::lines::Step;
+use reader::lines::WEIGHT_BYTES;
 use refusal::Outcome;
 use refusal::Refusal;
-use words::Span;
-use words::next_word;
-use words::same;
-
-mod lines; // lines.rt: the lines of a section
-
-// The longest text that is taken, and the bytes of a column of weights.
-const MAX_TEXT: usize = 65536;
-
-const WEIGHT_BYTES: usize = 4096;
-
-// A line between sections: where it opens a section, the step is at the end of the section's name, and `graph` says that the name is Graph;
-// where it does not, the step says how reading ends.
-struct Heading {
-    begun: bool,
-    graph: bool,
-    step: Step,
-}
 
 // The number of vertices and of rows that were read.
 pub struct Sizes {
@@ -49,188 +30,6 @@ pub struct Sizes {
 pub enum Imported {
     Taken(Sizes),
     Refused(Refusal),
-}
-
-// A line that opens no section.
-fn unopened(step: Step) -> Heading
-    ensures { λ x. ⌜ x ≡ record { begun = false; graph = false; step = step } ⌝ }
-{
-    Heading {
-        begun: false,
-        graph: false,
-        step: step,
-    }
-}
-
-// Whether the word is the first of its line and is the name.
-fn opens_line(text: &[u8], w: Span, name: &[u8]) -> bool
-    requires { ⌜ (w .from ≤ w .to) × (w .to ≤ length (now text)) ⌝ }
-    ensures { λ r. ⌜ r ≡ (w .first && same (take (w .to - w .from) (drop (w .from) (now (text .entry)))) (now (name .entry))) ⌝ }
-{
-    let from = w.from;
-    let to = w.to;
-    w.first && same(&text[from..to], name)
-}
-
-// After EOF: no word may follow.
-fn close(text: &[u8], at: usize, found: Found) -> Step
-    requires { ⌜ at ≤ length (now text) ⌝ }
-    ensures { λ x. ⌜ ((r : Read) → readFrom (length (now (text .entry))) closed r (wordsAt (now (text .entry)) at false) ≡ finished x r) ⌝ }
-    ensures further { λ x. ⌜ (at ≤ x .at) × (x .at ≤ length (now (text .entry))) × (x .found ≡ found) ⌝ }
-{
-    let w = next_word(text, at, false);
-    Step {
-        broken: w.from < w.to,
-        at: w.from,
-        found: found,
-    }
-}
-
-// After SECTION: the section's name.
-fn section_name(text: &[u8], at: usize, found: Found) -> Heading
-    requires { ⌜ at ≤ length (now text) ⌝ }
-    ensures { λ x. ⌜ ((r : Read) → r .graph ≡ found .graph → readFrom (length (now (text .entry))) naming r (wordsAt (now (text .entry)) at false) ≡ headed (now (text .entry)) x r) ⌝ }
-    ensures further { λ x. ⌜ (at ≤ x .step .at) × (x .step .at ≤ length (now (text .entry))) × (x .step .found ≡ found) ⌝ }
-{
-    let w = next_word(text, at, false);
-    let from = w.from;
-    let to = w.to;
-    let no = unopened(lines::broken(from, found));
-    if w.first || from == to {
-        return no;
-    }
-    let graph = same(&text[from..to], b"Graph");
-    if graph && found.graph {
-        return no;
-    }
-    Heading {
-        begun: true,
-        graph: graph,
-        step: Step {
-            broken: false,
-            at: to,
-            found: found,
-        },
-    }
-}
-
-// A line between sections: SECTION and a name, or EOF once a Graph has been read.
-fn open_section(text: &[u8], at: usize, found: Found) -> Heading
-    requires { ⌜ at ≤ length (now text) ⌝ }
-    ensures { λ x. ⌜ ((r : Read) → r .graph ≡ found .graph → readFrom (length (now (text .entry))) sections r (wordsAt (now (text .entry)) at false) ≡ headed (now (text .entry)) x r) ⌝ }
-    ensures further { λ x. ⌜ (at ≤ x .step .at) × (x .step .at ≤ length (now (text .entry))) × (x .step .found ≡ found) × (x .begun ≡ true → at < x .step .at) ⌝ }
-{
-    let w = next_word(text, at, false);
-    if opens_line(text, w, b"SECTION") {
-        return section_name(text, w.to, found);
-    }
-    if found.graph && opens_line(text, w, b"EOF") {
-        return unopened(close(text, w.to, found));
-    }
-    unopened(lines::broken(w.from, found))
-}
-
-// The section reader: where a line opens a section, it hands on to the line reader.
-fn read_sections(
-    text: &[u8],
-    at: usize,
-    found: Found,
-    left: &mut [u8],
-    right: &mut [u8],
-    weight: &mut [u8],
-) -> Step
-    requires { ⌜ (at ≤ length (now text)) × (found .rows ≤ at) × (length (now left) ≡ 1024) × (length (now right) ≡ 1024) × (length (now weight) ≡ 4096) ⌝ }
-    ensures { λ x. ⌜ readFrom (length (now (text .entry))) sections (readOf found (now (left .entry)) (now (right .entry)) (now (weight .entry))) (wordsAt (now (text .entry)) at false) ≡ finished x (readOf (x .found) (now (left .exit)) (now (right .exit)) (now (weight .exit))) ⌝ }
-    ensures further { λ x. ⌜ x .at ≤ length (now (text .entry)) ⌝ }
-{
-    let heading = open_section(text, at, found);
-    let step = heading.step;
-    if !heading.begun {
-        return step;
-    }
-    read_lines(text, step.at, heading.graph, found, left, right, weight)
-}
-
-// The lines of a section: of Graph, or of one that is skipped.
-fn section_lines(
-    text: &[u8],
-    at: usize,
-    graph: bool,
-    found: Found,
-    left: &mut [u8],
-    right: &mut [u8],
-    weight: &mut [u8],
-) -> Step
-    requires { ⌜ (at ≤ length (now text)) × (found .rows ≤ at) × (length (now left) ≡ 1024) × (length (now right) ≡ 1024) × (length (now weight) ≡ 4096) ⌝ }
-    ensures { λ x. ⌜ readFrom (length (now (text .entry))) (lineStand graph) (lineRead graph (readOf found (now (left .entry)) (now (right .entry)) (now (weight .entry)))) (wordsAt (now (text .entry)) at false) ≡ resumed (now (text .entry)) sections x (readOf (x .found) (now (left .exit)) (now (right .exit)) (now (weight .exit))) ⌝ }
-    ensures further { λ x. ⌜ (at ≤ x .at) × (x .at ≤ length (now (text .entry))) × (x .found .rows ≤ x .at) ⌝ }
-{
-    if graph {
-        return lines::graph_lines(text, at, found, left, right, weight);
-    }
-    lines::skip_lines(text, at, found)
-}
-
-// The line reader: the lines of a section up to its END, which hands back to the section reader.
-fn read_lines(
-    text: &[u8],
-    at: usize,
-    graph: bool,
-    found: Found,
-    left: &mut [u8],
-    right: &mut [u8],
-    weight: &mut [u8],
-) -> Step
-    requires { ⌜ (at ≤ length (now text)) × (found .rows ≤ at) × (length (now left) ≡ 1024) × (length (now right) ≡ 1024) × (length (now weight) ≡ 4096) ⌝ }
-    ensures { λ x. ⌜ readFrom (length (now (text .entry))) (lineStand graph) (lineRead graph (readOf found (now (left .entry)) (now (right .entry)) (now (weight .entry)))) (wordsAt (now (text .entry)) at false) ≡ finished x (readOf (x .found) (now (left .exit)) (now (right .exit)) (now (weight .exit))) ⌝ }
-    ensures further { λ x. ⌜ x .at ≤ length (now (text .entry)) ⌝ }
-{
-    let step = section_lines(text, at, graph, found, left, right, weight);
-    if step.broken {
-        return step;
-    }
-    let seen = step.found;
-    read_sections(text, step.at, seen, left, right, weight)
-}
-
-// The first line, which opens with the word 33D32945.
-fn read_heading(text: &[u8], found: Found) -> Step
-    ensures { λ x. ⌜ ((r : Read) → readFrom (length (now (text .entry))) opening r (words (now (text .entry))) ≡ resumed (now (text .entry)) sections x r) ⌝ }
-    ensures further { λ x. ⌜ (x .at ≤ length (now (text .entry))) × (x .found ≡ found) ⌝ }
-{
-    let w = next_word(text, 0, true);
-    let from = w.from;
-    let to = w.to;
-    if !same(&text[from..to], b"33D32945") {
-        return lines::broken(from, found);
-    }
-    Step {
-        broken: false,
-        at: lines::skip_heading(text, to),
-        found: found,
-    }
-}
-
-// The whole text.
-fn read_text(text: &[u8], left: &mut [u8], right: &mut [u8], weight: &mut [u8]) -> Step
-    requires { ⌜ (length (now left) ≡ 1024) × (length (now right) ≡ 1024) × (length (now weight) ≡ 4096) ⌝ }
-    ensures { λ x. ⌜ readText (now (text .entry)) ≡ finished x (readOf (x .found) (now (left .exit)) (now (right .exit)) (now (weight .exit))) ⌝ }
-    ensures further { λ x. ⌜ x .at ≤ maxText ⌝ }
-{
-    let nothing = Found {
-        graph: false,
-        nodes: 0,
-        edges: 0,
-        rows: 0,
-    };
-    if MAX_TEXT < text.len() {
-        return lines::broken(MAX_TEXT, nothing);
-    }
-    let step = read_heading(text, nothing);
-    if step.broken {
-        return step;
-    }
-    read_sections(text, step.at, nothing, left, right, weight)
 }
 
 // A refusal with place 0.
@@ -245,7 +44,7 @@ fn refused(number: u32) -> Outcome
 
 // Causes 3, and 4 or 5, of at most 1,024 rows that were read; l, r and w are the lengths of the lent columns.
 fn rows_check(
-    found: Found,
+    found: [u32; FOUND],
     left: &[u8],
     right: &[u8],
     weight: &[u8],
@@ -253,16 +52,16 @@ fn rows_check(
     r: usize,
     w: usize,
 ) -> Outcome
-    requires { ⌜ (none ≡ refusal (badVertices (found .nodes) ∷ tooManyRows (found .rows) ∷ [])) × (length (now left) ≡ 1024) × (length (now right) ≡ 1024) × (length (now weight) ≡ 4096) ⌝ }
+    requires { ⌜ (none ≡ refusal (badVertices (getD found 1 0) ∷ tooManyRows (rowsOf found) ∷ [])) × Sized found (now left) (now right) (now weight) ⌝ }
     ensures { λ x. ⌜ refusalOf x ≡ refusal (badColumns l r w ∷ badRow (tableOf (readOf found (now (left .entry)) (now (right .entry)) (now (weight .entry)))) ∷ []) ⌝ }
 {
     if l != ROWS || r != ROWS || w != WEIGHT_BYTES {
         return refused(3);
     }
-    let m = found.rows;
+    let m = found[LINES] as usize;
     let end = 4 * m;
     checks::table_check(
-        found.nodes,
+        found[NODES],
         &left[..m],
         &right[..m],
         &weight[..end],
@@ -273,6 +72,7 @@ fn rows_check(
 // Causes 12, 13, 1, 2, 3, and 4 or 5, of a text that was read into left, right and weight; l, r and w are the lengths of the lent columns.
 fn import_check(
     step: Step,
+    found: [u32; FOUND],
     left: &[u8],
     right: &[u8],
     weight: &[u8],
@@ -280,8 +80,8 @@ fn import_check(
     r: usize,
     w: usize,
 ) -> Outcome
-    requires { ⌜ (step .at ≤ maxText) × (length (now left) ≡ 1024) × (length (now right) ≡ 1024) × (length (now weight) ≡ 4096) ⌝ }
-    ensures { λ x. ⌜ refusalOf x ≡ refusal (importCauses (finished step (readOf (step .found) (now (left .entry)) (now (right .entry)) (now (weight .entry)))) l r w) ⌝ }
+    requires { ⌜ (step .at ≤ maxText) × Sized found (now left) (now right) (now weight) ⌝ }
+    ensures { λ x. ⌜ refusalOf x ≡ refusal (importCauses (finished step (readOf found (now (left .entry)) (now (right .entry)) (now (weight .entry)))) l r w) ⌝ }
 {
     if step.broken {
         return Outcome::Refused(Refusal {
@@ -289,11 +89,10 @@ fn import_check(
             place: step.at as u32,
         });
     }
-    let found = step.found;
-    if found.rows != found.edges as usize {
+    if found[LINES] != found[EDGES] {
         return refused(13);
     }
-    let size = checks::size_check(found.nodes, found.rows);
+    let size = checks::size_check(found[NODES], found[LINES] as usize);
     let Outcome::Refused(refusal) = size else {
         return rows_check(found, left, right, weight, l, r, w);
     };
@@ -336,6 +135,7 @@ fn store_rows(
 // What follows the reading of a text into columns of its own: the checks, and the lent columns where nothing is refused.
 fn settle(
     step: Step,
+    found: [u32; FOUND],
     lefts: &[u8],
     rights: &[u8],
     weights: &[u8],
@@ -343,11 +143,12 @@ fn settle(
     right: &mut [u8],
     weight: &mut [u8],
 ) -> Imported
-    requires { ⌜ (step .at ≤ maxText) × (length (now lefts) ≡ 1024) × (length (now rights) ≡ 1024) × (length (now weights) ≡ 4096) ⌝ }
-    ensures { λ x. ⌜ Settled (finished step (readOf (step .found) (now (lefts .entry)) (now (rights .entry)) (now (weights .entry)))) (now (left .entry)) (now (right .entry)) (now (weight .entry)) x (now (left .exit)) (now (right .exit)) (now (weight .exit)) ⌝ }
+    requires { ⌜ (step .at ≤ maxText) × Sized found (now lefts) (now rights) (now weights) ⌝ }
+    ensures { λ x. ⌜ Settled (finished step (readOf found (now (lefts .entry)) (now (rights .entry)) (now (weights .entry)))) (now (left .entry)) (now (right .entry)) (now (weight .entry)) x (now (left .exit)) (now (right .exit)) (now (weight .exit)) ⌝ }
 {
     let checked = import_check(
         step,
+        found,
         lefts,
         rights,
         weights,
@@ -356,31 +157,14 @@ fn settle(
         weight.len(),
     );
     let Outcome::Refused(refusal) = checked else {
-        let found = step.found;
-        store_rows(found.rows, lefts, rights, weights, left, right, weight);
+        let m = found[LINES] as usize;
+        store_rows(m, lefts, rights, weights, left, right, weight);
         return Imported::Taken(Sizes {
-            n: found.nodes,
-            m: found.rows as u32,
+            n: found[NODES],
+            m: found[LINES],
         });
     };
     Imported::Refused(refusal)
-}
-
-// The import by way of columns of its own: the lent columns are written once the whole text is read and nothing is refused.
-fn import_by(
-    text: &[u8],
-    lefts: &mut [u8],
-    rights: &mut [u8],
-    weights: &mut [u8],
-    left: &mut [u8],
-    right: &mut [u8],
-    weight: &mut [u8],
-) -> Imported
-    requires { ⌜ (length (now lefts) ≡ 1024) × (length (now rights) ≡ 1024) × (length (now weights) ≡ 4096) ⌝ }
-    ensures { λ x. ⌜ Settled (readText (now (text .entry))) (now (left .entry)) (now (right .entry)) (now (weight .entry)) x (now (left .exit)) (now (right .exit)) (now (weight .exit)) ⌝ }
-{
-    let step = read_text(text, lefts, rights, weights);
-    settle(step, lefts, rights, weights, left, right, weight)
 }
 
 // The import: n and m, with the first m rows of the three columns written; or the refusal, and the columns stay as they were.
@@ -390,14 +174,17 @@ pub fn import(text: &[u8], left: &mut [u8], right: &mut [u8], weight: &mut [u8])
     ensures rights { λ r. ⌜ now (right .exit) ≡ rightAfter (now (text .entry)) (now (left .entry)) (now (right .entry)) (now (weight .entry)) ⌝ }
     ensures weights { λ r. ⌜ now (weight .exit) ≡ weightAfter (now (text .entry)) (now (left .entry)) (now (right .entry)) (now (weight .entry)) ⌝ }
 {
-    let mut lefts = [0u8; ROWS];
-    let mut rights = [0u8; ROWS];
-    let mut weights = [0u8; WEIGHT_BYTES];
-    import_by(
-        text,
-        &mut lefts,
-        &mut rights,
-        &mut weights,
+    let read = reader::read(text);
+    let found = read.found;
+    let lefts = read.left;
+    let rights = read.right;
+    let weights = read.weight;
+    settle(
+        read.step,
+        found,
+        &lefts,
+        &rights,
+        &weights,
         left,
         right,
         weight,

@@ -16,7 +16,7 @@ use Rattle.words.specs.declared.Class.the-variants.{Digit, Letter, Blank
 use Rattle.words.specs.declared.Span.{Span}
 
 -- trials, each with what is given first and then what it should be
-abbrev Hold : {A : Type 0} → List (A × A) → Type 0
+abbrev pub Hold : {A : Type 0} → List (A × A) → Type 0
 Hold {A} trials = map {A = A × A} {B = A} (λ t. t .0) trials ≡ map {A = A × A} {B = A} (λ t. t .1) trials
 
 -- the class of a byte, at the bounds of each class

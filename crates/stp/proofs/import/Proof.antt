@@ -1,4 +1,4 @@
--- `stp::import` meets its contract. Assumes nothing.
+-- `stp::import` meets its contract: what follows the reading is told of the whole text. Assumes nothing.
 use borrow.Author.Needs.{needs}
 use Rattle.steinlib.specs.Import.{imported, importRefusal, leftAfter, rightAfter, weightAfter}
 use Rattle.stp.proofs.import.Statement.{statement}
@@ -7,13 +7,16 @@ use Rattle.stp.proofs.import.Tie as tie
 returns : tie.Need-returns
 unfolding imported importRefusal leftAfter rightAfter weightAfter
 returns c =
-    let s = c .before .before .before .before .before .before .before .before .before .import-by .ensures in
+    let d = c .before .before .before .before .before .before in
+    let s = d .settle .ensures in
+    rw (d .before .before .before .before .before .before .before .before .before .before .before .read .ensures .0)
     (s .told, (s .lefts, (s .rights, s .weights)))
 
 pub import-spec : {M : Type 1} → statement M
 import-spec =
     tie.close
     (tie.spec
+    (λ c κs. search needs)
     (λ c. search needs)
     (λ c. search needs)
     (λ c. search needs)

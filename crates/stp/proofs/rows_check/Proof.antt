@@ -10,7 +10,7 @@ use native.Mathlib.Omega.{arith}
 use Rattle.refusal.specs.Outcomes.{refusalOf}
 use Rattle.star.proofs.Accepted.{none-cons}
 use Rattle.steinlib.specs.Import.{tableOf}
-use Rattle.stp.specs.steps.Reading.{readOf}
+use Rattle.reader.specs.Readings.{readOf, rowsOf}
 use Rattle.stp.proofs.Importing.{few-rows, table-rows, columns-right, columns-first}
 use Rattle.stp.proofs.rows_check.Statement.{statement}
 use Rattle.stp.proofs.rows_check.Tie as tie
@@ -33,7 +33,7 @@ returns-2 c =
     ∙ sym (none-cons _ _ (columns-right _ _ _ (e .before .before .if1 .left) (eqb-true _ _ (not-false _ (e .before .if2 .left))) (eqb-true _ _ (not-false _ (e .if3 .left)))))
 
 -- there are at most 1,024 rows, so each part is inside its column
-rows : (c : tie.Start) → c .args .found .rows ≤ 1024
+rows : (c : tie.Start) → rowsOf (c .args .t1) ≤ 1024
 rows c = few-rows _ _ (c .pre .0)
 
 pub rows-check-spec : {M : Type 1} → statement M
@@ -42,10 +42,13 @@ rows-check-spec =
     (tie.spec
     (λ c κs. search needs)
     returns
+    (λ c. search needs)
+    (λ c. search needs)
     (λ c. let few = rows (c .before .before .before .before .before .before) in record { fits = omega arith })
-    (λ c. let few = rows (c .before .before .before .before .before .before .before) in sym (length-take-le _ _ (omega arith)))
-    (λ c. let few = rows (c .before .before .before .before .before .before .before .before) in sym (length-take-le _ _ (omega arith)))
-    (λ c. let few = rows (c .before .before .before .before .before .before .before .before .before) in sym (length-take-le _ _ (omega arith)))
-    (λ c. let few = rows (c .before .before .before .before .before .before .before .before .before .before) in sym (length-take-le _ _ (omega arith)))
+    (λ c. search needs)
+    (λ c. let few = rows (c .before .before .before .before .before .before .before) in let p = c .before .before .before .before .before .before .before .pre .1 in sym (length-take-le _ _ (omega arith)))
+    (λ c. let few = rows (c .before .before .before .before .before .before .before .before) in let p = c .before .before .before .before .before .before .before .before .pre .1 in sym (length-take-le _ _ (omega arith)))
+    (λ c. let few = rows (c .before .before .before .before .before .before .before .before .before) in let p = c .before .before .before .before .before .before .before .before .before .pre .1 in sym (length-take-le _ _ (omega arith)))
+    (λ c. let few = rows (c .before .before .before .before .before .before .before .before .before .before) in let p = c .before .before .before .before .before .before .before .before .before .before .pre .1 in sym (length-take-le _ _ (omega arith)))
     (λ c κs. search needs)
     returns-2)

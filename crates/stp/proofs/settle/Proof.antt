@@ -8,15 +8,16 @@ use mathlib.Core.Path.{_≡_, sym, ap, _∙_}
 use native.Mathlib.Omega.{arith}
 use Rattle.refusal.specs.Outcomes.{refusalOf}
 use Rattle.steinlib.specs.Reader.{Read}
-use Rattle.stp.specs.Answers.{answerOf, refusalFor}
-use Rattle.stp.specs.steps.Reading.{readOf, finished}
+use Rattle.reader.specs.Readings.{readOf, rowsOf, finished}
+use Rattle.stp.specs.Answers.{answerOf}
+use Rattle.stp.specs.steps.Settled.{refusalFor}
 use Rattle.stp.proofs.Importing.{Clear, clear, whole-columns, whole-sizes, answered-some, answered-none, filled-some, filled-none}
 use Rattle.stp.proofs.settle.Statement.{statement}
 use Rattle.stp.proofs.settle.Tie as tie
 
 -- what was read, and where the check is done: nothing is refused
 abbrev read : tie.Start → Read
-read s = readOf (s .args .step .found) (s .args .lefts .now) (s .args .rights .now) (s .args .weights .now)
+read s = readOf (s .args .t2) (s .args .lefts .now) (s .args .rights .now) (s .args .weights .now)
 
 abbrev start : tie.After-enum-told → tie.Start
 start c = c .before .before .before .before .before .before .before .before .before
@@ -30,20 +31,20 @@ cleared : (c : tie.After-enum-told) →
     Clear (start c .args .step) (read (start c)) (length (start c .args .left .now)) (length (start c .args .right .now)) (length (start c .args .weight .now))
 cleared c = clear _ _ _ _ _ (accepted c)
 
-few : (c : tie.After-enum-told) → start c .args .step .found .rows ≤ 1024
+few : (c : tie.After-enum-told) → rowsOf (start c .args .t2) ≤ 1024
 unfolding readOf
 few c = cleared c .few
 
 returns : tie.Need-returns
 unfolding answerOf readOf
 returns c =
-    let e = c .before .before .before .before .before .before .before .before .before .before .before .before in
+    let e = c .before .before .before .before .before .before .before .before .before .before in
     let a = start e .args in
-    let m = a .step .found .rows in
-    let p = start e .pre in
+    let m = rowsOf (a .t2) in
+    let p = start e .pre .1 in
     let k = cleared e in
     let rows = few e in
-    let st = c .before .before .before .before .before .before .before .store-rows .ensures in
+    let st = c .before .before .before .before .before .before .store-rows .ensures in
     record {
       told = sym (whole-sizes (start e .args .step) (read (start e)) (k .unbroken)) ∙ answered-none _ (accepted e);
       lefts = rw (whole-columns (start e .args .step) (read (start e)) (k .unbroken)) (st .0 ∙ filled-none (take m (a .lefts .now)) (a .left .now) m (length-take-le _ _ (omega arith)) (accepted e));
@@ -64,8 +65,11 @@ settle-spec =
     (λ c κs. search needs)
     (λ c. search needs)
     (λ c. search needs)
-    (λ c κs. let e = c .before .before .before .before in let p = start e .pre in let k = cleared e in ((few e, p .1, p .2, p .3), (k .left-length, k .right-length, k .weight-length)))
-    (λ c. let rows = few (c .before .before .before .before .before .before .before .before .before .before .before .before) in omega arith)
+    (λ c. search needs)
+    (λ c. search needs)
+    (λ c κs. let e = c .before .before .before in let p = start e .pre .1 in let k = cleared e in ((few e, p .lefts, p .rights, p .weights), (k .left-length, k .right-length, k .weight-length)))
+    (λ c. search needs)
+    (λ c. search needs)
     (λ c. search needs)
     (λ c. search needs)
     (λ c. search needs)
