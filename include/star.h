@@ -2,8 +2,9 @@
  *
  * A table has n junctions, numbered 1 to n, and m rows, counted from 1. A row joins two junctions at a price:
  *   left, right   one byte a row, the two junctions
- *   weight        four bytes a row, the price, least significant byte first: a whole number from -2,147,483,648 to 2,147,483,647 in two's
- *                 complement, below 0 where a grant exceeds the cost. Any four bytes are a price; star_put_price and star_get_price pack and read one
+ *   weight        four bytes a row, the price in two's complement, least significant byte first: a whole number from
+ *                 -2,147,483,648 to 2,147,483,647, below 0 where a grant exceeds the cost. Any four bytes are a price;
+ *                 star_put_price packs one, and star_get_price reads it
  *   mark          one byte a row, 1 for a marked row and 0 for any other: the claim
  * m is the length of the left column.
  *
@@ -85,9 +86,9 @@ uint32_t star_mst1(uint32_t n, const uint8_t *left, size_t left_len, const uint8
 
 /* Reads an STP text: a first line that opens with 33D32945; sections, of which one is named Graph, with its lines Nodes N, Edges M,
  * E LEFT RIGHT PRICE for each row, END; and EOF. Sections of other names are skipped. left, right and weight are lent for 1,024 rows:
- * 1,024, 1,024 and 4,096 bytes. The m rows of the text are written at the top, and rows past m keep their content. PRICE may
- * open with -; one that is not from -2,147,483,648 to 2,147,483,647 cannot stand. A refusal is 12, else 13, 1, 2, 3, or 4. The first m rows
- * (4 m bytes of weight) are what star_cst and star_mst1 take. */
+ * 1,024, 1,024 and 4,096 bytes. The m rows of the text are written at the top, and rows past m keep their content. A PRICE may open
+ * with -; one outside -2,147,483,648 to 2,147,483,647 is a word that cannot stand. A refusal is 12, else 13, 1, 2, 3 or 4. The first m
+ * rows (4 m bytes of weight) are what star_cst and star_mst1 take. */
 uint32_t star_import(const uint8_t *text, size_t text_len, uint8_t *left, size_t left_len, uint8_t *right, size_t right_len,
                      uint8_t *weight, size_t weight_len, uint8_t *answer, size_t answer_len);
 

@@ -121,7 +121,7 @@ static uint32_t damage(uint32_t n, size_t m) {
     case 0: return any(2) ? 0 : 256 + any(1000);
     case 1: if (left.len) left.len--; break;
     case 2: right.len += any(2) ? 1 : 0; break;
-    case 3: if (weight.len) weight.len -= 1 + any(4); break;
+    case 3: weight.len -= weight.len < 4 ? weight.len : 1 + any(4); break;
     case 4: if (mark.len) mark.len--; else mark.len++; break;
     case 5: if (m) at(&left)[i] = (uint8_t)(any(2) ? 0 : 255); break;
     case 6: if (m) at(&right)[i] = at(&left)[i]; break;

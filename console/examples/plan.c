@@ -1,4 +1,5 @@
-/* Builds the cheapest network of the yard, checks it, and then a dearer one, through the library. It is C99 and C++17.
+/* Builds the cheapest network of the yard, checks it, then a dearer one, and one that a grant has made dearer, through the library. It is C99 and
+ * C++17.
  *
  *     cc plan.c $(pkg-config --cflags --libs star) && ./a.out
  */
