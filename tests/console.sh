@@ -220,6 +220,8 @@ for colour in c62828 1565c0 222222 9e9e9e; do
 done
 grep -q '  1 -- 4 \[label="4: 4", color="#1565c0", fontcolor="#1565c0", penwidth=5\];' "$work/all"
 verdict dot-line $?
+grep -q '  1 -- 2 \[label="1: 5", .*, style=dashed\];' "$work/all" && grep -q '\.out{[^}]*dasharray' "$work/draw.svg"
+verdict dashed $?
 if command -v neato >/dev/null; then
     neato -Tsvg "$work/all" >"$work/neato.svg"
     verdict neato $?

@@ -51,6 +51,12 @@ class Picture:
     def middle(self, d):
         return list(self.points(d, 2))[1]
 
+    def over_junctions(self):
+        """Trenches that run over a junction that is not their end."""
+        return [title for title, look, d in self.trenches
+                for v, (x, y, r) in enumerate(self.circles) if str(v + 1) not in title.split(", ")[0].split(": ")[1].split("-")
+                for px, py in self.points(d, 60) if (px - x) ** 2 + (py - y) ** 2 < r * r]
+
     def over_heavy(self):
         """Labels of light trenches that cover a part of a heavy one."""
         cells = {}
@@ -92,6 +98,8 @@ def judge(name, rows, n, labelled, work):
     check(name + ": labels beside junctions", all(off(g, c) for g in p.grounds for c in p.circles))
     check(name + ": junctions apart", all((a[0] - b[0]) ** 2 + (a[1] - b[1]) ** 2 > (2 * a[2]) ** 2 for k, a in enumerate(p.circles) for b in p.circles[:k]))
     check(name + ": heavy trenches whole", not p.over_heavy())
+    if n <= 30:
+        check(name + ": trenches beside junctions", not p.over_junctions())
     inside = lambda x, y: 0 <= x <= p.size[0] and 0 <= y <= p.size[1]
     check(name + ": on the sheet", all(inside(x, y) and inside(x + w, y + h) for x, y, w, h in p.grounds)
           and all(inside(*p.middle(t[2])) for t in p.trenches) and all(inside(c[0], c[1]) for c in p.circles))
