@@ -8,19 +8,20 @@ use mathlib.Core.Option.{Option, none, some}
 use mathlib.Core.Path.{_≡_, refl, sym, ap, _∙_}
 use borrow.Author.Tests.{ltb-false, le-ltb, eqb-true, eqb-false, eq-eqb, not-false}
 use lib.Dec.{eqb, ltb}
+use lib.IntN.{ℤ}
 use lib.ListN.{length, take, drop, length-append, length-take, length-drop}
 use lib.Seq.{take-at, drop-at}
 use native.Mathlib.Omega.{arith}
 use Rattle.refusal.specs.declared.Refusal.{Refusal}
-use Rattle.star.specs.Call.{callOf, weightOf}
+use Rattle.star.specs.Call.{callOf}
 use Rattle.star.specs.Door.{bytesOf}
-use Rattle.star.specs.Refusals.{maxVertices, maxRows, cause, badVertices, tooManyRows, badLengths, badEnds, tooHeavy, badRow, tableCauses, orElse, refusal, Accepted}
+use Rattle.star.specs.Refusals.{maxVertices, maxRows, cause, badVertices, tooManyRows, badLengths, badEnds, badRow, tableCauses, orElse, refusal, Accepted}
 use Rattle.star.proofs.Accepted.{none-head, none-tail, none-both, none-nil, cause-none, none-cause}
 use Rattle.steinlib.specs.Accepted.{ImportTaken, ImportHolds}
 use Rattle.steinlib.specs.Import.{maxText, bounded, readText, tableOf, badColumns, badEdges, importCauses, untaken, taken, sizes, answered, imported, filled, columnsOf, importRefusal, leftAfter, rightAfter, weightAfter}
-use Rattle.steinlib.specs.Reader.{Read, nothingRead, withGraph, withNodes, withEdges, withRow, Stand, opening, heading, sections, naming, skipping, skipped, ending, nodes, nodeCount, edges, edgeCount, lines, leftEnd, rightEnd, price, closed, Next, when, counted, numberThen, nextSection, named, graphLine, next, Reading, broken, whole, isClosed, follow, readFrom}
+use Rattle.steinlib.specs.Reader.{Read, nothingRead, withGraph, withNodes, withEdges, withRow, Stand, opening, heading, sections, naming, skipping, skipped, ending, nodes, nodeCount, edges, edgeCount, lines, leftEnd, rightEnd, price, closed, Next, when, counted, numberThen, priceThen, nextSection, named, graphLine, next, Reading, broken, whole, isClosed, follow, readFrom}
 use Rattle.words.specs.Names.{is}
-use Rattle.words.specs.Numbers.{numberOf}
+use Rattle.words.specs.Numbers.{numberOf, priceOf}
 use Rattle.words.specs.Text.{Word, words}
 
 -- each column has a row for each E line, up to 1,024
@@ -68,7 +69,7 @@ fits-cond : (b : Bool) (x y : Next) → Fits x → Fits y → Fits (cond b x y)
 fits-cond true x y f g = f
 fits-cond false x y f g = g
 
-fits-counted : (o : Option ℕ) (f : ℕ → Stand × Read) → ((k : ℕ) → Fit (f k .1)) → Fits (counted o f)
+fits-counted : {A : Type 0} (o : Option A) (f : A → Stand × Read) → ((k : A) → Fit (f k .1)) → Fits (counted o f)
 unfolding counted Fits
 fits-counted none f h = tt
 fits-counted (some k) f h = h k
@@ -76,6 +77,10 @@ fits-counted (some k) f h = h k
 fits-number : (w : Word) (f : ℕ → Stand × Read) → ((k : ℕ) → Fit (f k .1)) → Fits (numberThen w f)
 unfolding numberThen Fits
 fits-number w f h = fits-cond (w .first) none (counted (numberOf (w .letters)) f) tt (fits-counted (numberOf (w .letters)) f h)
+
+fits-price : (w : Word) (f : ℤ → Stand × Read) → ((k : ℤ) → Fit (f k .1)) → Fits (priceThen w f)
+unfolding priceThen Fits
+fits-price w f h = fits-cond (w .first) none (counted (priceOf (w .letters)) f) tt (fits-counted (priceOf (w .letters)) f h)
 
 module _ (r : Read) (w : Word) (f : Fit r) where
   fits-section : Fits (nextSection r w)
@@ -106,7 +111,7 @@ module _ (r : Read) (w : Word) (f : Fit r) where
   fits-next lines = fits-cond (w .first) _ _ fits-line tt
   fits-next leftEnd = fits-number w _ (λ k. f)
   fits-next (rightEnd a) = fits-number w _ (λ k. f)
-  fits-next (price a b) = fits-number w _ (λ k. fit-row r a b k f)
+  fits-next (price a b) = fits-price w _ (λ k. fit-row r a b _ f)
   fits-next closed = tt
 
 -- what a text comes to, if it is read whole
@@ -196,7 +201,7 @@ checked t l r w e =
 -- the rows that were read, with any claim of as many bytes, are an accepted table
 read-accepted : (t : Read) (l r w : ℕ) → Fit t → Checked t l r w → (claim : List ℕ) → length claim ≡ t .rows →
     Accepted (callOf (t .nodes) (t .left) (t .right) (t .weight) claim)
-unfolding tableCauses tooManyRows badLengths badRow badEnds tooHeavy tableOf weightOf
+unfolding tableCauses tooManyRows badLengths badRow badEnds tableOf
 read-accepted t l r w f k claim h =
     none-both _ _ (k .good-count) (none-both _ _ few (none-both _ _ lengths (none-both _ _ (k .good-rows) none-nil)))
   where

@@ -3,7 +3,7 @@
 -- Assumes nothing.
 use Prim.Native.Nat.{ℕ, zero, suc, _+_, _*_, _≤_, _<_}
 use Prim.Native.String.{String}
-use mathlib.Core.Bool.{true, false, _||_}
+use mathlib.Core.Bool.{true, false}
 use mathlib.Core.List.{List, [], _∷_, _++_, append-nil}
 use mathlib.Core.Option.{none}
 use mathlib.Core.Path.{_≡_, refl, sym, ap, _∙_}
@@ -12,18 +12,19 @@ use lib.ListN.{length, take, replicate, length-append, length-replicate, getD-re
 use lib.Seq.{take-all, drop-length}
 use native.Mathlib.Omega.{arith}
 use Rattle.rowset.specs.Bytes.{little, inRow}
+use Rattle.rowset.specs.Integers.{toBits}
 use Rattle.rowset.specs.Sets.{uppermost}
 use Rattle.rowset.proofs.Laws.{uppermost-zero}
-use Rattle.star.specs.Call.{Call, callOf, rowsOf, weightOf}
+use Rattle.star.specs.Call.{Call, callOf, rowsOf}
 use Rattle.star.specs.Door.{bytesOf}
-use Rattle.star.specs.Refusals.{maxRows, cause, causeAt, badVertices, tooManyRows, badEnds, tooHeavy, badRow, orElse, refusal}
+use Rattle.star.specs.Refusals.{maxRows, cause, causeAt, badVertices, tooManyRows, badEnds, badRow, orElse, refusal}
 use Rattle.star.proofs.Accepted.{none-both, none-nil}
 use Rattle.steinlib.specs.Import.{maxText, untaken, taken, bounded, readText, tableOf, badColumns, badEdges, importCauses, sizes, answered, imported, filled, columnsOf, importRefusal, leftAfter, rightAfter}
-use Rattle.steinlib.specs.Reader.{Read, opening, lines, whole, nothingRead, withGraph, withNodes, withEdges, endOf, withRow, when, counted, numberThen, nextSection, named, graphLine, next, isClosed, follow, readFrom}
+use Rattle.steinlib.specs.Reader.{Read, opening, lines, whole, nothingRead, withGraph, withNodes, withEdges, endOf, withRow, when, counted, numberThen, priceThen, nextSection, named, graphLine, next, isClosed, follow, readFrom}
 use Rattle.steinlib.specs.Trials.{spaced, LengthsHold, linesOf, counting, RowsHold}
 use Rattle.words.specs.Bytes.{bytes, within, classOf, ofWords, upper}
 use Rattle.words.specs.Names.{same, is}
-use Rattle.words.specs.Numbers.{allDigits, isEmpty, decimal, numberOf}
+use Rattle.words.specs.Numbers.{allDigits, isEmpty, decimal, digitsTo, numberOf, opensBelow, priceOf}
 use Rattle.words.specs.Text.{Before, atStart, inGap, inWord, after, isFirst, begins, run, prepend, wordsFrom, words}
 
 -- a text that is not too long is read, and one that is is broken there
@@ -52,7 +53,7 @@ one : Read
 one = record { graph = true; nodes = 1; edges = 0; rows = 0; left = []; right = []; weight = [] }
 
 spaced-read : (k size : ℕ) → readFrom size opening nothingRead (words (spaced k)) ≡ whole one
-unfolding one spaced nothingRead withGraph withNodes withEdges when counted numberThen nextSection named graphLine next isClosed follow readFrom bytes within classOf ofWords upper same is allDigits isEmpty decimal numberOf after isFirst begins run prepend wordsFrom words
+unfolding one spaced nothingRead withGraph withNodes withEdges when counted numberThen nextSection named graphLine next isClosed follow readFrom bytes within classOf ofWords upper same is allDigits isEmpty decimal digitsTo numberOf after isFirst begins run prepend wordsFrom words
 spaced-read k size = rw (no-words k atStart 47)
 
 spaced-taken : (k : ℕ) → 47 + k ≤ maxText → imported (spaced k) 1024 1024 4096 ≡ taken 1 0
@@ -77,7 +78,7 @@ more (suc k) r = more k (withRow r 1 2 3)
 
 lines-read : (k : ℕ) (r : Read) (size at e : ℕ) (tail : List ℕ) → e ≡ at + 8 * k →
     readFrom size lines r (wordsFrom atStart at (linesOf k ++ tail)) ≡ readFrom size lines (more k r) (wordsFrom atStart e tail)
-unfolding more linesOf when counted numberThen graphLine next follow readFrom bytes within classOf ofWords upper same is allDigits isEmpty decimal numberOf after isFirst begins run prepend wordsFrom
+unfolding more linesOf when counted numberThen priceThen graphLine next follow readFrom bytes within classOf ofWords upper same is allDigits isEmpty decimal digitsTo numberOf opensBelow priceOf toBits after isFirst begins run prepend wordsFrom
 lines-read zero r size at e tail h =
     let z : e ≡ at = omega arith in
     rw z
@@ -165,26 +166,18 @@ row-byte a k i h =
     let n : 1 * i ≡ i = omega arith in
     rw (n, getD-replicate k i a 0 h) (omega arith)
 
-row-three : (k i : ℕ) → i < k → inRow 4 (threes k) (suc i) ≡ 3
-unfolding inRow little threes
-row-three zero i h = absurd (omega arith)
-row-three (suc k) zero h = refl
-row-three (suc k) (suc i) h =
-    let n : 4 * suc i ≡ suc (suc (suc (suc (4 * i)))) = omega arith in
-    rw n (row-three k i (omega arith))
-
 equal-rows : ℕ → List ℕ → Call
 equal-rows k mark = callOf 2 (replicate k 1) (replicate k 2) (threes k) mark
 
 good-rows : (k : ℕ) (mark : List ℕ) → badRow (equal-rows k mark) ≡ none
-unfolding equal-rows badRow causeAt badEnds tooHeavy weightOf
-good-rows k mark = rw (uppermost-zero (rowsOf (equal-rows k mark)) (λ i. badEnds (equal-rows k mark) i || tooHeavy (equal-rows k mark) i) good)
+unfolding equal-rows badRow causeAt badEnds
+good-rows k mark = rw (uppermost-zero (rowsOf (equal-rows k mark)) (badEnds (equal-rows k mark)) good)
   where
-    good : (i : ℕ) → 1 ≤ i → i ≤ rowsOf (equal-rows k mark) → (badEnds (equal-rows k mark) i || tooHeavy (equal-rows k mark) i) ≡ false
+    good : (i : ℕ) → 1 ≤ i → i ≤ rowsOf (equal-rows k mark) → badEnds (equal-rows k mark) i ≡ false
     good zero l u = absurd (omega arith)
     good (suc i) l u =
         let h : i < k = omega (arith, length-replicate {A = ℕ} k 1) in
-        rw (row-byte 1 k i h, row-byte 2 k i h, row-three k i h)
+        rw (row-byte 1 k i h, row-byte 2 k i h)
 
 -- what is read before the lines of E
 begun : ℕ → ℕ → Read
@@ -210,15 +203,15 @@ module _ (counts : String) (n e : ℕ) (o : Opens counts n e) (k : ℕ) (few : k
       ∙ end-read (more k (begun n e)) (length (counting counts k)) (42 + 8 * k) (more-graph k (begun n e))
 
 opens-most : Opens "Nodes 2\nEdges 1024\n" 2 1024
-unfolding begun counting nothingRead withGraph withNodes withEdges when counted numberThen nextSection named graphLine next follow readFrom bytes within classOf ofWords upper same is allDigits isEmpty decimal numberOf after isFirst begins run prepend wordsFrom words
+unfolding begun counting nothingRead withGraph withNodes withEdges when counted numberThen nextSection named graphLine next follow readFrom bytes within classOf ofWords upper same is allDigits isEmpty decimal digitsTo numberOf after isFirst begins run prepend wordsFrom words
 opens-most = record { lines-next = λ k size. refl; bytes-before = λ k. omega arith }
 
 opens-more : Opens "Nodes 2\nEdges 1025\n" 2 1025
-unfolding begun counting nothingRead withGraph withNodes withEdges when counted numberThen nextSection named graphLine next follow readFrom bytes within classOf ofWords upper same is allDigits isEmpty decimal numberOf after isFirst begins run prepend wordsFrom words
+unfolding begun counting nothingRead withGraph withNodes withEdges when counted numberThen nextSection named graphLine next follow readFrom bytes within classOf ofWords upper same is allDigits isEmpty decimal digitsTo numberOf after isFirst begins run prepend wordsFrom words
 opens-more = record { lines-next = λ k size. refl; bytes-before = λ k. omega arith }
 
 opens-none : Opens "Nodes 0\nEdges 1025\n" 0 1025
-unfolding begun counting nothingRead withGraph withNodes withEdges when counted numberThen nextSection named graphLine next follow readFrom bytes within classOf ofWords upper same is allDigits isEmpty decimal numberOf after isFirst begins run prepend wordsFrom words
+unfolding begun counting nothingRead withGraph withNodes withEdges when counted numberThen nextSection named graphLine next follow readFrom bytes within classOf ofWords upper same is allDigits isEmpty decimal digitsTo numberOf after isFirst begins run prepend wordsFrom words
 opens-none = record { lines-next = λ k size. refl; bytes-before = λ k. omega arith }
 
 module _ (k e : ℕ) (few : k ≤ maxRows) where

@@ -3,14 +3,15 @@
 use Prim.Native.Nat.{ℕ}
 use mathlib.Core.Bool.{cond}
 use mathlib.Core.List.{List}
+use lib.IntN.{pos}
 use lib.ListN.{length}
 use Rattle.star.specs.Door.{Fields, wellLent, answerAfter}
 use Rattle.steinlib.specs.Import.{ImportAnswer, untaken, taken, imported, leftAfter, rightAfter, weightAfter}
 
 -- kind 0 is refused, with the number and, in bytes 8 to 15, the place; kind 1 is read, with n in bytes 2 and 3 and m in bytes 4 and 5
 unfoldable pub importFields : ImportAnswer → Fields
-importFields (untaken r) = record { kind = 0; number = r .number; out = 0; into = 0; amount = r .place }
-importFields (taken n m) = record { kind = 1; number = 0; out = n; into = m; amount = 0 }
+importFields (untaken r) = record { kind = 0; number = r .number; out = 0; into = 0; amount = pos (r .place) }
+importFields (taken n m) = record { kind = 1; number = 0; out = n; into = m; amount = pos 0 }
 
 unfoldable pub importDoor : List ℕ → List ℕ → List ℕ → List ℕ → List ℕ → List ℕ
 importDoor text left right weight answer = answerAfter answer (importFields (imported text (length left) (length right) (length weight)))

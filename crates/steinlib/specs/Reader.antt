@@ -6,11 +6,13 @@ use mathlib.Core.Bool.{Bool, true, false, not, cond, _&&_}
 use mathlib.Core.List.{List, [], _∷_, _++_}
 use mathlib.Core.Option.{Option, none, some}
 use lib.Dec.{leb}
+use lib.IntN.{ℤ}
 use lib.ListN.{take}
+use Rattle.rowset.specs.Integers.{toBits}
 use Rattle.star.specs.Door.{bytesOf}
 use Rattle.star.specs.Refusals.{maxRows, maxVertices}
 use Rattle.words.specs.Names.{is}
-use Rattle.words.specs.Numbers.{numberOf}
+use Rattle.words.specs.Numbers.{numberOf, priceOf}
 use Rattle.words.specs.Text.{Word}
 
 -- what is read so far: whether a Graph has begun, what Nodes and Edges say, the number of E lines, and the columns of their rows in file order;
@@ -40,7 +42,7 @@ withEdges r k = record { graph = r .graph; nodes = r .nodes; edges = k; rows = r
 unfoldable pub endOf : ℕ → ℕ
 endOf v = cond (leb v maxVertices) v 0
 
--- one row more
+-- one row more, with the 32 bits of its price
 unfoldable pub withRow : Read → ℕ → ℕ → ℕ → Read
 withRow r a b w =
     record {
@@ -65,7 +67,7 @@ pub data Stand : Type 0 where
   skipping : Stand
   skipped : Stand
   ending : Stand
-  -- in Graph: before Nodes and its count, before Edges and its count, before a line of E or END, and before each number of an E line
+  -- in Graph: before Nodes and its count, before Edges and its count, before a line of E or END, and before each end and the price of an E line
   nodes : Stand
   nodeCount : Stand
   edges : Stand
@@ -85,13 +87,16 @@ unfoldable pub when : Bool → Stand × Read → Next
 when true x = some x
 when false x = none
 
--- a number on the line that is being read
-unfoldable pub counted : Option ℕ → (ℕ → Stand × Read) → Next
+-- a number or a price on the line that is being read
+unfoldable pub counted : {A : Type 0} → Option A → (A → Stand × Read) → Next
 counted none f = none
 counted (some k) f = some (f k)
 
 unfoldable pub numberThen : Word → (ℕ → Stand × Read) → Next
 numberThen w f = cond (w .first) none (counted (numberOf (w .letters)) f)
+
+unfoldable pub priceThen : Word → (ℤ → Stand × Read) → Next
+priceThen w f = cond (w .first) none (counted (priceOf (w .letters)) f)
 
 -- the first word of a line between sections: SECTION, or EOF once a Graph has been read
 unfoldable pub nextSection : Read → Word → Next
@@ -124,7 +129,7 @@ next edgeCount r w = numberThen w (λ k. (lines, withEdges r k))
 next lines r w = cond (w .first) (graphLine r w) none
 next leftEnd r w = numberThen w (λ a. (rightEnd a, r))
 next (rightEnd a) r w = numberThen w (λ b. (price a b, r))
-next (price a b) r w = numberThen w (λ c. (lines, withRow r a b c))
+next (price a b) r w = priceThen w (λ c. (lines, withRow r a b (toBits 32 c)))
 next closed r w = none
 
 -- what reading comes to: the layout is broken at a place, or the text is read whole

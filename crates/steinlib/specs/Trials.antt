@@ -60,6 +60,7 @@ brokenLayouts =
     ∷ (proper "33D32945\nSECTION Graph\nNodes 1\nEdges 0 END\nEOF", untaken (because 12 39))  -- a word after the count of Edges
     ∷ (proper "33D32945\nSECTION Graph\nNodes 1\nEdges 0\nEOF\nEND", untaken (because 12 39))  -- neither E nor END after Edges
     ∷ (proper "33D32945\nSECTION Graph\nNodes 3\nEdges 1\nE 1 2\nE 2 3 7\nEND\nEOF", untaken (because 12 45))  -- an E line without a price
+    ∷ (proper "33D32945\nSECTION Graph\nNodes 3\nEdges 1\nE 1 2\n-5\nEND\nEOF", untaken (because 12 45))  -- a price on the next line
     ∷ (proper "33D32945\nSECTION Graph\nNodes 3\nEdges 1\nE 1 2 5 6\nEND\nEOF", untaken (because 12 47))  -- an E line with a word too many
     ∷ []
 
@@ -99,8 +100,26 @@ numbers =
     ∷ (proper "33D32945\nSECTION Graph\nNodes 3\nEdges 1\nE 1 4 3\nEND\nEOF", untaken (because 4 1))  -- an end that is above n
     ∷ (proper "33D32945\nSECTION Graph\nNodes 255\nEdges 1\nE 300 400 3\nEND\nEOF", untaken (because 4 1))  -- two ends above 255, which are stored as equal
     ∷ (proper "33D32945\nSECTION Graph\nNodes 3\nEdges 1\nE 1 2 2147483647\nEND\nEOF", taken 3 1)  -- the highest price
-    ∷ (proper "33D32945\nSECTION Graph\nNodes 3\nEdges 1\nE 1 2 2147483648\nEND\nEOF", untaken (because 5 1))  -- a price above it
+    ∷ (proper "33D32945\nSECTION Graph\nNodes 3\nEdges 1\nE 1 2 2147483648\nEND\nEOF", untaken (because 12 45))  -- a price above it
+    ∷ (proper "33D32945\nSECTION Graph\nNodes 3\nEdges 1\nE 1 2 4294967295\nEND\nEOF", untaken (because 12 45))  -- the largest number, which is no price
+    ∷ (proper "33D32945\nSECTION Graph\nNodes 3\nEdges 1\nE 1 2 -2147483648\nEND\nEOF", taken 3 1)  -- the least price
+    ∷ (proper "33D32945\nSECTION Graph\nNodes 3\nEdges 1\nE 1 2 -2147483649\nEND\nEOF", untaken (because 12 45))  -- a price below it
+    ∷ (proper "33D32945\nSECTION Graph\nNodes 3\nEdges 3\nE 1 2 -5\nE 2 3 -0\nE 1 3 -007\nEND\nEOF", taken 3 3)  -- prices that open with -
+    ∷ (proper "33D32945\nSECTION Graph\nNodes 3\nEdges 1\nE 1 2 -\nEND\nEOF", untaken (because 12 45))  -- no digit after -
+    ∷ (proper "33D32945\nSECTION Graph\nNodes 3\nEdges 1\nE 1 2 --1\nEND\nEOF", untaken (because 12 45))
+    ∷ (proper "33D32945\nSECTION Graph\nNodes 3\nEdges 1\nE 1 2 +1\nEND\nEOF", untaken (because 12 45))
+    ∷ (proper "33D32945\nSECTION Graph\nNodes 3\nEdges 1\nE 1 2 - 1\nEND\nEOF", untaken (because 12 45))
+    ∷ (proper "33D32945\nSECTION Graph\nNodes -3\nEdges 1\nE 1 2 5\nEND\nEOF", untaken (because 12 29))  -- a count or an end that opens with -
+    ∷ (proper "33D32945\nSECTION Graph\nNodes 3\nEdges -1\nE 1 2 5\nEND\nEOF", untaken (because 12 37))
+    ∷ (proper "33D32945\nSECTION Graph\nNodes 3\nEdges 1\nE -1 2 5\nEND\nEOF", untaken (because 12 41))
+    ∷ (proper "33D32945\nSECTION Graph\nNodes 3\nEdges 1\nE 1 -0 5\nEND\nEOF", untaken (because 12 43))
+    ∷ (proper "33D32945\nSECTION Graph\nNodes 3\nEdges 1\nE 4294967295 2 -5\nEND\nEOF", untaken (because 4 1))  -- the largest number is an end, stored as 0
+    ∷ (proper "33D32945\nSECTION Graph\nNodes 0\nEdges 7\nE 1 2 2147483648\nEND\nEOF", untaken (because 12 45))  -- 12 before 13 and 1
     ∷ []
+
+-- the text of three vertices and five rows with prices at their bounds
+abbrev grants : String
+grants = "33D32945\nSECTION Graph\nNodes 3\nEdges 5\nE 1 2 -5\nE 2 3 2147483647\nE 1 3 -2147483648\nE 1 2 -1\nE 2 3 -0\nEND\nEOF"
 
 -- the text of three vertices and two rows, and the same with an end that is no vertex
 abbrev street : String
@@ -143,6 +162,7 @@ columns =
     (take 3 (leftAfter (bytes street) nines nines quads), 1 ∷ 2 ∷ 9 ∷ [])
     ∷ (take 3 (rightAfter (bytes street) nines nines quads), 2 ∷ 3 ∷ 9 ∷ [])
     ∷ (take 9 (weightAfter (bytes street) nines nines quads), 5 ∷ 0 ∷ 0 ∷ 0 ∷ 3 ∷ 4 ∷ 0 ∷ 0 ∷ 9 ∷ [])
+    ∷ (take 21 (weightAfter (bytes grants) nines nines quads), 251 ∷ 255 ∷ 255 ∷ 255 ∷ 255 ∷ 255 ∷ 255 ∷ 127 ∷ 0 ∷ 0 ∷ 0 ∷ 128 ∷ 255 ∷ 255 ∷ 255 ∷ 255 ∷ 0 ∷ 0 ∷ 0 ∷ 0 ∷ 9 ∷ [])
     ∷ (leftAfter (bytes astray) nines nines quads, nines)
     ∷ (rightAfter (bytes astray) nines nines quads, nines)
     ∷ (weightAfter (bytes astray) nines nines quads, quads)

@@ -3,17 +3,18 @@
 use Prim.Native.Nat.{ℕ, _+_, _-_, _*_, _≤_, _<_}
 use borrow.Author.Tests.{leb-true, le-leb, lt-leb, eq-eqb, ne-eqb}
 use lib.Dec.{leb, eqb}
+use lib.IntN.{ℤ, pos}
 use lib.ListN.{length, getD, drop, drop-of-length-le}
 use lib.Seq.{drop-cons}
 use mathlib.Core.Bool.{Bool, true, false, cond, _&&_, false≢true}
 use mathlib.Core.List.{List, [], _∷_}
-use mathlib.Core.Option.{Option, none, some}
+use mathlib.Core.Option.{Option, none, some, Option·map}
 use mathlib.Core.Path.{_≡_, refl, _∙_}
 use native.Mathlib.Numerals.{add-one}
 use native.Mathlib.Omega.{arith}
 use Rattle.words.specs.Bytes.{within, classOf, ofWords, upper}
 use Rattle.words.specs.Names.{same}
-use Rattle.words.specs.Numbers.{maxNumber, allDigits, isEmpty, decimal, numberOf}
+use Rattle.words.specs.Numbers.{maxPrice, maxBelow, allDigits, isEmpty, decimal, digitsTo, opensBelow, below, priceOf}
 use Rattle.words.specs.Spans.{firstAfter, gapFrom, endFrom}
 
 module _ (text : List ℕ) (i : ℕ) where
@@ -70,19 +71,9 @@ module _ (s t : List ℕ) (i : ℕ) (inv : same (drop i s) (drop i t) ≡ same s
   unfolding same
   same-last h k = rw (drop-of-length-le s h, drop-of-length-le t k) at inv
 
--- the number that is read after the value v
-unfoldable pub reading : ℕ → List ℕ → Option ℕ
-reading v w = cond (allDigits w && leb (decimal v w) maxNumber) (some (decimal v w)) none
-
-pub number-empty : (w : List ℕ) → length w ≡ 0 → numberOf w ≡ none
-unfolding numberOf isEmpty
-number-empty [] e = refl
-number-empty (b ∷ t) e = absurd (omega arith)
-
-pub number-start : (w : List ℕ) → (length w ≡ 0 → ⊥) → reading 0 w ≡ numberOf w
-unfolding numberOf isEmpty reading
-number-start [] n = absurd (n refl)
-number-start (b ∷ t) n = refl
+-- the number, at most `most`, that is read after the value v
+unfoldable pub reading : ℕ → ℕ → List ℕ → Option ℕ
+reading most v w = cond (allDigits w && leb (decimal v w) most) (some (decimal v w)) none
 
 -- a value only grows
 pub decimal-grows : (w : List ℕ) (v : ℕ) → v ≤ decimal v w
@@ -90,30 +81,39 @@ unfolding decimal
 decimal-grows [] v = omega arith
 decimal-grows (b ∷ t) v = omega (arith, decimal-grows t (10 * v + (b - 48)))
 
--- a value that is too large stays so
-pub reading-large : (w l : List ℕ) (v : ℕ) → reading v l ≡ numberOf w → maxNumber < v → none ≡ numberOf w
-unfolding reading
-reading-large w l v inv h = go (allDigits l) ∙ (rw large at inv)
-  where
-    large : leb (decimal v l) maxNumber ≡ false
-    large = lt-leb (decimal v l) maxNumber (omega (arith, decimal-grows l v))
+module _ (most : ℕ) where
+  pub number-empty : (w : List ℕ) (i : ℕ) → length w ≤ i → digitsTo most (drop i w) ≡ none
+  unfolding digitsTo isEmpty
+  number-empty w i h = rw (drop-of-length-le w h)
 
-    go : (d : Bool) → none ≡ cond (d && false) (some (decimal v l)) none
-    go true = refl
-    go false = refl
+  pub number-start : (w : List ℕ) (i : ℕ) → i < length w → reading most 0 (drop i w) ≡ digitsTo most (drop i w)
+  unfolding digitsTo isEmpty reading
+  number-start w i h = rw (drop-cons w i 0 h)
 
-module _ (w : List ℕ) (i v : ℕ) (inv : reading v (drop i w) ≡ numberOf w) where
-  pub reading-more : i < length w → within 48 57 (getD w i 0) ≡ true → reading (10 * v + (getD w i 0 - 48)) (drop (i + 1) w) ≡ numberOf w
-  unfolding reading allDigits decimal
-  reading-more h d = rw (add-one i) (rw (drop-cons w i 0 h, d) at inv)
+  -- a value that is too large stays so
+  pub reading-large : (l : List ℕ) (v : ℕ) {o : Option ℕ} → reading most v l ≡ o → most < v → none ≡ o
+  unfolding reading
+  reading-large l v inv h = go (allDigits l) ∙ (rw large at inv)
+    where
+      large : leb (decimal v l) most ≡ false
+      large = lt-leb (decimal v l) most (omega (arith, decimal-grows l v))
 
-  pub reading-stop : i < length w → within 48 57 (getD w i 0) ≡ false → none ≡ numberOf w
-  unfolding reading allDigits decimal
-  reading-stop h d = rw (drop-cons w i 0 h, d) at inv
+      go : (d : Bool) → none ≡ cond (d && false) (some (decimal v l)) none
+      go true = refl
+      go false = refl
 
-  pub reading-last : length w ≤ i → v ≤ maxNumber → some v ≡ numberOf w
-  unfolding reading allDigits decimal
-  reading-last h m = rw (drop-of-length-le w h, le-leb v maxNumber m) at inv
+  module _ (w : List ℕ) (i v : ℕ) {o : Option ℕ} (inv : reading most v (drop i w) ≡ o) where
+    pub reading-more : i < length w → within 48 57 (getD w i 0) ≡ true → reading most (10 * v + (getD w i 0 - 48)) (drop (i + 1) w) ≡ o
+    unfolding reading allDigits decimal
+    reading-more h d = rw (add-one i) (rw (drop-cons w i 0 h, d) at inv)
+
+    pub reading-stop : i < length w → within 48 57 (getD w i 0) ≡ false → none ≡ o
+    unfolding reading allDigits decimal
+    reading-stop h d = rw (drop-cons w i 0 h, d) at inv
+
+    pub reading-last : length w ≤ i → v ≤ most → some v ≡ o
+    unfolding reading allDigits decimal
+    reading-last h m = rw (drop-of-length-le w h, le-leb v most m) at inv
 
 -- the bounds of a digit
 pub digit-bounds : (b : ℕ) → within 48 57 b ≡ true → (48 ≤ b) × (b ≤ 57)
@@ -124,3 +124,24 @@ digit-bounds b e = go (leb 48 b) (leb b 57) refl refl e
     go true true l u e = (leb-true 48 b l, leb-true b 57 u)
     go true false l u e = absurd (false≢true e)
     go false u l v e = absurd (false≢true e)
+
+-- whether a word opens with -
+pub below-empty : (w : List ℕ) → length w ≡ 0 → false ≡ opensBelow w
+unfolding opensBelow
+below-empty [] e = refl
+below-empty (b ∷ t) e = absurd (omega arith)
+
+pub below-first : (w : List ℕ) → (length w ≡ 0 → ⊥) → eqb (getD w 0 0) 45 ≡ opensBelow w
+unfolding opensBelow
+below-first [] n = absurd (n refl)
+below-first (b ∷ t) n = refl
+
+-- the price of a word, by whether it opens with -
+module _ (w : List ℕ) (o : Option ℕ) where
+  pub price-below : opensBelow w ≡ true → o ≡ digitsTo maxBelow (drop 1 w) → Option·map below o ≡ priceOf w
+  unfolding priceOf
+  price-below e d = rw (e, d)
+
+  pub price-above : opensBelow w ≡ false → o ≡ digitsTo maxPrice w → Option·map pos o ≡ priceOf w
+  unfolding priceOf
+  price-above e d = rw (e, d)

@@ -3,13 +3,13 @@
 use mathlib.Core.Path.{refl}
 use Rattle.words.specs.Bytes.{bytes, within, classOf, ofWords, upper}
 use Rattle.words.specs.Names.{same, is}
-use Rattle.words.specs.Numbers.{allDigits, isEmpty, decimal, numberOf}
+use Rattle.words.specs.Numbers.{allDigits, isEmpty, decimal, digitsTo, numberOf, opensBelow, below, priceOf}
 use Rattle.words.specs.Spans.{firstAfter, gapFrom, endFrom, spanAt, spanOf}
 use Rattle.words.specs.Text.{after, isFirst, begins, run, prepend, wordsFrom, words, wordsAt}
 use Rattle.words.specs.Trials.{TrialsHold}
 
 pub trials-hold : TrialsHold
-unfolding bytes within classOf ofWords upper same is allDigits isEmpty decimal numberOf firstAfter gapFrom endFrom spanAt spanOf after isFirst begins run prepend wordsFrom words wordsAt
+unfolding bytes within classOf ofWords upper same is allDigits isEmpty decimal digitsTo numberOf opensBelow below priceOf firstAfter gapFrom endFrom spanAt spanOf after isFirst begins run prepend wordsFrom words wordsAt
 trials-hold =
     record {
       classes-hold = refl;
@@ -18,4 +18,5 @@ trials-hold =
       spans-hold = refl;
       names-hold = refl;
       numbers-hold = refl;
+      prices-hold = refl;
     }

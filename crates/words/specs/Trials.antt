@@ -6,9 +6,10 @@ use mathlib.Core.Bool.{Bool, true, false}
 use mathlib.Core.List.{List, [], _∷_, map}
 use mathlib.Core.Option.{Option, none, some}
 use mathlib.Core.Path.{_≡_}
+use lib.IntN.{ℤ, pos, negsuc}
 use Rattle.words.specs.Bytes.{bytes, classOf, upper}
 use Rattle.words.specs.Names.{is}
-use Rattle.words.specs.Numbers.{numberOf}
+use Rattle.words.specs.Numbers.{numberOf, priceOf}
 use Rattle.words.specs.Spans.{spanOf}
 use Rattle.words.specs.Text.{Word, words, wordsAt}
 use Rattle.words.specs.declared.Class.{Class}
@@ -117,6 +118,41 @@ numbers =
     ∷ (numberOf (bytes "/1"), none)
     ∷ (numberOf (bytes "1:"), none)
     ∷ (numberOf (bytes "-1"), none)
+    ∷ (numberOf (bytes "-0"), none)
+    ∷ []
+
+-- prices: digits after an optional -, from -2,147,483,648 to 2,147,483,647; negsuc n is -(n + 1)
+abbrev prices : List (Option ℤ × Option ℤ)
+prices =
+    (priceOf (bytes ""), none)
+    ∷ (priceOf (bytes "0"), some (pos 0))
+    ∷ (priceOf (bytes "-0"), some (pos 0))
+    ∷ (priceOf (bytes "-00"), some (pos 0))
+    ∷ (priceOf (bytes "5"), some (pos 5))
+    ∷ (priceOf (bytes "-5"), some (negsuc 4))
+    ∷ (priceOf (bytes "007"), some (pos 7))
+    ∷ (priceOf (bytes "-007"), some (negsuc 6))
+    ∷ (priceOf (bytes "2147483647"), some (pos 2147483647))
+    ∷ (priceOf (bytes "2147483648"), none)
+    ∷ (priceOf (bytes "-2147483647"), some (negsuc 2147483646))
+    ∷ (priceOf (bytes "-2147483648"), some (negsuc 2147483647))
+    ∷ (priceOf (bytes "-2147483649"), none)
+    ∷ (priceOf (bytes "4294967295"), none)
+    ∷ (priceOf (bytes "-4294967296"), none)
+    ∷ (priceOf (bytes "18446744073709551617"), none)  -- 2 ^ 64 + 1
+    ∷ (priceOf (bytes "-18446744073709551617"), none)
+    ∷ (priceOf (bytes "00000000000000000000002147483647"), some (pos 2147483647))
+    ∷ (priceOf (bytes "-00000000000000000000002147483648"), some (negsuc 2147483647))
+    ∷ (priceOf (bytes "00000000000000000000002147483648"), none)
+    ∷ (priceOf (bytes "-"), none)
+    ∷ (priceOf (bytes "--1"), none)
+    ∷ (priceOf (bytes "+1"), none)
+    ∷ (priceOf (bytes "-+1"), none)
+    ∷ (priceOf (bytes "1-"), none)
+    ∷ (priceOf (bytes "-1-"), none)
+    ∷ (priceOf (bytes ",1"), none)
+    ∷ (priceOf (bytes ".1"), none)
+    ∷ (priceOf (bytes "-1a"), none)
     ∷ []
 
 -- the theorem: each trial gives what it should
@@ -127,3 +163,4 @@ pub record TrialsHold : Type 0 where
   pub spans-hold : Hold spans
   pub names-hold : Hold names
   pub numbers-hold : Hold numbers
+  pub prices-hold : Hold prices

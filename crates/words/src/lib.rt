@@ -1,10 +1,10 @@
-// The words of an STP text: a byte's class, the next word of a text, the names that a word may be, and the number that it is.
+// The words of an STP text: a byte's class, the next word of a text, the names that a word may be, and the number or the price that it is.
 ghost use mathlib.Core.Path.{_≡_};
 ghost use lib.ListN.{drop};
 ghost use Rattle.words.specs.Bytes.{within, classOf, ofWords, upper};
 ghost use Rattle.words.specs.Names.{same};
-ghost use Rattle.words.specs.Numbers.{numberOf};
-ghost use Rattle.words.specs.Answers.{numberIn};
+ghost use Rattle.words.specs.Numbers.{digitsTo, numberOf, opensBelow, priceOf};
+ghost use Rattle.words.specs.Answers.{numberIn, priceIn};
 ghost use Rattle.words.specs.Spans.{firstAfter, gapFrom, endFrom, spanOf};
 
 // What a byte is.
@@ -35,8 +35,22 @@ pub enum Number {
     Missing,
 }
 
-// The largest number that is read.
-pub const MAX_NUMBER: u64 = 4294967295;
+// The price that a word is, if it is one: v, or v below zero.
+pub enum Price {
+    Plus(u32),
+    Minus(u32),
+    NoPrice,
+}
+
+// The largest number that is read, the largest price, and the number that follows - in the least price.
+const MAX_NUMBER: u32 = 4294967295;
+
+const MAX_PRICE: u32 = 2147483647;
+
+const MAX_BELOW: u32 = 2147483648;
+
+// The byte -.
+const MINUS: u8 = 45;
 
 // A byte's class: digits, letters, blanks (space, tab), line ends (LF, CR), and the rest.
 pub fn class_of(b: u8) -> Class
@@ -155,26 +169,62 @@ fn is_digit(b: u8) -> bool
     }
 }
 
-// The number that a word is; missing where it has no byte, is not digits alone, or is above 4,294,967,295.
+// The number that the bytes of a word from a place on are; missing where there is no byte, they are not digits alone, or it is above `most`.
 // The value only grows, so that reading may end as soon as it is too large.
-pub fn number_of(word: &[u8]) -> Number
-    ensures { λ r. ⌜ numberIn r ≡ numberOf (now (word .entry)) ⌝ }
+fn digits_to(word: &[u8], from: usize, most: u32) -> Number
+    ensures { λ r. ⌜ numberIn r ≡ digitsTo most (drop from (now (word .entry))) ⌝ }
 {
-    if word.len() == 0 {
+    if word.len() <= from {
         return Number::Missing;
     }
+    let top = most as u64;
     let mut v: u64 = 0;
-    let mut i = 0;
+    let mut i = from;
     while i < word.len() {
         let b = word[i];
         if !is_digit(b) {
             return Number::Missing;
         }
         v = 10 * v + (b - 48) as u64;
-        if MAX_NUMBER < v {
+        if top < v {
             return Number::Missing;
         }
         i += 1;
     }
     Number::Value(v as u32)
+}
+
+// The number that a word is; missing where it has no byte, is not digits alone, or is above 4,294,967,295.
+pub fn number_of(word: &[u8]) -> Number
+    ensures { λ r. ⌜ numberIn r ≡ numberOf (now (word .entry)) ⌝ }
+{
+    digits_to(word, 0, MAX_NUMBER)
+}
+
+// Whether a word opens with -.
+fn opens_below(word: &[u8]) -> bool
+    ensures { λ r. ⌜ r ≡ opensBelow (now (word .entry)) ⌝ }
+{
+    if word.len() == 0 {
+        return false;
+    }
+    word[0] == MINUS
+}
+
+// The price that a word is: digits, after an optional -, from -2,147,483,648 to 2,147,483,647.
+pub fn price_of(word: &[u8]) -> Price
+    ensures { λ r. ⌜ priceIn r ≡ priceOf (now (word .entry)) ⌝ }
+{
+    if opens_below(word) {
+        let n = digits_to(word, 1, MAX_BELOW);
+        return match n {
+            Number::Value(v) => Price::Minus(v),
+            Number::Missing => Price::NoPrice,
+        };
+    }
+    let n = digits_to(word, 0, MAX_PRICE);
+    match n {
+        Number::Value(v) => Price::Plus(v),
+        Number::Missing => Price::NoPrice,
+    }
 }
