@@ -1,20 +1,22 @@
--- Laws of the numbers that are read: a number that is next, a line of a name and a number, and how reading goes on from them.
+-- Laws of the numbers that are read: a number or a price that is next, a line of a name and a number, and how reading goes on from them.
 -- Assumes nothing.
-use Prim.Native.Nat.{ℕ, _≤_, _<_}
+use Prim.Native.Nat.{ℕ, zero, suc, _-_, _≤_, _<_}
+use lib.IntN.{ℤ}
 use lib.ListN.{length}
 use mathlib.Core.Bool.{Bool, true, false, cond, _&&_, true≢false}
 use mathlib.Core.List.{List}
 use mathlib.Core.Option.{none, some}
 use mathlib.Core.Path.{_≡_, refl, _∙_}
 use native.Mathlib.Omega.{arith}
-use Rattle.steinlib.specs.Reader.{Read, Stand, broken, when, counted, numberThen, next}
+use Rattle.rowset.specs.Integers.{toBits}
+use Rattle.steinlib.specs.Reader.{Read, Stand, broken, price, when, counted, numberThen, priceThen, next, isClosed}
 use Rattle.reader.specs.declared.lines.Counted.{Counted}
 use Rattle.reader.specs.declared.lines.Step.{Step}
-use Rattle.reader.specs.steps.Lines.{Expects, Reached, NumberRead, CountRead, numbered}
+use Rattle.reader.specs.steps.Lines.{Expects, Reached, NumberRead, PriceRead, CountRead, numbered}
 use Rattle.reader.specs.steps.Reading.{readOn, resumed}
-use Rattle.reader.proofs.Reading.{NextWord, part, wordOf, number-begun, name-begun, read-refused, read-taken}
+use Rattle.reader.proofs.Reading.{NextWord, part, wordOf, number-begun, price-begun, name-begun, read-refused, read-taken}
 use Rattle.words.specs.Names.{same}
-use Rattle.words.specs.Numbers.{numberOf}
+use Rattle.words.specs.Numbers.{numberOf, below, priceOf}
 use Rattle.words.specs.declared.Span.{Span}
 
 -- the layout is broken at a place
@@ -50,6 +52,33 @@ module _ {text : List ℕ} {at : ℕ} {x : Span} (n : NextWord text at false x) 
       record {
         reached = record { low = omega (arith, n .low); high = n .high; on = λ q. omega (arith, n .low) };
         reads = λ s r f a. read-taken n s r b (a .word (wordOf text x) ∙ rw (l, e));
+      }
+
+  -- the next word is no price on this line
+  price-refused : ((f : ℤ → Stand × Read) → priceThen (wordOf text x) f ≡ none) → PriceRead text at (noNumber (x .from))
+  unfolding numbered next isClosed
+  price-refused h = record { reached = refused-reached; reads = λ r a b. read-refused n (price a b) r refl (h _) }
+
+  pub price-first : x .first ≡ true → PriceRead text at (noNumber (x .from))
+  unfolding priceThen
+  price-first e = price-refused (λ f. rw e)
+
+  pub price-missing : priceOf (part text x) ≡ none → PriceRead text at (noNumber (x .from))
+  unfolding priceThen counted
+  price-missing e = price-refused (λ f. go (x .first) f)
+    where
+      go : (b : Bool) (f : ℤ → Stand × Read) → cond b none (counted (priceOf (part text x)) f) ≡ none
+      go true f = refl
+      go false f = rw e
+
+  -- the next word is a price
+  pub price-taken : {z : ℤ} {v : ℕ} → x .first ≡ false → priceOf (part text x) ≡ some z → v ≡ toBits 32 z → PriceRead text at (record { at = x .to; value = v; broken = false })
+  unfolding numbered next priceThen counted
+  price-taken {z} {v} l e q =
+      let b : x .from < x .to = price-begun n e in
+      record {
+        reached = record { low = omega (arith, n .low); high = n .high; on = λ q. omega (arith, n .low) };
+        reads = λ r a c. read-taken n (price a c) r b (rw (l, e, q));
       }
 
   -- the next word does not begin a line of the name
@@ -97,3 +126,13 @@ number-leads text f x e = rw e
 -- how far a reader has come that stops at place p
 pub stopped : (text : List ℕ) (at p rows : ℕ) (y : Step) → rows ≤ at → at ≤ p → p ≤ length text → y .at ≡ p → (at ≤ y .at) × (y .at ≤ length text) × (rows ≤ y .at)
 stopped text at p rows y h l u e = (omega arith, omega arith, omega arith)
+
+-- the 32 bits of v below zero
+pub below-zero : (v : ℕ) → v ≡ 0 → 0 ≡ toBits 32 (below v)
+unfolding below toBits
+below-zero v e = rw e
+
+pub below-some : (v : ℕ) → (v ≡ 0 → ⊥) → 4294967295 - (v - 1) ≡ toBits 32 (below v)
+unfolding below toBits
+below-some zero n = absurd (n refl)
+below-some (suc v) n = omega arith

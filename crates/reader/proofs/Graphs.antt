@@ -12,7 +12,7 @@ use Rattle.star.specs.Door.{bytesOf}
 use Rattle.steinlib.specs.Reader.{Read, Stand, broken, withGraph, withNodes, withEdges, endOf, withRow, sections, nodes, nodeCount, edges, edgeCount, lines, leftEnd, rightEnd, price, next, when, graphLine, isClosed}
 use Rattle.reader.specs.declared.lines.Counted.{Counted}
 use Rattle.reader.specs.declared.lines.Step.{Step}
-use Rattle.reader.specs.steps.Lines.{Awaits, Expects, NumberRead, CountRead, numbered, lineResumed}
+use Rattle.reader.specs.steps.Lines.{Awaits, Expects, NumberRead, PriceRead, CountRead, numbered, lineResumed}
 use Rattle.reader.specs.Readings.{readOf, rowsOf}
 use Rattle.reader.specs.steps.Reading.{readOn, resumed}
 use Rattle.reader.proofs.Counts.{number-stops, number-leads}
@@ -41,10 +41,6 @@ module _ (r : Read) where
   unfolding next isClosed
   right-awaits a = record { unclosed = refl; word = λ w. refl }
 
-  price-awaits : (a b : ℕ) → Awaits (price a b) r (λ c. (lines, withRow r a b c))
-  unfolding next isClosed
-  price-awaits a b = record { unclosed = refl; word = λ w. refl }
-
   nodes-expects : Expects nodesName nodes r nodeCount
   unfolding next isClosed is bytes
   nodes-expects = record { unclosed = refl; word = λ w. refl }
@@ -61,7 +57,7 @@ module _ (r : Read) where
   unfolding next isClosed
   edges-awaits = record { unclosed = refl; word = λ w. refl }
 
--- the three numbers of a line of E
+-- the two ends and the price of a line of E
 module _ {text : List ℕ} {at : ℕ} (r : Read) {a : Counted} (m : NumberRead text at a) where
   pub left-stops : (y : Step) (r' : Read) → a .broken ≡ true → y .broken ≡ true → y .at ≡ a .at →
       readOn text leftEnd r at ≡ resumed text lines y r'
@@ -84,10 +80,10 @@ module _ {text : List ℕ} {at : ℕ} (r : Read) {a : Counted} (m : NumberRead t
         left-leads l ∙ o .reads (rightEnd (a .value)) r (λ k. (price (a .value) k, r)) (right-awaits r (a .value))
         ∙ number-leads text (λ k. (price (a .value) k, r)) b e
 
-    module _ {w : Counted} (g : b .broken ≡ false) (p : NumberRead text (b .at) w) where
+    module _ {w : Counted} (g : b .broken ≡ false) (p : PriceRead text (b .at) w) where
       price-reads :
           readOn text leftEnd r at ≡ numbered text (λ k. (lines, withRow r (a .value) (b .value) k)) w
-      price-reads = right-leads g ∙ p .reads (price (a .value) (b .value)) r (λ k. (lines, withRow r (a .value) (b .value) k)) (price-awaits r (a .value) (b .value))
+      price-reads = right-leads g ∙ p .reads r (a .value) (b .value)
 
       pub price-stops : (y : Step) (r' : Read) → w .broken ≡ true → y .broken ≡ true → y .at ≡ w .at →
           readOn text leftEnd r at ≡ resumed text lines y r'

@@ -2,6 +2,7 @@
 -- Main statements: next-word, read-end, read-word, read-refused, read-taken, read-alike.
 -- Assumes nothing.
 use Prim.Native.Nat.{ℕ, zero, suc, _-_, _≤_, _<_}
+use lib.IntN.{ℤ}
 use lib.ListN.{length, take, drop}
 use mathlib.Core.Bool.{Bool, true, false, cond, false≢true}
 use mathlib.Core.List.{List, [], _∷_}
@@ -11,7 +12,7 @@ use mathlib.Core.Path.{_≡_, refl, _∙_}
 use native.Mathlib.Omega.{arith}
 use Rattle.steinlib.specs.Reader.{Read, Stand, broken, whole, isClosed, next, follow, readFrom}
 use Rattle.words.specs.Names.{same}
-use Rattle.words.specs.Numbers.{numberOf, isEmpty}
+use Rattle.words.specs.Numbers.{digitsTo, numberOf, opensBelow, priceOf, isEmpty}
 use Rattle.words.proofs.Spans.{span-bounds, span-after, span-end, span-word}
 use Rattle.words.specs.Spans.{spanOf}
 use Rattle.words.specs.Text.{Word, wordsAt}
@@ -44,7 +45,7 @@ next-word {text} {at} {first} {x} h e =
       begun = span-word text at first;
     })
 
-none≢some : {v : ℕ} → _≡_ {A = Option ℕ} none (some v) → ⊥
+none≢some : {A : Type 0} {v : A} → _≡_ {A = Option A} none (some v) → ⊥
 none≢some e = let z : _≡_ {A = ℕ} 0 1 = cc in omega arith
 
 -- it is empty or not
@@ -59,13 +60,17 @@ pub begun-word : {text : List ℕ} {at : ℕ} {first : Bool} {x : Span} → Next
 begun-word n h = ⊎-elim (λ q. absurd (h q)) (λ q. q) (empty-or n)
 
 module _ {text : List ℕ} {at : ℕ} {first : Bool} {x : Span} (n : NextWord text at first x) where
-  -- a word that has no byte is no number and no name
+  -- a word that has no byte is no number, no price and no name
   part-empty : x .from ≡ x .to → part text x ≡ []
   part-empty e = let z : x .to - x .from ≡ 0 = omega arith in rw z
 
   pub number-begun : {v : ℕ} → numberOf (part text x) ≡ some v → x .from < x .to
-  unfolding numberOf isEmpty
+  unfolding numberOf digitsTo isEmpty
   number-begun {v} e = ⊎-elim (λ q. absurd (none≢some (rw (part-empty q) at e))) (λ q. q) (empty-or n)
+
+  pub price-begun : {v : ℤ} → priceOf (part text x) ≡ some v → x .from < x .to
+  unfolding priceOf opensBelow digitsTo isEmpty
+  price-begun {v} e = ⊎-elim (λ q. absurd (none≢some (rw (part-empty q) at e))) (λ q. q) (empty-or n)
 
   pub name-begun : (name : List ℕ) → 0 < length name → same (part text x) name ≡ true → x .from < x .to
   unfolding same

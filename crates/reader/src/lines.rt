@@ -4,15 +4,19 @@ ghost use mathlib.Core.Bool.{true};
 ghost use mathlib.Core.List.{List, [], _∷_, _++_};
 ghost use Prim.Native.Nat.{ℕ, _+_, _*_, _≤_};
 ghost use lib.ListN.{length, take};
+ghost use Rattle.rowset.specs.Integers.{toBits};
 ghost use Rattle.star.specs.Door.{bytesOf};
 ghost use Rattle.steinlib.specs.Import.{maxText};
 ghost use Rattle.steinlib.specs.Reader.{Read, endOf, withGraph, heading, sections, skipping, skipped, nodes, lines, leftEnd};
 ghost use Rattle.reader.specs.Readings.{Sized, readOf, rowsOf};
 ghost use Rattle.reader.specs.steps.Reading.{readOn, resumed};
-ghost use Rattle.reader.specs.steps.Lines.{NumberRead, CountRead, Onward, lineResumed};
+ghost use Rattle.reader.specs.steps.Lines.{NumberRead, PriceRead, CountRead, Onward, lineResumed};
+ghost use Rattle.words.specs.Numbers.{below};
 use words::Number;
+use words::Price;
 use words::next_word;
 use words::number_of;
+use words::price_of;
 use words::same;
 
 // The rows that a column has, and the bytes of a column of weights.
@@ -44,7 +48,7 @@ struct Line {
     step: Step,
 }
 
-// A number that was read, or the place where the layout is broken. The flag stands last, where it costs no room.
+// A number or the 32 bits of a price that was read, or the place where the layout is broken. The flag stands last, where it costs no room.
 struct Counted {
     at: usize,
     value: u32,
@@ -84,6 +88,45 @@ fn number_at(text: &[u8], at: usize) -> Counted
             broken: false,
         },
         Number::Missing => no,
+    }
+}
+
+// The 32 bits, in two's complement, of the integer that is v below zero.
+fn bits_below(v: u32) -> u32
+    ensures { λ r. ⌜ r ≡ toBits 32 (below v) ⌝ }
+{
+    if v == 0 { 0 } else { 4294967295 - (v - 1) }
+}
+
+// A price on the line that is being read.
+fn price_at(text: &[u8], at: usize) -> Counted
+    requires { ⌜ at ≤ length (now text) ⌝ }
+    ensures { λ x. ⌜ PriceRead (now (text .entry)) at x ⌝ }
+{
+    let w = next_word(text, at, false);
+    let from = w.from;
+    let to = w.to;
+    let no = Counted {
+        at: from,
+        value: 0,
+        broken: true,
+    };
+    if w.first {
+        return no;
+    }
+    let price = price_of(&text[from..to]);
+    match price {
+        Price::Plus(v) => Counted {
+            at: to,
+            value: v,
+            broken: false,
+        },
+        Price::Minus(v) => Counted {
+            at: to,
+            value: bits_below(v),
+            broken: false,
+        },
+        Price::NoPrice => no,
     }
 }
 
@@ -142,7 +185,7 @@ fn store_weight(column: &mut [u8; WEIGHT_BYTES], k: usize, w: u32)
     }
 }
 
-// The rest of a line of E: three numbers, which are one row more.
+// The rest of a line of E: two ends and a price, which are one row more.
 fn edge(
     text: &[u8],
     at: usize,
@@ -165,7 +208,7 @@ fn edge(
     if b.broken {
         return broken(b.at);
     }
-    let w = number_at(text, b.at);
+    let w = price_at(text, b.at);
     if w.broken {
         return broken(w.at);
     }

@@ -26,7 +26,7 @@ refusal-first [] ys x e = cc
 refusal-first (none ∷ xs) ys x e = refusal-first xs ys x e
 refusal-first (some y ∷ xs) ys x e = e
 
--- ── Causes 3, 4 and 5 ──
+-- ── Causes 3 and 4 ──
 
 -- the table's own checks of rows whose sizes are taken: the lengths are right, so the rows decide
 module _ (n m : ℕ) (size : none ≡ refusal (badVertices n ∷ tooManyRows m ∷ [])) where

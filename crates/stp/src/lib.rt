@@ -42,7 +42,7 @@ fn refused(number: u32) -> Outcome
     })
 }
 
-// Causes 3, and 4 or 5, of at most 1,024 rows that were read; l, r and w are the lengths of the lent columns.
+// Causes 3 and 4 of at most 1,024 rows that were read; l, r and w are the lengths of the lent columns.
 fn rows_check(
     found: [u32; FOUND],
     left: &[u8],
@@ -69,7 +69,7 @@ fn rows_check(
     )
 }
 
-// Causes 12, 13, 1, 2, 3, and 4 or 5, of a text that was read into left, right and weight; l, r and w are the lengths of the lent columns.
+// Causes 12, 13, 1, 2, 3 and 4 of a text that was read into left, right and weight; l, r and w are the lengths of the lent columns.
 fn import_check(
     step: Step,
     found: [u32; FOUND],

@@ -5,7 +5,7 @@ use mathlib.Core.Bool.{true, false, cond, _&&_}
 use mathlib.Core.List.{List}
 use mathlib.Core.Path.{_≡_}
 use lib.ListN.{length}
-use Rattle.steinlib.specs.Reader.{Read, Stand, Reading, sections, broken, when, numberThen, next, isClosed}
+use Rattle.steinlib.specs.Reader.{Read, Stand, Reading, sections, lines, price, broken, withRow, when, numberThen, next, isClosed}
 use Rattle.reader.specs.declared.lines.Counted.{Counted}
 use Rattle.reader.specs.declared.lines.Line.{Line}
 use Rattle.reader.specs.steps.Reading.{readOn, resumed}
@@ -38,6 +38,11 @@ pub record NumberRead (text : List ℕ) (at : ℕ) (x : Counted) : Type 0 where
   pub reached : Reached text at x
   pub reads : (s : Stand) (r : Read) (f : ℕ → Stand × Read) → Awaits s r f →
       readOn text s r at ≡ numbered text f x
+
+-- x is what is read where the price of an E line comes next, its value the 32 bits of the price
+pub record PriceRead (text : List ℕ) (at : ℕ) (x : Counted) : Type 0 where
+  pub reached : Reached text at x
+  pub reads : (r : Read) (a b : ℕ) → readOn text (price a b) r at ≡ numbered text (λ k. (lines, withRow r a b k)) x
 
 -- x is what is read where a line of a name and a number comes next
 pub record CountRead (text name : List ℕ) (at : ℕ) (x : Counted) : Type 0 where

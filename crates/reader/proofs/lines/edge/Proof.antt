@@ -1,4 +1,4 @@
--- `lines::edge` meets its contract: one of the three numbers is missing, or a row is stored.
+-- `lines::edge` meets its contract: an end or the price is missing, or a row is stored.
 -- Assumes nothing.
 use borrow.Author.Needs.{needs}
 use lib.ListN.{length-set}
@@ -35,7 +35,7 @@ returns-3 c =
     let s = c .before .before .before .before .before .before .before .before in
     let m = c .before .before .before .before .before .before .number-at .ensures in
     let o = c .before .before .before .before .number-at2 .ensures in
-    let p = c .before .before .number-at3 .ensures in
+    let p = c .before .before .price-at .ensures in
     let y = c .broken3 .ensures in (
       price-stops _ m (c .before .before .before .before .before .if1 .left) o (c .before .before .before .if2 .left) p _ _ (c .before .if3 .taken) (y .0) (y .1),
       (stopped (s .args .text .now) _ _ _ (c .broken3 .result) (s .pre .0 .2) (omega (arith, m .reached .low, o .reached .low, p .reached .low)) (p .reached .high) (y .1), s .pre .1),
@@ -48,12 +48,12 @@ returns-4 c =
     let s = e .before .before .before .before .before .before .before in
     let m = e .before .before .before .before .before .number-at .ensures in
     let o = e .before .before .before .number-at2 .ensures in
-    let p = e .before .number-at3 .ensures in
+    let p = e .before .price-at .ensures in
     let l = c .before .before .before .before .store-end .ensures in
     let r = c .before .before .store-end2 .ensures in
     let w = c .store-weight .ensures in (
       price-leads _ m (e .before .before .before .before .if1 .left) o (e .before .before .if2 .left) p (e .if3 .left)
-          ∙ ap (λ (r : Read). readOn (s .args .text .now) lines r (e .before .number-at3 .result .at)) (row-read (s .args .found .now) _ _ _ _ _ _ _ _ _ (s .pre .1 .numbers) (l .0) (r .0) (w .0)),
+          ∙ ap (λ (r : Read). readOn (s .args .text .now) lines r (e .before .price-at .result .at)) (row-read (s .args .found .now) _ _ _ _ _ _ _ _ _ (s .pre .1 .numbers) (l .0) (r .0) (w .0)),
       (
         (
           omega (arith, m .reached .low, o .reached .low, p .reached .low),
