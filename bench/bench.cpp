@@ -35,45 +35,41 @@ struct Table {
     uint32_t n;
     std::vector<uint8_t> left, right, weight, mark;
     size_t rows() const { return left.size(); }
-    uint32_t price(size_t i) const {
-        const uint8_t *w = &weight[4 * i];
-        return uint32_t(w[0]) | uint32_t(w[1]) << 8 | uint32_t(w[2]) << 16 | uint32_t(w[3]) << 24;
-    }
+    int32_t price(size_t i) const { return star_get_price(weight.data(), i); }
 };
 
 uint64_t state = 88172645463325252u;
 
-uint32_t any(uint32_t below) {
+uint32_t any(uint64_t below) {
     state ^= state << 13;
     state ^= state >> 7;
     state ^= state << 17;
     return uint32_t((state >> 11) % below);
 }
 
-// A connected table with prices below `spread`.
-Table make(uint32_t n, size_t m, uint32_t spread) {
-    Table t{n, {}, {}, {}, std::vector<uint8_t>(m)};
+// A connected table with prices from one number to another.
+Table make(uint32_t n, size_t m, int32_t from, int32_t to) {
+    Table t{n, {}, {}, std::vector<uint8_t>(4 * m), std::vector<uint8_t>(m)};
     for (size_t i = 0; i < m; i++) {
         uint32_t a = i + 1 < n ? uint32_t(i) + 2 : 1 + any(n), b = i + 1 < n ? 1 + any(uint32_t(i) + 1) : 1 + any(n);
         while (a == b) b = 1 + any(n);
-        uint32_t w = any(spread);
         t.left.push_back(uint8_t(a));
         t.right.push_back(uint8_t(b));
-        for (int k = 0; k < 4; k++) t.weight.push_back(uint8_t(w >> (8 * k)));
+        star_put_price(t.weight.data(), i, int32_t(from + int64_t(any(uint64_t(int64_t(to) - from + 1)))));
     }
     return t;
 }
 
-uint64_t amount(const uint8_t *answer) { return star_read_answer(answer).amount; }
+int64_t amount(const uint8_t *answer) { return star_read_answer(answer).amount; }
 
-uint64_t door_mst1(Table &t) {
+int64_t door_mst1(Table &t) {
     uint8_t answer[16];
     star_mst1(t.n, t.left.data(), t.rows(), t.right.data(), t.rows(), t.weight.data(), t.weight.size(), t.mark.data(), t.rows(), answer, 16);
     return amount(answer);
 }
 
 // The claim is the least tree, so that every unmarked row is looked at.
-uint64_t door_cst(Table &t) {
+int64_t door_cst(Table &t) {
     uint8_t answer[16];
     star_cst(t.n, t.left.data(), t.rows(), t.right.data(), t.rows(), t.weight.data(), t.weight.size(), t.mark.data(), t.rows(), answer, 16);
     return amount(answer);
@@ -83,14 +79,14 @@ call call_of(Table &t) {
     return {t.n, t.left.data(), t.right.data(), t.weight.data(), t.mark.data(), t.rows(), t.rows(), t.weight.size(), t.rows()};
 }
 
-uint64_t plain_build(Table &t) {
+int64_t plain_build(Table &t) {
     uint8_t answer[16];
     call c = call_of(t);
     plain_mst1(&c, answer, 16);
     return amount(answer);
 }
 
-uint64_t plain_check(Table &t) {
+int64_t plain_check(Table &t) {
     uint8_t answer[16];
     call c = call_of(t);
     plain_cst(&c, answer, 16);
@@ -98,38 +94,38 @@ uint64_t plain_check(Table &t) {
 }
 
 #ifdef HAVE_LEMON
-uint64_t lemon_tree(Table &t) {
+int64_t lemon_tree(Table &t) {
     lemon::SmartGraph g;
     g.reserveNode(int(t.n));
     g.reserveEdge(int(t.rows()));
     std::vector<lemon::SmartGraph::Node> node(t.n + 1);
     for (uint32_t v = 1; v <= t.n; v++) node[v] = g.addNode();
-    lemon::SmartGraph::EdgeMap<uint32_t> cost(g);
+    lemon::SmartGraph::EdgeMap<int64_t> cost(g); // 64 bits, since kruskal adds up in the costs' own type
     for (size_t i = 0; i < t.rows(); i++) cost[g.addEdge(node[t.left[i]], node[t.right[i]])] = t.price(i);
     std::vector<lemon::SmartGraph::Edge> tree;
     lemon::kruskal(g, cost, std::back_inserter(tree));
-    uint64_t total = 0;
+    int64_t total = 0;
     for (auto e : tree) total += cost[e];
     return total;
 }
 #endif
 
 #ifdef HAVE_BOOST
-uint64_t boost_tree(Table &t) {
-    using Graph = boost::adjacency_list<boost::vecS, boost::vecS, boost::undirectedS, boost::no_property, boost::property<boost::edge_weight_t, uint32_t>>;
+int64_t boost_tree(Table &t) {
+    using Graph = boost::adjacency_list<boost::vecS, boost::vecS, boost::undirectedS, boost::no_property, boost::property<boost::edge_weight_t, int32_t>>;
     Graph g(t.n);
     for (size_t i = 0; i < t.rows(); i++) boost::add_edge(t.left[i] - 1u, t.right[i] - 1u, t.price(i), g);
     std::vector<boost::graph_traits<Graph>::edge_descriptor> tree;
     boost::kruskal_minimum_spanning_tree(g, std::back_inserter(tree));
     auto cost = boost::get(boost::edge_weight, g);
-    uint64_t total = 0;
+    int64_t total = 0;
     for (auto e : tree) total += cost[e];
     return total;
 }
 #endif
 
 #ifdef HAVE_IGRAPH
-uint64_t igraph_tree(Table &t) {
+int64_t igraph_tree(Table &t) {
     igraph_t g;
     igraph_vector_int_t ends, tree;
     igraph_vector_t cost;
@@ -143,8 +139,8 @@ uint64_t igraph_tree(Table &t) {
     }
     igraph_create(&g, &ends, igraph_integer_t(t.n), IGRAPH_UNDIRECTED);
     igraph_minimum_spanning_tree(&g, &tree, &cost);
-    uint64_t total = 0;
-    for (igraph_integer_t i = 0; i < igraph_vector_int_size(&tree); i++) total += uint64_t(VECTOR(cost)[VECTOR(tree)[i]]);
+    int64_t total = 0;
+    for (igraph_integer_t i = 0; i < igraph_vector_int_size(&tree); i++) total += int64_t(VECTOR(cost)[VECTOR(tree)[i]]);
     igraph_destroy(&g);
     igraph_vector_int_destroy(&ends);
     igraph_vector_int_destroy(&tree);
@@ -154,16 +150,16 @@ uint64_t igraph_tree(Table &t) {
 #endif
 
 // The median time of one call, in microseconds.
-template <class F> double time_of(F solve, Table &t, uint64_t expected, const char *name) {
+template <class F> double time_of(F solve, Table &t, int64_t expected, const char *name) {
     using clock = std::chrono::steady_clock;
     std::vector<double> times;
     auto end = clock::now() + std::chrono::milliseconds(300);
     do {
         auto from = clock::now();
-        uint64_t got = solve(t);
+        int64_t got = solve(t);
         times.push_back(std::chrono::duration<double, std::micro>(clock::now() - from).count());
         if (got != expected) {
-            std::printf("%s gives %llu, expected %llu\n", name, (unsigned long long)got, (unsigned long long)expected);
+            std::printf("%s gives %lld, expected %lld\n", name, (long long)got, (long long)expected);
             std::exit(1);
         }
     } while (clock::now() < end && times.size() < 20000);
@@ -173,11 +169,11 @@ template <class F> double time_of(F solve, Table &t, uint64_t expected, const ch
 
 void row(const char *name, double us, double build, double check) { std::printf("  %-14s %9.1f us   %6.2f of MST1  %6.2f of CST\n", name, us, us / build, us / check); }
 
-void measure(uint32_t n, size_t m, uint32_t spread) {
-    Table t = make(n, m, spread);
-    uint64_t expected = plain_build(t);
+void measure(uint32_t n, size_t m, int32_t from, int32_t to) {
+    Table t = make(n, m, from, to);
+    int64_t expected = plain_build(t);
     double build = time_of(door_mst1, t, expected, "star_mst1"), check = time_of(door_cst, t, expected, "star_cst");
-    std::printf("n %u, m %zu, prices below %u\n", n, m, spread);
+    std::printf("n %u, m %zu, prices from %d to %d\n", n, m, int(from), int(to));
     row("star_mst1", build, build, check);
     row("star_cst", check, build, check);
     row("plain build", time_of(plain_build, t, expected, "plain"), build, check);
@@ -198,7 +194,9 @@ void measure(uint32_t n, size_t m, uint32_t spread) {
 int main() {
     std::printf("Median of one call; the ratio is the time over that of star_mst1 and of star_cst (above 1: slower than ours).\n");
     const uint32_t sizes[][2] = {{5, 16}, {17, 64}, {64, 256}, {255, 256}, {64, 1024}, {255, 1024}};
-    for (auto s : sizes) measure(s[0], s[1], 1u << 31);
-    measure(255, 1024, 5000);
+    for (auto s : sizes) measure(s[0], s[1], 0, STAR_MAX_PRICE);
+    measure(255, 1024, 0, 4999);
+    measure(255, 1024, -5000, 5000); // both signs: small prices, and all prices
+    measure(255, 1024, STAR_MIN_PRICE, STAR_MAX_PRICE);
     return 0;
 }

@@ -1,30 +1,23 @@
-/* Prices: four bytes, least significant first. */
+/* Prices: four bytes with a sign, packed and read as the door's header does. */
 #include "price.h"
 
 #include <inttypes.h>
 #include <stdio.h>
 
-static void store(uint32_t price, uint8_t bytes[PRICE_BYTES]) {
-    int i;
-    for (i = 0; i < PRICE_BYTES; i++) bytes[i] = (uint8_t)(price >> (8 * i));
-}
-
 int price_read(struct span word, uint8_t bytes[PRICE_BYTES]) {
-    uint32_t price;
-    if (!text_number(word, &price)) return 0;
-    store(price, bytes);
+    int below = word.len > 0 && word.at[0] == '-';
+    uint32_t size;
+    if (below) word.at++, word.len--;
+    if (!text_number(word, &size) || size > (uint32_t)STAR_MAX_PRICE + (uint32_t)below) return 0;
+    star_put_price(bytes, 0, (int32_t)(below ? -(int64_t)size : size));
     return 1;
 }
 
-void price_dearest(uint8_t bytes[PRICE_BYTES]) { store(STAR_MAX_PRICE, bytes); }
+void price_dearest(uint8_t bytes[PRICE_BYTES]) { star_put_price(bytes, 0, STAR_MAX_PRICE); }
 
-const char *price_figures(char figures[FIGURES], const uint8_t bytes[PRICE_BYTES]) {
-    uint32_t price = (uint32_t)bytes[0] | (uint32_t)bytes[1] << 8 | (uint32_t)bytes[2] << 16 | (uint32_t)bytes[3] << 24;
-    snprintf(figures, FIGURES, "%" PRIu32, price);
-    return figures;
-}
+const char *price_figures(char figures[FIGURES], const uint8_t bytes[PRICE_BYTES]) { return amount_figures(figures, star_get_price(bytes, 0)); }
 
-const char *amount_figures(char figures[FIGURES], uint64_t amount) {
-    snprintf(figures, FIGURES, "%" PRIu64, amount);
+const char *amount_figures(char figures[FIGURES], int64_t amount) {
+    snprintf(figures, FIGURES, "%" PRId64, amount);
     return figures;
 }

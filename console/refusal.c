@@ -23,12 +23,6 @@ void refusal_of_end(struct message *to, size_t trench, const struct span ends[2]
     say(to, "trench %zu joins junction %" PRIu32 " to itself.", trench, end);
 }
 
-void refusal_of_price(struct message *to, size_t trench, struct span price) {
-    say(to, "trench %zu has the price ", trench);
-    say_word(to, price);
-    say(to, "; a price is " PRICE_TEXT ".");
-}
-
 static void junction_count(struct message *to, const struct table *t) {
     say(to, t->count.line == 0 ? "no junction from 1 on is named" : t->told ? "the number of junctions is " : "the largest junction is ");
     say_word(to, t->count.text);
@@ -52,7 +46,7 @@ static void no_network(struct message *to, const struct table *t) {
 
 void refusal_words(struct message *to, const struct table *t, struct star_answer a) {
     struct place none = {0, {NULL, 0}};
-    int of_trench = a.number == STAR_BAD_END || a.number == STAR_BAD_PRICE || a.number == STAR_BAD_MARK;
+    int of_trench = a.number == STAR_BAD_END || a.number == STAR_BAD_MARK;
     struct place at = of_trench && a.out >= 1 && a.out <= KEPT ? t->row[a.out - 1] : none;
     struct span ends[2];
     refusal_opens(to, a.number, t->file, a.number == STAR_BAD_JUNCTION_COUNT ? t->count.line : at.line);
@@ -67,9 +61,6 @@ void refusal_words(struct message *to, const struct table *t, struct star_answer
         ends[0] = text_nth(at.text, 0);
         ends[1] = text_nth(at.text, 1);
         refusal_of_end(to, a.out, ends, t->n);
-        break;
-    case STAR_BAD_PRICE:
-        refusal_of_price(to, a.out, text_nth(at.text, 2));
         break;
     case STAR_BAD_MARK:
         say(to, "trench %u has the mark ", a.out);

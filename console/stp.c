@@ -7,13 +7,16 @@
 
 int stp_opens(struct span text) { return text_is(text_nth(text, 0), "33D32945"); }
 
-/* The line of a place. */
-static size_t line_of(struct span text, size_t place) {
+/* The line that has a place. */
+static struct place line_of(struct span text, size_t place) {
     const char *at = text.at + place;
+    struct place found = {0, {NULL, 0}};
     struct span line;
-    size_t number = 0;
-    while (text_line(&text, &line) && line.at <= at) number++;
-    return number;
+    while (text_line(&text, &line) && line.at <= at) {
+        found.line++;
+        found.text = line;
+    }
+    return found;
 }
 
 /* Whether a place is the first of its line but for blanks. */
@@ -22,18 +25,22 @@ static int opens_line(struct span text, size_t place) {
     return place == 0 || text.at[place - 1] == '\n' || text.at[place - 1] == '\r';
 }
 
+/* Whether a word that cannot stand stands where a line E has its price. */
+static int for_price(struct span line, struct span word) { return text_is(text_nth(line, 0), "E") && text_nth(line, 3).at == word.at; }
+
 static void broken(struct message *to, const char *file, struct span text, uint64_t place) {
     struct span rest = text, word;
-    size_t k = (size_t)place, line = 0, i;
-    if (text.len <= STAR_MAX_TEXT && k < text.len) line = line_of(text, k);
-    refusal_opens(to, STAR_BAD_TEXT, file, line);
+    struct place at = {0, {NULL, 0}};
+    size_t k = (size_t)place, i;
+    if (text.len <= STAR_MAX_TEXT && k < text.len) at = line_of(text, k);
+    refusal_opens(to, STAR_BAD_TEXT, file, at.line);
     if (text.len > STAR_MAX_TEXT) {
         say(to, "the text has %zu bytes; at most %d are taken.", text.len, STAR_MAX_TEXT);
         return;
     }
     if (k >= text.len) {
         for (i = 0; text_word(&rest, &word);) i = (size_t)(word.at - text.at);
-        say(to, "the text ends too early, after line %zu.", line_of(text, i));
+        say(to, "the text ends too early, after line %zu.", line_of(text, i).line);
         return;
     }
     rest.at += k;
@@ -41,7 +48,7 @@ static void broken(struct message *to, const char *file, struct span text, uint6
     text_word(&rest, &word);
     say(to, "the word ");
     say_quoted(to, word);
-    say(to, " cannot stand there%s.", opens_line(text, k) ? ", or the line before it ends too soon" : "");
+    say(to, " cannot stand there%s.", opens_line(text, k) ? ", or the line before it ends too soon" : for_price(at.text, word) ? "; a price is " PRICE_TEXT : "");
 }
 
 /* What the section Graph of a text says. */
@@ -101,10 +108,6 @@ static void refused(struct message *to, const char *file, struct span text, stru
         ends[1] = text_nth(g.wanted.text, 2);
         text_number(g.nodes.text, &n);
         refusal_of_end(to, (size_t)a.place, ends, n);
-        break;
-    case STAR_BAD_PRICE:
-        refusal_opens(to, a.number, file, g.wanted.line);
-        refusal_of_price(to, (size_t)a.place, text_nth(g.wanted.text, 3));
         break;
     default:
         refusal_opens(to, a.number, file, 0);

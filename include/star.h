@@ -1,8 +1,10 @@
 /* The console's door to the verified tree checker, tree builder and reader of STP texts.
  *
- * A table has n junctions, numbered 1 to n, and m rows. Row i joins two junctions at a price:
+ * A table has n junctions, numbered 1 to n, and m rows, counted from 1. A row joins two junctions at a price:
  *   left, right   one byte a row, the two junctions
- *   weight        four bytes a row, the price, least significant byte first
+ *   weight        four bytes a row, the price in two's complement, least significant byte first: a whole number from
+ *                 -2,147,483,648 to 2,147,483,647, below 0 where a grant exceeds the cost. Any four bytes are a price;
+ *                 star_put_price packs one, and star_get_price reads it
  *   mark          one byte a row, 1 for a marked row and 0 for any other: the claim
  * m is the length of the left column.
  *
@@ -33,15 +35,18 @@ extern "C" {
 
 /* The version of this header. star_version gives that of the library that is linked. */
 #define STAR_VERSION_MAJOR 0
-#define STAR_VERSION_MINOR 3
+#define STAR_VERSION_MINOR 4
 #define STAR_VERSION_PATCH 0
-#define STAR_VERSION "0.3.0"
+#define STAR_VERSION "0.4.0"
 
 const char *star_version(void);
 
 /* The largest table that is taken. */
 enum { STAR_MAX_JUNCTIONS = 255, STAR_MAX_ROWS = 1024, STAR_ANSWER_BYTES = 16 };
-#define STAR_MAX_PRICE UINT32_C(2147483647)
+
+/* The least and the largest price: -2,147,483,648 and 2,147,483,647. */
+#define STAR_MIN_PRICE INT32_MIN
+#define STAR_MAX_PRICE INT32_MAX
 
 /* The longest text that is read. */
 enum { STAR_MAX_TEXT = 65536 };
@@ -53,13 +58,12 @@ enum star_kind {
     STAR_LIGHTER = 2 /* a cheaper set exists: the exchange of two rows is one */
 };
 
-/* Byte 1 of a refused answer, and what its place is. */
+/* Byte 1 of a refused answer, and what its place is. 5 is not used. */
 enum star_refusal {
     STAR_BAD_JUNCTION_COUNT = 1, /* n is 0 or above 255 */
     STAR_TOO_MANY_ROWS = 2,      /* m is above 1,024 */
     STAR_BAD_LENGTHS = 3,        /* right or mark is not m bytes, or weight not 4 m; star_import: not 1,024, 1,024 and 4,096 bytes */
     STAR_BAD_END = 4,            /* place: the uppermost row with an end that is 0 or above n, or with equal ends */
-    STAR_BAD_PRICE = 5,          /* place: the uppermost row with a price above 2,147,483,647 */
     STAR_BAD_MARK = 6,           /* place: the uppermost row marked with another byte than 0 and 1 (star_cst) */
     STAR_BAD_MARK_COUNT = 9,     /* the marks are not n - 1 (star_cst) */
     STAR_NOT_JOINED = 10,        /* place: the smallest junction that marked rows do not join to 1 (star_cst) */
@@ -82,29 +86,44 @@ uint32_t star_mst1(uint32_t n, const uint8_t *left, size_t left_len, const uint8
 
 /* Reads an STP text: a first line that opens with 33D32945; sections, of which one is named Graph, with its lines Nodes N, Edges M,
  * E LEFT RIGHT PRICE for each row, END; and EOF. Sections of other names are skipped. left, right and weight are lent for 1,024 rows:
- * 1,024, 1,024 and 4,096 bytes. The m rows of the text are written at the top, and rows past m keep their content. A refusal is 12,
- * else 13, 1, 2, 3, or the uppermost row's 4 or 5. The first m rows (4 m bytes of weight) are what star_cst and star_mst1 take. */
+ * 1,024, 1,024 and 4,096 bytes. The m rows of the text are written at the top, and rows past m keep their content. A PRICE may open
+ * with -; one outside -2,147,483,648 to 2,147,483,647 is a word that cannot stand. A refusal is 12, else 13, 1, 2, 3 or 4. The first m
+ * rows (4 m bytes of weight) are what star_cst and star_mst1 take. */
 uint32_t star_import(const uint8_t *text, size_t text_len, uint8_t *left, size_t left_len, uint8_t *right, size_t right_len,
                      uint8_t *weight, size_t weight_len, uint8_t *answer, size_t answer_len);
 
+/* Packs a price into the weight column, and reads one, at an index from 0 on, as left[index]: row i is at index i - 1. */
+static inline void star_put_price(uint8_t *weight, size_t index, int32_t price) {
+    int k;
+    for (k = 0; k < 4; k++) weight[4 * index + (size_t)k] = (uint8_t)((uint32_t)price >> (8 * k));
+}
+
+static inline int32_t star_get_price(const uint8_t *weight, size_t index) {
+    uint32_t bits = 0;
+    int k;
+    for (k = 3; k >= 0; k--) bits = bits << 8 | weight[4 * index + (size_t)k];
+    return bits <= INT32_MAX ? (int32_t)bits : -1 - (int32_t)~bits;
+}
+
 /* The sixteen bytes of star_cst and star_mst1 as fields; those that a kind lacks are 0. */
 struct star_answer {
-    unsigned kind;    /* byte 0: enum star_kind */
-    unsigned number;  /* byte 1: enum star_refusal, 0 unless refused */
-    unsigned out;     /* bytes 2 and 3: lighter: the row to take out; refused: the place */
-    unsigned in;      /* bytes 4 and 5: lighter: the row to put in */
-    uint64_t amount;  /* bytes 8 to 15: passed: the total; lighter: the saving */
+    unsigned kind;   /* byte 0: enum star_kind */
+    unsigned number; /* byte 1: enum star_refusal, 0 unless refused */
+    unsigned out;    /* bytes 2 and 3: lighter: the row to take out; refused: the place */
+    unsigned in;     /* bytes 4 and 5: lighter: the row to put in */
+    int64_t amount;  /* bytes 8 to 15, two's complement: passed: the total; lighter: the saving, above 0 and at most 4,294,967,295 */
 };
 
 static inline struct star_answer star_read_answer(const uint8_t bytes[16]) {
     struct star_answer a;
+    uint64_t bits = 0;
     int i;
     a.kind = bytes[0];
     a.number = bytes[1];
     a.out = (unsigned)bytes[2] | (unsigned)bytes[3] << 8;
     a.in = (unsigned)bytes[4] | (unsigned)bytes[5] << 8;
-    a.amount = 0;
-    for (i = 7; i >= 0; i--) a.amount = a.amount << 8 | bytes[8 + i];
+    for (i = 7; i >= 0; i--) bits = bits << 8 | bytes[8 + i];
+    a.amount = bits <= INT64_MAX ? (int64_t)bits : -1 - (int64_t)~bits;
     return a;
 }
 
@@ -124,7 +143,7 @@ static inline struct star_imported star_read_imported(const uint8_t bytes[16]) {
     i.number = a.number;
     i.n = a.out;
     i.m = a.in;
-    i.place = a.amount;
+    i.place = (uint64_t)a.amount;
     return i;
 }
 

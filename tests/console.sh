@@ -5,7 +5,7 @@ set -u
 cd "$(dirname "$0")/.."
 star=("$@") passed=0 failed=0 work=$(mktemp -d)
 trap 'rm -rf "$work"' EXIT
-yard=console/examples/yard.txt dear=console/examples/yard-dear.txt street=console/examples/street.stp
+yard=console/examples/yard.txt dear=console/examples/yard-dear.txt grant=console/examples/grant.txt street=console/examples/street.stp
 
 verdict() { # NAME STATUS: counts a test whose last command ended with STATUS
     if [ "$2" = 0 ]; then passed=$((passed + 1)); else
@@ -39,6 +39,8 @@ done
 # The examples.
 try yard 0 'Total 12' '' check $yard
 try dear 1 'for 1 less' '' check $dear
+try grant 1 'for 6 less' '' check $grant
+try grant-build 0 '^Total -9$' '' build $grant
 try stem 0 'Total 11' '' check console/examples/stem.txt
 try t1 0 'Total 20' '' check console/examples/t1.txt
 try t2 1 'for 2 less' '' check console/examples/t2.txt
@@ -84,6 +86,9 @@ for picture in draw dot; do
     verdict "$picture-ring-words" $?
     try "$picture-passed" 0 'Passed. Total 12' '' $picture $yard
     try "$picture-lighter" 0 'A cheaper set exists, for 1 less: take out trench 1 ' '' $picture $dear
+    try "$picture-grant" 0 'for 6 less: take out trench 1 \(1-2, price 5\), put in trench 3 \(3-4, price -1\)' '' $picture $grant
+    try "$picture-grant-label" 0 '[>"]4: -4[<"]' '' $picture $grant
+    try "$picture-below-0" 0 'Passed. Total -5\.' '1 2 -5 1\n' $picture
     try "$picture-unmarked" 0 'No trench is marked' '' $picture $street
 done
 
@@ -98,12 +103,10 @@ done
 [ $? = 3 ] && grep -q 'more than 16777216 bytes' "$work/all"
 verdict endless $?
 
-# Messages. Numbers of any length are numbers, and the door refuses them; lines are those of the file, comments counted.
+# Messages. Junctions and marks of any length are numbers, and the door refuses them; lines are those of the file, comments counted.
 top='# a comment\n\n'
 try junction-large 2 'Refused \(1\): standard input:3: the largest junction is 4294967296;.* 255' "${top}4294967296 2 5 1\n" check
 try junction-large-told 2 'Refused \(4\): standard input:2: trench 1 ends at junction 4294967296;.* 1 to 4\.' 'junctions 4\n4294967296 2 5 1\n' check
-try price-large 2 'Refused \(5\): .*:1: trench 1 has the price 4294967296; .* 0 to 2147483647' '1 2 4294967296 1\n' check
-try price-larger 2 'Refused \(5\): .*the price 99999999999999999999999; ' '1 2 99999999999999999999999 1\n' check
 try mark-2 2 'Refused \(6\): standard input:4: trench 2 has the mark 2;' "${top}1 2 5 1\n2 3 4 2\n" check
 try mark-256 2 'Refused \(6\): standard input:4: trench 2 has the mark 256;' "${top}1 2 5 1\n2 3 4 256\n" check
 try end-above 2 'Refused \(4\): standard input:4: trench 1 ends at junction 9; .* 1 to 3' "${top}junctions 3\n1 9 5 1\n" check
@@ -121,7 +124,11 @@ try stp-name 2 'Refused \(12\): tests/console/build-stp-word.txt:5: ' '' build t
 try four-columns 3 "standard input:4: '1 2' is not a trench" "${top}1 2 5 1\n1 2\n" check
 try five-columns 3 "'1 2 5 1 7' is not a trench" '1 2 5 1 7\n' check
 try word-junction 3 "standard input:1: 'x1' is not a junction, a number" 'x1 2 5 1\n' check
-try word-price 3 "'4.50' is not a price, a whole number from 0 to 2147483647" '1 2 4.50 1\n' check
+try word-price 3 "'4.50' is not a price, a whole number from -2147483648 to 2147483647" '1 2 4.50 1\n' check
+try price-long 3 "standard input:1: '99999999999999999999999' is not a price" '1 2 99999999999999999999999 1\n' check
+try price-long-below 3 "standard input:1: '-99999999999999999999999' is not a price" '1 2 -99999999999999999999999 1\n' check
+try price-zeros 0 'Total -2147483648' '1 2 -00000000000000000002147483648 1\n' check
+try price-least-two 0 'Total -4294967296' '1 2 -2147483648 1\n2 3 -2147483648 1\n' check
 try word-mark 3 "'yes' is not a mark" '1 2 5 yes\n' check
 try csv 3 'not by commas or semicolons' 'left,right,price,mark\n1,2,5,1\n' check
 try semicolons 3 'not by commas or semicolons' '1;2;5;1\n' check
@@ -154,7 +161,7 @@ for number in range(12):
             seen.add(v)
             rest.append(v)
     with open("%s/apart%d.txt" % (sys.argv[1], number), "w") as out:
-        out.write("junctions %d\n" % n + "".join("%d %d %d\n" % (u + 1, v + 1, random.choice((1, 9, 2147483647))) for u, v in pairs))
+        out.write("junctions %d\n" % n + "".join("%d %d %d\n" % (u + 1, v + 1, random.choice((1, 9, 2147483647, -9, -2147483648))) for u, v in pairs))
     with open("%s/apart%d.least" % (sys.argv[1], number), "w") as out:
         out.write(str(min(set(range(n)) - seen, default=-1) + 1))
 PYTHON
@@ -199,7 +206,7 @@ try output-same 0 '^exit 0' '' build --table -o "$work/same.txt" "$work/same.txt
 try output-same-checked 0 'Total 12' '' check "$work/same.txt"
 try output-refused 2 'Refused \(2\)' "$(rows 1025)" table -o "$work/same.txt"
 try output-left 0 'Total 12' '' check "$work/same.txt"
-for file in $yard $dear $street console/examples/city.txt; do
+for file in $yard $dear $grant $street console/examples/city.txt; do
     "${star[@]}" build --table $file | "${star[@]}" check - >"$work/all" 2>&1
     verdict "build --table $file" $?
 done
@@ -208,6 +215,8 @@ try table-refused 2 '^Refused \(11\)' '1 2 5\n3 4 1\n' build --table
 verdict table-refused-empty $?
 "${star[@]}" table $dear >"$work/dear.txt"
 try table-plain 1 'for 1 less' '' check "$work/dear.txt"
+"${star[@]}" table $grant >"$work/grant.txt"
+try table-grant 1 'for 6 less' '' check "$work/grant.txt"
 try table-mark 2 'Refused \(6\)' '1 2 5 3\n' table
 try table-plan 0 '^1 2 5 0$' '1 2 5\n2 3 4\n' table
 
@@ -220,6 +229,8 @@ for colour in c62828 1565c0 222222 9e9e9e; do
 done
 grep -q '  1 -- 4 \[label="4: 4", color="#1565c0", fontcolor="#1565c0", penwidth=5\];' "$work/all"
 verdict dot-line $?
+grep -q '  1 -- 2 \[label="1: 5", .*, style=dashed\];' "$work/all" && grep -q '\.out{[^}]*dasharray' "$work/draw.svg"
+verdict dashed $?
 if command -v neato >/dev/null; then
     neato -Tsvg "$work/all" >"$work/neato.svg"
     verdict neato $?

@@ -1,5 +1,6 @@
 /* Compares the doors with the plain implementation on many tables: valid and damaged ones, each refusal alone and several at once, boundary
- * lengths, ties, parallel rows, claims that are near the least tree, the largest table. Guard bytes stand around every lent column.
+ * lengths, ties, parallel rows, claims that are near the least tree, the largest table. Every other table has prices below 0, many of them the
+ * least and the largest price. Guard bytes stand around every lent column. Totals and savings are added up once more, in 64 bits with a sign.
  * The largest table is tried in a thread with the stack that the header names.
  * usage: door_test [TABLES]   prints one line 'N passed, M failed' */
 #define _POSIX_C_SOURCE 200809L
@@ -13,13 +14,31 @@
 
 enum { GUARD = 32, ROOM = 1032, FILL = 0xA5, STACK = 128 << 10 };
 
+/* Prices from one number to another. */
+struct range {
+    int32_t from, to;
+};
+
+static const struct range AT_LEAST_0[] = {{0, 0}, {0, 2}, {0, 19}, {0, 999999}, {0, STAR_MAX_PRICE}};
+static const struct range OF_BOTH_SIGNS[] = {{-1, -1}, {-2, 2}, {-20, -1}, {-500000, 499999}, {STAR_MIN_PRICE, -1}, {STAR_MIN_PRICE, STAR_MAX_PRICE}};
+
 static uint64_t state = 88172645463325252u;
 
-static uint32_t any(uint32_t below) {
+static uint64_t draw(void) {
     state ^= state << 13;
     state ^= state >> 7;
     state ^= state << 17;
-    return below ? (uint32_t)((state >> 11) % below) : 0;
+    return state >> 11;
+}
+
+static uint32_t any(uint32_t below) { return below ? (uint32_t)(draw() % below) : 0; }
+
+static int32_t any_of(struct range r) { return (int32_t)(r.from + (int64_t)(draw() % (uint64_t)((int64_t)r.to - r.from + 1))); }
+
+/* A price that two's complement has at a limit, or next to one. */
+static int32_t extreme(void) {
+    static const int32_t prices[] = {STAR_MIN_PRICE, STAR_MIN_PRICE + 1, -1, 0, 1, STAR_MAX_PRICE - 1, STAR_MAX_PRICE};
+    return prices[any(sizeof prices / sizeof prices[0])];
 }
 
 /* A column with guard bytes before and after it. */
@@ -44,18 +63,12 @@ static int guarded(const struct column *c) {
     return 1;
 }
 
-static void set_price(size_t i, uint32_t w) {
-    int k;
-    for (k = 0; k < 4; k++) at(&weight)[4 * i + (size_t)k] = (uint8_t)(w >> (8 * k));
-}
+static void set_price(size_t i, int32_t w) { star_put_price(at(&weight), i, w); }
 
-static uint32_t price(size_t i) {
-    const uint8_t *w = at(&weight) + 4 * i;
-    return (uint32_t)w[0] | (uint32_t)w[1] << 8 | (uint32_t)w[2] << 16 | (uint32_t)w[3] << 24;
-}
+static int32_t price(size_t i) { return star_get_price(at(&weight), i); }
 
-/* A table of n vertices and m rows: a connected one where it can be, with prices below `spread`. */
-static uint32_t fresh(uint32_t n, size_t m, uint32_t spread, int connected) {
+/* A table of n vertices and m rows: a connected one where it can be. */
+static uint32_t fresh(uint32_t n, size_t m, struct range prices, int connected) {
     size_t i;
     make(&left, m);
     make(&right, m);
@@ -73,7 +86,7 @@ static uint32_t fresh(uint32_t n, size_t m, uint32_t spread, int connected) {
         }
         at(&left)[i] = (uint8_t)a;
         at(&right)[i] = (uint8_t)b;
-        set_price(i, any(spread));
+        set_price(i, any_of(prices));
         at(&mark)[i] = (uint8_t)any(2);
     }
     for (i = m; i > 1; i--) { /* the rows in another order */
@@ -89,15 +102,15 @@ static uint32_t fresh(uint32_t n, size_t m, uint32_t spread, int connected) {
 
 /* A claim: the least tree, the least tree with one row exchanged, some spanning tree, or as it came. */
 static void claim(uint32_t n, size_t m) {
-    uint32_t cost[ROOM];
+    int32_t cost[ROOM];
     uint32_t how = any(4);
     size_t i;
     if (m == 0 || m > 1024 || how == 3) return;
-    for (i = 0; i < m; i++) cost[i] = how == 2 ? any(1000) : price(i);
+    for (i = 0; i < m; i++) cost[i] = how == 2 ? (int32_t)any(1000) : price(i);
     plain_tree(n, at(&left), at(&right), cost, m, at(&mark));
     if (how == 1) {
         size_t r = any((uint32_t)m);
-        cost[r] = any(2) ? 0 : 4000000000u;
+        cost[r] = any(2) ? STAR_MIN_PRICE : STAR_MAX_PRICE;
         plain_tree(n, at(&left), at(&right), cost, m, at(&mark));
     }
 }
@@ -108,12 +121,12 @@ static uint32_t damage(uint32_t n, size_t m) {
     case 0: return any(2) ? 0 : 256 + any(1000);
     case 1: if (left.len) left.len--; break;
     case 2: right.len += any(2) ? 1 : 0; break;
-    case 3: if (weight.len) weight.len -= 1 + any(4); break;
+    case 3: weight.len -= weight.len < 4 ? weight.len : 1 + any(4); break;
     case 4: if (mark.len) mark.len--; else mark.len++; break;
     case 5: if (m) at(&left)[i] = (uint8_t)(any(2) ? 0 : 255); break;
     case 6: if (m) at(&right)[i] = at(&left)[i]; break;
-    case 7: if (m) set_price(i, 2147483648u + any(5)); break;
-    case 8: if (m) set_price(i, 2147483647u); break;
+    case 7: if (m) set_price(i, STAR_MIN_PRICE + (int32_t)any(5)); break;
+    case 8: if (m) set_price(i, STAR_MAX_PRICE); break;
     case 9: if (m) at(&mark)[i] = (uint8_t)(2 + any(254)); break;
     case 10: if (m) at(&mark)[i] ^= 1; break;
     case 11: answer.len = any(40); break;
@@ -134,6 +147,22 @@ static uint32_t lent(uint32_t n, int build) {
                  : star_cst(n, lend(&left), left.len, lend(&right), right.len, lend(&weight), weight.len, lend(&mark), mark.len, lend(&answer), answer.len);
 }
 
+/* The sum of the marked rows' prices. */
+static int64_t total(void) {
+    int64_t sum = 0;
+    size_t i;
+    for (i = 0; i < left.len; i++) sum += at(&mark)[i] == 1 ? price(i) : 0;
+    return sum;
+}
+
+/* Whether the answer's amount is the claim's total, the exchange's saving, or 0. */
+static int amount_holds(void) {
+    struct star_answer a = star_read_answer(at(&answer));
+    if (a.kind == STAR_PASSED) return a.amount == total();
+    if (a.kind == STAR_LIGHTER) return a.amount > 0 && a.amount == (int64_t)price(a.out - 1) - price(a.in - 1);
+    return a.amount == 0;
+}
+
 static int agree(uint32_t n, int build) {
     static struct column mine, marks;
     struct column l = left, r = right, w = weight;
@@ -145,7 +174,7 @@ static int agree(uint32_t n, int build) {
     said = lent(n, build);
     return said == plain && !memcmp(answer.bytes, mine.bytes, sizeof mine.bytes) && !memcmp(mark.bytes, marks.bytes, sizeof marks.bytes)
         && guarded(&answer) && guarded(&mark) && !memcmp(left.bytes, l.bytes, sizeof l.bytes) && !memcmp(right.bytes, r.bytes, sizeof r.bytes)
-        && !memcmp(weight.bytes, w.bytes, sizeof w.bytes);
+        && !memcmp(weight.bytes, w.bytes, sizeof w.bytes) && (!said || amount_holds());
 }
 
 static unsigned long passed, failed;
@@ -169,15 +198,47 @@ static void both(uint32_t n) {
     tell(agree(n, 1), "star_mst1", n);
 }
 
+/* Tables made, those with a price below 0, and those with the least and with the largest price. */
+static unsigned long made, below_0, least, largest;
+
+static void count_prices(size_t m) {
+    int has_below = 0, has_least = 0, has_largest = 0;
+    size_t i;
+    for (i = 0; i < m; i++) {
+        has_below |= price(i) < 0;
+        has_least |= price(i) == STAR_MIN_PRICE;
+        has_largest |= price(i) == STAR_MAX_PRICE;
+    }
+    made++;
+    below_0 += (unsigned long)has_below;
+    least += (unsigned long)has_least;
+    largest += (unsigned long)has_largest;
+}
+
+/* Prices of which one at least is below 0; in some tables each of them, or a few, at a limit. */
+static void sign_prices(size_t m) {
+    uint32_t every = any(3); /* 0: no price at a limit; 1: each of them; 2: one of four */
+    size_t i;
+    for (i = 0; i < m; i++)
+        if (every == 1 || (every == 2 && any(4) == 0)) set_price(i, extreme());
+    i = any((uint32_t)m);
+    if (price(i) >= 0) set_price(i, any(2) ? STAR_MIN_PRICE : -1 - price(i));
+}
+
 static void one(unsigned long k) {
-    uint32_t n, spread[] = {1, 3, 20, 1000000, 2147483648u};
+    uint32_t n, below = k % 2; /* whether the table has a price below 0 */
+    struct range prices = below ? OF_BOTH_SIGNS[any(sizeof OF_BOTH_SIGNS / sizeof OF_BOTH_SIGNS[0])] : AT_LEAST_0[any(sizeof AT_LEAST_0 / sizeof AT_LEAST_0[0])];
     size_t m;
     int i;
-    if (k % 500 == 0) n = 255 - any(2), m = 1024 - any(3);
-    else if (k % 50 == 0) n = 1 + any(255), m = any(1025);
+    if (k % 1000 < 2) n = 255 - any(2), m = 1024 - any(3);
+    else if (k % 100 < 2) n = 1 + any(255), m = any(1025);
     else n = 1 + any(10), m = n == 1 ? any(40) == 0 : any(20);
-    n = fresh(n, m, spread[any(5)], any(8) != 0);
+    if (below && n == 1) n = 2;
+    if (below && m == 0) m = 1;
+    n = fresh(n, m, prices, any(8) != 0);
+    if (below) sign_prices(m);
     claim(n, m);
+    count_prices(m);
     if (any(3) == 0)
         for (i = 0; i <= (int)any(3); i++) n = damage(n, m);
     both(n);
@@ -189,7 +250,8 @@ static void limits(void) {
     size_t i, j;
     for (i = 0; i < sizeof lengths / sizeof lengths[0]; i++)
         for (j = 0; j < 20; j++) {
-            uint32_t n = fresh(j % 2 ? 255 : 2 + any(60), lengths[i], 5, 1);
+            struct range prices = {j % 3 ? -2 : 0, 4};
+            uint32_t n = fresh(j % 2 ? 255 : 2 + any(60), lengths[i], prices, 1);
             claim(n, lengths[i]);
             if (j % 4 == 3) n = 256;
             if (j % 4 == 2) n = 0;
@@ -218,7 +280,7 @@ static void nulls(void) {
         const char *empty; /* the columns that are lent as null pointers */
         uint32_t n, returns;
         unsigned kind[2], number[2]; /* of star_cst and of star_mst1 */
-        uint64_t amount;
+        int64_t amount;
     } call[] = {
         {"", 4, 1, {STAR_PASSED, STAR_PASSED}, {0, 0}, 12},
         {"l", 4, 1, {STAR_REFUSED, STAR_REFUSED}, {STAR_BAD_LENGTHS, STAR_BAD_LENGTHS}, 0},
@@ -264,18 +326,104 @@ static void small_stack(void) {
     pthread_attr_t attr;
     pthread_t thread;
     uint32_t said[2] = {0, 0};
-    fresh(255, 1024, 1000, 1);
+    struct range prices = {-500, 499};
+    fresh(255, 1024, prices, 1);
     tell(!pthread_attr_init(&attr) && !pthread_attr_setstacksize(&attr, STACK) && !pthread_create(&thread, &attr, on_small_stack, said) && !pthread_join(thread, NULL)
              && said[0] == 1 && said[1] == 1 && star_read_answer(at(&answer)).kind == STAR_PASSED,
          "a thread of 128 KiB", 255);
 }
 
+/* Prices as they are packed. */
+static void packed(void) {
+    static const struct {
+        int32_t price;
+        uint8_t bytes[4];
+    } known[] = {
+        {0, {0, 0, 0, 0}},
+        {5, {5, 0, 0, 0}},
+        {-1, {255, 255, 255, 255}},
+        {-3, {253, 255, 255, 255}},
+        {-256, {0, 255, 255, 255}},
+        {STAR_MAX_PRICE, {255, 255, 255, 127}},
+        {STAR_MIN_PRICE, {0, 0, 0, 128}},
+    };
+    size_t i;
+    for (i = 0; i < sizeof known / sizeof known[0]; i++) {
+        uint8_t bytes[12] = {7, 7, 7, 7, 7, 7, 7, 7, 7, 7, 7, 7};
+        star_put_price(bytes, 1, known[i].price);
+        tell(!memcmp(bytes + 4, known[i].bytes, 4) && bytes[3] == 7 && bytes[8] == 7 && star_get_price(bytes, 1) == known[i].price, "a packed price", 0);
+    }
+}
+
+/* Tables whose answers are known to the byte: the yard with prices below 0, a triangle of them, and the two limits of a price. */
+static void known(void) {
+    static const struct {
+        uint32_t n;
+        size_t m;
+        uint8_t left[5], right[5];
+        int32_t price[5];
+        uint8_t claim[5], checked[16], tree[5], built[16];
+    } call[] = {
+        {4, 5, {1, 2, 3, 1, 1}, {2, 3, 4, 4, 3}, {5, -3, 5, -4, STAR_MIN_PRICE},
+         {1, 1, 0, 1, 0}, {2, 0, 1, 0, 5, 0, 0, 0, 5, 0, 0, 128}, {0, 1, 0, 1, 1}, {1, 0, 0, 0, 0, 0, 0, 0, 249, 255, 255, 127, 255, 255, 255, 255}},
+        {4, 5, {1, 2, 3, 1, 1}, {2, 3, 4, 4, 3}, {5, -3, 5, -4, STAR_MIN_PRICE},
+         {0, 1, 0, 1, 1}, {1, 0, 0, 0, 0, 0, 0, 0, 249, 255, 255, 127, 255, 255, 255, 255}, {0, 1, 0, 1, 1}, {1, 0, 0, 0, 0, 0, 0, 0, 249, 255, 255, 127, 255, 255, 255, 255}},
+        {3, 3, {1, 2, 1}, {2, 3, 3}, {-1, -1, -1},
+         {1, 1, 1}, {0, 9}, {1, 1, 0}, {1, 0, 0, 0, 0, 0, 0, 0, 254, 255, 255, 255, 255, 255, 255, 255}},
+        {3, 3, {1, 2, 1}, {2, 3, 3}, {-1, -1, -1},
+         {0, 1, 1}, {1, 0, 0, 0, 0, 0, 0, 0, 254, 255, 255, 255, 255, 255, 255, 255}, {1, 1, 0}, {1, 0, 0, 0, 0, 0, 0, 0, 254, 255, 255, 255, 255, 255, 255, 255}},
+        {2, 2, {1, 1}, {2, 2}, {STAR_MAX_PRICE, STAR_MIN_PRICE},
+         {1, 0}, {2, 0, 1, 0, 2, 0, 0, 0, 255, 255, 255, 255, 0, 0, 0, 0}, {0, 1}, {1, 0, 0, 0, 0, 0, 0, 0, 0, 0, 0, 128, 255, 255, 255, 255}},
+        {2, 2, {1, 1}, {2, 2}, {STAR_MAX_PRICE, STAR_MIN_PRICE},
+         {0, 1}, {1, 0, 0, 0, 0, 0, 0, 0, 0, 0, 0, 128, 255, 255, 255, 255}, {0, 1}, {1, 0, 0, 0, 0, 0, 0, 0, 0, 0, 0, 128, 255, 255, 255, 255}},
+        {2, 1, {1}, {2}, {STAR_MIN_PRICE},
+         {1}, {1, 0, 0, 0, 0, 0, 0, 0, 0, 0, 0, 128, 255, 255, 255, 255}, {1}, {1, 0, 0, 0, 0, 0, 0, 0, 0, 0, 0, 128, 255, 255, 255, 255}},
+        {2, 1, {1}, {2}, {STAR_MAX_PRICE},
+         {1}, {1, 0, 0, 0, 0, 0, 0, 0, 255, 255, 255, 127, 0, 0, 0, 0}, {1}, {1, 0, 0, 0, 0, 0, 0, 0, 255, 255, 255, 127, 0, 0, 0, 0}},
+    };
+    size_t i, k;
+    for (i = 0; i < sizeof call / sizeof call[0]; i++) {
+        size_t m = call[i].m;
+        make(&left, m);
+        make(&right, m);
+        make(&weight, 4 * m);
+        make(&mark, m);
+        make(&answer, 16);
+        memcpy(at(&left), call[i].left, m);
+        memcpy(at(&right), call[i].right, m);
+        memcpy(at(&mark), call[i].claim, m);
+        for (k = 0; k < m; k++) set_price(k, call[i].price[k]);
+        both(call[i].n);
+        memcpy(at(&mark), call[i].claim, m);
+        tell(lent(call[i].n, 0) == 1 && !memcmp(at(&answer), call[i].checked, 16), "star_cst's known answer", call[i].n);
+        tell(lent(call[i].n, 1) == 1 && !memcmp(at(&answer), call[i].built, 16) && !memcmp(at(&mark), call[i].tree, m), "star_mst1's known answer", call[i].n);
+    }
+}
+
+/* The least and the largest total: a chain of 255 vertices, all prices at a limit. */
+static void totals(void) {
+    static const int32_t prices[] = {STAR_MIN_PRICE, STAR_MAX_PRICE};
+    size_t i, k;
+    for (i = 0; i < 2; i++) {
+        struct range one_price = {prices[i], prices[i]};
+        fresh(255, 254, one_price, 1);
+        for (k = 0; k < 254; k++) at(&left)[k] = (uint8_t)(k + 1), at(&right)[k] = (uint8_t)(k + 2), at(&mark)[k] = 1;
+        both(255);
+        tell(star_read_answer(at(&answer)).amount == 254 * (int64_t)prices[i], "the total at a limit", 255);
+    }
+}
+
 int main(int count, char **words) {
     unsigned long tables = count > 1 ? strtoul(words[1], NULL, 10) : 200000, k;
+    packed();
+    known();
+    totals();
     limits();
     nulls();
     small_stack();
     for (k = 0; k < tables; k++) one(k);
+    tell(2 * below_0 + 1 >= made, "the share of tables with a price below 0", 0);
+    printf("%lu tables: %lu with a price below 0, %lu with the least price, %lu with the largest\n", made, below_0, least, largest);
     printf("%lu passed, %lu failed\n", passed, failed);
     return failed != 0;
 }

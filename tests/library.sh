@@ -56,12 +56,14 @@ built: total 12
 checked: total 12
 the dearer plan: take out row 1, put in row 4, and save 1
 with a fifth junction: refused 9, the marked rows are not one fewer than the junctions
+with a grant for row 5: take out row 1, put in row 5, and save 25
+built with it: total -13
 TEXT
 holds c99 "$compiler" -std=c99 "${strict[@]}" -o "$work/plan-c" console/examples/plan.c "${flags[@]}"
 holds c++17 "$plus" -std=c++17 "${strict[@]}" -o "$work/plan-cpp" -x c++ console/examples/plan.c -x none "${flags[@]}"
 for language in c cpp; do holds "plan-$language" diff "$work/expected" <("$work/plan-$language" 2>&1); done
 
-# A text for every refusal that the header names, each its own, and one for any other number.
+# A text for every refusal that the header names, each its own, and one for any other number, 5 among them.
 cat >"$work/texts.c" <<'TEXT'
 #include <stdio.h>
 #include <string.h>
@@ -72,11 +74,31 @@ int main(void) {
         for (k = 0; k < i; k++)
             if (strlen(star_refusal_text(i)) < 10 || strcmp(star_refusal_text(i), star_refusal_text(k)) == 0) return 1;
     if (strcmp(star_refusal_text(STAR_NO_NETWORK), "no set of rows joins every junction") != 0) return 2;
+    if (strcmp(star_refusal_text(5), star_refusal_text(1000000)) != 0) return 3;
     return strcmp(star_refusal_text(1000000), star_refusal_text((unsigned)-1)) != 0;
 }
 TEXT
 holds texts-build "$compiler" -std=c99 "${strict[@]}" -o "$work/texts" "$work/texts.c" "${flags[@]}"
 holds texts "$work/texts"
+
+# The prices and the amount of the header, as C99 and as C++17: the four bytes, and the limits of both.
+cat >"$work/prices.c" <<'TEXT'
+#include "star.h"
+int main(void) {
+    const uint8_t answer[16] = {STAR_PASSED, 0, 0, 0, 0, 0, 0, 0, 0, 0, 0, 0, 129, 255, 255, 255}, lowest[16] = {0, 0, 0, 0, 0, 0, 0, 0, 0, 0, 0, 0, 0, 0, 0, 128};
+    uint8_t weight[12] = {0};
+    star_put_price(weight, 0, STAR_MIN_PRICE);
+    star_put_price(weight, 1, -1);
+    star_put_price(weight, 2, STAR_MAX_PRICE);
+    if (weight[2] != 0 || weight[3] != 128 || weight[4] != 255 || weight[7] != 255 || weight[8] != 255 || weight[11] != 127) return 1;
+    if (star_get_price(weight, 0) != STAR_MIN_PRICE || star_get_price(weight, 1) != -1 || star_get_price(weight, 2) != STAR_MAX_PRICE) return 2;
+    if (star_read_answer(answer).amount != 254 * (int64_t)STAR_MIN_PRICE) return 3;
+    return star_read_answer(lowest).amount != INT64_MIN || star_read_imported(lowest).place != (uint64_t)1 << 63;
+}
+TEXT
+holds prices-c99 "$compiler" -std=c99 "${strict[@]}" -Wconversion -o "$work/prices-c" "$work/prices.c" "${flags[@]}"
+holds prices-c++17 "$plus" -std=c++17 "${strict[@]}" -Wconversion -o "$work/prices-cpp" -x c++ "$work/prices.c" -x none "${flags[@]}"
+for language in c cpp; do holds "prices-$language" "$work/prices-$language"; done
 
 # The manual page: every command, option and status of the help, and no fault that a formatter finds.
 manual=$to/share/man/man1/star.1

@@ -43,7 +43,7 @@ if command -v valgrind >/dev/null; then
     memory "$build/door_test" 150
     memory "$build/import_test" "$work/texts" 20
     for words in 'draw console/examples/t2.txt' 'build tests/console/build-refused11.txt' 'check tests/console/check-refused4.txt' \
-        'build tests/console/build-stp-edges.txt' 'table console/examples/street.stp'; do
+        'build tests/console/build-stp-edges.txt' 'build tests/console/build-stp-price-above.txt' 'draw console/examples/grant.txt' 'table console/examples/street.stp'; do
         valgrind -q --error-exitcode=9 --leak-check=full --errors-for-leak-kinds=definite "$build/star" $words >"$work/valgrind" 2>&1
         if [ $? != 9 ]; then passed=$((passed + 1)); else
             echo "valgrind found a fault in star $words"

@@ -51,6 +51,12 @@ class Picture:
     def middle(self, d):
         return list(self.points(d, 2))[1]
 
+    def over_junctions(self):
+        """Trenches that run over a junction that is not their end."""
+        return [title for title, look, d in self.trenches
+                for v, (x, y, r) in enumerate(self.circles) if str(v + 1) not in title.split(", ")[0].split(": ")[1].split("-")
+                for px, py in self.points(d, 60) if (px - x) ** 2 + (py - y) ** 2 < r * r]
+
     def over_heavy(self):
         """Labels of light trenches that cover a part of a heavy one."""
         cells = {}
@@ -92,12 +98,14 @@ def judge(name, rows, n, labelled, work):
     check(name + ": labels beside junctions", all(off(g, c) for g in p.grounds for c in p.circles))
     check(name + ": junctions apart", all((a[0] - b[0]) ** 2 + (a[1] - b[1]) ** 2 > (2 * a[2]) ** 2 for k, a in enumerate(p.circles) for b in p.circles[:k]))
     check(name + ": heavy trenches whole", not p.over_heavy())
+    if n <= 30:
+        check(name + ": trenches beside junctions", not p.over_junctions())
     inside = lambda x, y: 0 <= x <= p.size[0] and 0 <= y <= p.size[1]
     check(name + ": on the sheet", all(inside(x, y) and inside(x + w, y + h) for x, y, w, h in p.grounds)
           and all(inside(*p.middle(t[2])) for t in p.trenches) and all(inside(c[0], c[1]) for c in p.circles))
     check(name + ": no rows", ">row" not in p.text and "row " not in p.text)
     # Another plan and other prices: the junctions and the lines stay where they were.
-    others = [(a, b, (w * 7 + 3) % 100000, 1 - mark) for a, b, w, mark in rows]
+    others = [(a, b, (w * 7 + 3) % 100000 - 50000, 1 - mark) for a, b, w, mark in rows]
     q = Picture(run("draw", others, n, work).stdout)
     check(name + ": junctions stay", p.circles == q.circles)
     check(name + ": trenches stay", sorted(t[2] for t in p.trenches) == sorted(t[2] for t in q.trenches))
@@ -132,12 +140,20 @@ with tempfile.TemporaryDirectory() as work:
     check("yard: exchange", {(t[0].split(":")[0], t[1]) for t in p.trenches if t[1] in ("out", "in")} == {("trench 1", "out"), ("trench 4", "in")})
     p = judge("yard built", marked(yard, 4, work), 4, 1, work)
     check("yard built: verdict", p.verdict == "Passed. Total 12.")
+    # Prices below 0, in labels, titles and the verdict.
+    signed = [(1, 2, 5, 1), (2, 3, -3, 1), (3, 4, 5, 0), (1, 4, -4, 1), (1, 3, -2147483648, 0)]
+    p = judge("signed", signed, 4, 1, work)
+    check("signed: verdict", p.verdict == "A cheaper set exists, for 2147483653 less: take out trench 1 (1-2, price 5), put in trench 5 (1-3, price -2147483648).")
+    p = judge("signed built", marked(signed, 4, work), 4, 1, work)
+    check("signed built: verdict", p.verdict == "Passed. Total -2147483655.")
+    judge("thirty signed", marked([(a, b, w - 5000, mark) for a, b, w, mark in near_network(30, 3, 5)], 30, work), 30, 0.9, work)
     judge("thirty", marked(near_network(30, 3, 5), 30, work), 30, 0.9, work)
     with open("console/examples/city.txt") as city:
         rows = [tuple(int(w) for w in line.split()) for line in city if line[0].isdigit()]
     judge("city", rows, 255, 0.95, work)
     judge("complete", [(u, v, u * v, 0) for u in range(1, 46) for v in range(u + 1, 46)], 45, 0.9, work)
     judge("spokes", [(1, v, 2147483647, 1) for v in range(2, 256)], 255, 0.9, work)
+    judge("spokes below 0", [(1, v, -2147483648, 1) for v in range(2, 256)], 255, 0.9, work)
     judge("chain", [(v, v + 1, v, 1) for v in range(1, 40)], 40, 1, work)
     judge("apart", [(1, 2, 5, 1), (2, 3, 3, 0), (4, 5, 5, 1)], 7, 1, work)
     judge("alone", [], 1, 1, work)

@@ -5,12 +5,14 @@
 
 enum { MAX_N = 255, MAX_M = 1024 };
 
-static uint32_t price_of(const struct call *c, size_t i) {
+/* Two's complement: the last byte counts from -128 to 127. */
+static int32_t price_of(const struct call *c, size_t i) {
     const uint8_t *w = c->weight + 4 * i;
-    return (uint32_t)w[0] | (uint32_t)w[1] << 8 | (uint32_t)w[2] << 16 | (uint32_t)w[3] << 24;
+    int32_t top = w[3] < 128 ? w[3] : w[3] - 256;
+    return top * 16777216 + w[2] * 65536 + w[1] * 256 + w[0];
 }
 
-static void put(uint8_t *answer, unsigned kind, unsigned number, unsigned out, unsigned in, uint64_t amount) {
+static void put(uint8_t *answer, unsigned kind, unsigned number, unsigned out, unsigned in, int64_t amount) {
     int i;
     memset(answer, 0, 16);
     answer[0] = (uint8_t)kind;
@@ -19,7 +21,7 @@ static void put(uint8_t *answer, unsigned kind, unsigned number, unsigned out, u
     answer[3] = (uint8_t)(out >> 8);
     answer[4] = (uint8_t)in;
     answer[5] = (uint8_t)(in >> 8);
-    for (i = 0; i < 8; i++) answer[8 + i] = (uint8_t)(amount >> (8 * i));
+    for (i = 0; i < 8; i++) answer[8 + i] = (uint8_t)((uint64_t)amount >> (8 * i));
 }
 
 static int refuse(uint8_t *answer, unsigned number, size_t place) {
@@ -27,7 +29,7 @@ static int refuse(uint8_t *answer, unsigned number, size_t place) {
     return 1;
 }
 
-/* Causes 1 to 5. */
+/* Causes 1 to 4. */
 static int bad_table(const struct call *c, uint8_t *answer) {
     size_t m = c->left_len, i;
     if (c->n == 0 || c->n > MAX_N) return refuse(answer, 1, 0);
@@ -36,7 +38,6 @@ static int bad_table(const struct call *c, uint8_t *answer) {
     for (i = 0; i < m; i++) {
         unsigned a = c->left[i], b = c->right[i];
         if (a == 0 || b == 0 || a > c->n || b > c->n || a == b) return refuse(answer, 4, i + 1);
-        if (price_of(c, i) > 2147483647u) return refuse(answer, 5, i + 1);
     }
     return 0;
 }
@@ -46,7 +47,7 @@ static int root(int *up, int v) {
     return v;
 }
 
-static const uint32_t *sort_price;
+static const int32_t *sort_price;
 
 static int by_price(const void *x, const void *y) {
     size_t a = *(const uint16_t *)x, b = *(const uint16_t *)y;
@@ -54,7 +55,7 @@ static int by_price(const void *x, const void *y) {
     return a < b ? -1 : a > b;
 }
 
-size_t plain_tree(uint32_t n, const uint8_t *left, const uint8_t *right, const uint32_t *price, size_t m, uint8_t *mark) {
+size_t plain_tree(uint32_t n, const uint8_t *left, const uint8_t *right, const int32_t *price, size_t m, uint8_t *mark) {
     uint16_t order[MAX_M];
     int up[MAX_N + 1];
     size_t i, chosen = 0;
@@ -76,8 +77,8 @@ size_t plain_tree(uint32_t n, const uint8_t *left, const uint8_t *right, const u
 
 uint32_t plain_mst1(const struct call *c, uint8_t *answer, size_t answer_len) {
     uint8_t mark[MAX_M];
-    uint32_t price[MAX_M] = {0};
-    uint64_t total = 0;
+    int32_t price[MAX_M] = {0};
+    int64_t total = 0;
     size_t m = c->left_len, i;
     if (answer_len != 16) return 0;
     if (bad_table(c, answer)) return 1;
@@ -118,7 +119,7 @@ static void hang(const struct call *c, struct hung *h) {
 }
 
 /* The uppermost row heavier than w on the path between a and b, 0 if there is none. */
-static int heavier(const struct call *c, const struct hung *h, int a, int b, uint32_t w) {
+static int heavier(const struct call *c, const struct hung *h, int a, int b, int32_t w) {
     int best = 0;
     while (a != b) {
         int t, r;
@@ -132,7 +133,7 @@ static int heavier(const struct call *c, const struct hung *h, int a, int b, uin
 
 uint32_t plain_cst(const struct call *c, uint8_t *answer, size_t answer_len) {
     struct hung h;
-    uint64_t total = 0;
+    int64_t total = 0;
     size_t m = c->left_len, marks = 0, i;
     uint32_t v;
     if (answer_len != 16) return 0;
@@ -152,7 +153,7 @@ uint32_t plain_cst(const struct call *c, uint8_t *answer, size_t answer_len) {
         }
         out = heavier(c, &h, c->left[i], c->right[i], price_of(c, i));
         if (out) {
-            put(answer, 2, 0, (unsigned)out, (unsigned)i + 1, price_of(c, (size_t)out - 1) - price_of(c, i));
+            put(answer, 2, 0, (unsigned)out, (unsigned)i + 1, (int64_t)price_of(c, (size_t)out - 1) - price_of(c, i));
             return 1;
         }
     }

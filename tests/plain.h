@@ -5,7 +5,7 @@
 #include <stddef.h>
 #include <stdint.h>
 
-/* What a call hands in; the mark column is written by plain_mst1 alone. */
+/* What a call hands in; a weight is four bytes, a signed number in two's complement; the mark column is written by plain_mst1 alone. */
 struct call {
     uint32_t n;
     uint8_t *left, *right, *weight, *mark;
@@ -16,6 +16,6 @@ uint32_t plain_cst(const struct call *c, uint8_t *answer, size_t answer_len);
 uint32_t plain_mst1(const struct call *c, uint8_t *answer, size_t answer_len);
 
 /* The rows of the least tree among rows 1 to m, ties to the upper row, as bytes 0 and 1; returns the number chosen. */
-size_t plain_tree(uint32_t n, const uint8_t *left, const uint8_t *right, const uint32_t *price, size_t m, uint8_t *mark);
+size_t plain_tree(uint32_t n, const uint8_t *left, const uint8_t *right, const int32_t *price, size_t m, uint8_t *mark);
 
 #endif

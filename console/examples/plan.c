@@ -1,4 +1,5 @@
-/* Builds the cheapest network of the yard, checks it, and then a dearer one, through the library. It is C99 and C++17.
+/* Builds the cheapest network of the yard, checks it, then a dearer one, and one that a grant has made dearer, through the library. It is C99 and
+ * C++17.
  *
  *     cc plan.c $(pkg-config --cflags --libs star) && ./a.out
  */
@@ -12,18 +13,11 @@ enum { JUNCTIONS = 4, ROWS = 5 };
 
 static const uint8_t left[ROWS] = {1, 2, 3, 1, 1};
 static const uint8_t right[ROWS] = {2, 3, 4, 4, 3};
-static const uint32_t price[ROWS] = {5, 3, 5, 4, 6};
-
-/* The price column: four bytes a row, least significant first. */
-static void store_prices(uint8_t weight[4 * ROWS]) {
-    int i, k;
-    for (i = 0; i < ROWS; i++)
-        for (k = 0; k < 4; k++) weight[4 * i + k] = (uint8_t)(price[i] >> (8 * k));
-}
+static const int32_t price[ROWS] = {5, 3, 5, 4, 6};
 
 static void print(const char *what, struct star_answer a) {
-    if (a.kind == STAR_PASSED) printf("%s: total %" PRIu64 "\n", what, a.amount);
-    else if (a.kind == STAR_LIGHTER) printf("%s: take out row %u, put in row %u, and save %" PRIu64 "\n", what, a.out, a.in, a.amount);
+    if (a.kind == STAR_PASSED) printf("%s: total %" PRId64 "\n", what, a.amount);
+    else if (a.kind == STAR_LIGHTER) printf("%s: take out row %u, put in row %u, and save %" PRId64 "\n", what, a.out, a.in, a.amount);
     else printf("%s: refused %u, %s\n", what, a.number, star_refusal_text(a.number));
 }
 
@@ -35,12 +29,12 @@ int main(void) {
         printf("the header is of version %s, the library of %s\n", STAR_VERSION, star_version());
         return 1;
     }
-    store_prices(weight);
+    for (i = 0; i < ROWS; i++) star_put_price(weight, (size_t)i, price[i]);
 
     star_mst1(JUNCTIONS, left, ROWS, right, ROWS, weight, sizeof weight, mark, ROWS, answer, sizeof answer);
     print("built", star_read_answer(answer));
     for (i = 0; i < ROWS; i++)
-        if (mark[i] == 1) printf("  row %d: %u-%u, price %" PRIu32 "\n", i + 1, left[i], right[i], price[i]);
+        if (mark[i] == 1) printf("  row %d: %u-%u, price %" PRId32 "\n", i + 1, left[i], right[i], price[i]);
 
     star_cst(JUNCTIONS, left, ROWS, right, ROWS, weight, sizeof weight, mark, ROWS, answer, sizeof answer);
     print("checked", star_read_answer(answer));
@@ -50,5 +44,11 @@ int main(void) {
 
     star_cst(JUNCTIONS + 1, left, ROWS, right, ROWS, weight, sizeof weight, mark, ROWS, answer, sizeof answer);
     print("with a fifth junction", star_read_answer(answer));
+
+    star_put_price(weight, 4, -20); /* row 5: a grant exceeds its cost by 20 */
+    star_cst(JUNCTIONS, left, ROWS, right, ROWS, weight, sizeof weight, mark, ROWS, answer, sizeof answer);
+    print("with a grant for row 5", star_read_answer(answer));
+    star_mst1(JUNCTIONS, left, ROWS, right, ROWS, weight, sizeof weight, mark, ROWS, answer, sizeof answer);
+    print("built with it", star_read_answer(answer));
     return 0;
 }

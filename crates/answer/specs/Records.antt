@@ -1,8 +1,9 @@
--- An answer's record as the fields of the door.
+-- An answer's record as the fields of the door: the amount is the integer that its 64 bits stand for.
 -- Assumes nothing.
 use Rattle.answer.specs.declared.Record.{Record}
+use Rattle.rowset.specs.Integers.{fromBits}
 use Rattle.star.specs.Door.{Fields}
 
 -- the record's fields
 unfoldable pub fieldsOf : Record → Fields
-fieldsOf x = record { kind = x .kind; number = x .number; out = x .out; into = x .into; amount = x .amount }
+fieldsOf x = record { kind = x .kind; number = x .number; out = x .out; into = x .into; amount = fromBits 64 (x .amount) }

@@ -16,7 +16,7 @@ pub struct Record {
     pub out: u32,
     // bytes 4 and 5: the row that comes in; of a text that is taken, m
     pub into: u32,
-    // bytes 8 to 15: the weight or the saving; of a text that is refused, the place
+    // bytes 8 to 15: the 64 bits of the weight or the saving, in two's complement; of a text that is refused, the place
     pub amount: u64,
 }
 

@@ -1,4 +1,4 @@
-// The checks that every procedure makes of a table, and CST and MatrixPath of a claim: causes 1 to 6 and 9, each for columns of any bytes and any lengths.
+// The checks that every procedure makes of a table, and CST and MatrixPath of a claim: causes 1 to 4, 6 and 9, each for columns of any bytes and any lengths.
 // Rows are counted from 1; 0 is no row, and a byte past a column's end reads 0.
 ghost use Prim.Native.Nat.{ℕ, _≤_};
 ghost use mathlib.Core.List.{List, [], _∷_, _++_};
@@ -9,16 +9,13 @@ ghost use Rattle.rowset.specs.Sets.{uppermost, count};
 ghost use Rattle.refusal.specs.Outcomes.{refusalOf};
 ghost use Rattle.star.specs.Call.{marked, callOf};
 ghost use Rattle.star.specs.Refusals.{maxRows, cause, causeAt, orElse, refusal, badVertices, tooManyRows, wrongLengths, wrongEnds, wrongByte, wrongCount, badClaim, rowCauses, tableCauses};
-ghost use Rattle.checks.specs.steps.Rows.{faulty};
 use refusal::Outcome;
 use refusal::Refusal;
 
-// The largest n, m and weight that are taken.
+// The largest n and m that are taken.
 pub const MAX_VERTICES: u32 = 255;
 
 pub const MAX_ROWS: usize = 1024;
-
-pub const MAX_WEIGHT: u32 = 2147483647;
 
 // The byte at index k, 0 past the column's end.
 fn byte_at(column: &[u8], k: usize) -> u8
@@ -40,7 +37,7 @@ pub fn row_byte(column: &[u8], i: usize) -> u8
     byte_at(column, i - 1)
 }
 
-// The number in row i of a column with four bytes a row, least significant first. A row that begins past the column's end holds 0.
+// The number of the 32 bits in row i of a column with four bytes a row, least significant first. A row that begins past the column's end holds 0.
 pub fn row_weight(weight: &[u8], i: usize) -> u32
     ensures { λ r. ⌜ r ≡ inRow 4 (now (weight .entry)) i ⌝ }
 {
@@ -125,20 +122,13 @@ fn wrong_row(n: u32, left: &[u8], right: &[u8], i: usize) -> bool
     wrong_ends(n, row_byte(left, i) as u32, row_byte(right, i) as u32)
 }
 
-// Whether the ends of row i are wrong or its weight is too large.
-fn bad_row(n: u32, left: &[u8], right: &[u8], weight: &[u8], i: usize) -> bool
-    ensures { λ r. ⌜ r ≡ faulty n (now (left .entry)) (now (right .entry)) (now (weight .entry)) i ⌝ }
-{
-    wrong_row(n, left, right, i) || MAX_WEIGHT < row_weight(weight, i)
-}
-
 // The uppermost such row, 0 where there is none.
-fn first_bad_row(n: u32, left: &[u8], right: &[u8], weight: &[u8]) -> usize
-    ensures { λ r. ⌜ r ≡ uppermost (length (now (left .entry))) (faulty n (now (left .entry)) (now (right .entry)) (now (weight .entry))) ⌝ }
+fn first_bad_row(n: u32, left: &[u8], right: &[u8]) -> usize
+    ensures { λ r. ⌜ r ≡ uppermost (length (now (left .entry))) (λ i. wrongEnds n (inRow 1 (now (left .entry)) i) (inRow 1 (now (right .entry)) i)) ⌝ }
 {
     let mut i = 1;
     while i <= left.len() {
-        if bad_row(n, left, right, weight, i) {
+        if wrong_row(n, left, right, i) {
             return i;
         }
         i += 1;
@@ -146,19 +136,17 @@ fn first_bad_row(n: u32, left: &[u8], right: &[u8], weight: &[u8]) -> usize
     0
 }
 
-// Causes 4 and 5, of a table with at most 1,024 rows, whatever its claim.
-fn rows_check(n: u32, left: &[u8], right: &[u8], weight: &[u8]) -> Outcome
+// Cause 4, of a table with at most 1,024 rows, whatever its weights and claim.
+fn rows_check(n: u32, left: &[u8], right: &[u8]) -> Outcome
     requires { ⌜ length (now left) ≤ maxRows ⌝ }
     ensures { λ r.
-        let table = callOf n (now (left .entry)) (now (right .entry)) (now (weight .entry)) in
-        ⌜ ((mark : List ℕ) → refusalOf r ≡ refusal (rowCauses (table mark))) ⌝ }
+        let table = callOf n (now (left .entry)) (now (right .entry)) in
+        ⌜ ((weight mark : List ℕ) → refusalOf r ≡ refusal (rowCauses (table weight mark))) ⌝ }
 {
-    let i = first_bad_row(n, left, right, weight);
-    let number = if wrong_row(n, left, right, i) { 4 } else { 5 };
-    refused_at(number, i as u32)
+    refused_at(4, first_bad_row(n, left, right) as u32)
 }
 
-// Causes 1 to 5.
+// Causes 1 to 4.
 pub fn table_check(n: u32, left: &[u8], right: &[u8], weight: &[u8], mark: &[u8]) -> Outcome
     ensures { λ r.
         let c = callOf n (now (left .entry)) (now (right .entry)) (now (weight .entry)) (now (mark .entry)) in
@@ -169,7 +157,7 @@ pub fn table_check(n: u32, left: &[u8], right: &[u8], weight: &[u8], mark: &[u8]
         return size;
     };
     let lengths = lengths_check(left.len(), right.len(), weight.len(), mark.len());
-    first(lengths, rows_check(n, left, right, weight))
+    first(lengths, rows_check(n, left, right))
 }
 
 // The uppermost of the first m bytes of a claim that is other than 0 and 1, 0 where there is none.
@@ -187,7 +175,7 @@ fn first_bad_mark(m: usize, mark: &[u8]) -> usize
     0
 }
 
-// Causes 1 to 6.
+// Causes 1 to 4 and 6.
 pub fn claim_check(n: u32, left: &[u8], right: &[u8], weight: &[u8], mark: &[u8]) -> Outcome
     ensures { λ r.
         let c = callOf n (now (left .entry)) (now (right .entry)) (now (weight .entry)) (now (mark .entry)) in

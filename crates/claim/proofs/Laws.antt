@@ -3,15 +3,18 @@
 use Prim.Native.Nat.{ℕ, _≤_}
 use borrow.Author.Tests.{leb-true, leb-false, le-leb}
 use lib.Dec.{leb}
+use lib.IntN.{ℤ}
 use lib.ListN.{length}
 use mathlib.Core.Bool.{Bool, true, false, cond, and-false}
 use mathlib.Core.List.{List}
 use mathlib.Core.Path.{_≡_, refl, fun-ext}
 use native.Mathlib.Omega.{arith}
 use Rattle.claim.specs.Claims.{claimRows}
-use Rattle.rowset.proofs.Laws.{refuted, upTo-in, both-inside, sum-cut}
+use Rattle.rowset.proofs.Integers.{total-cut}
+use Rattle.rowset.proofs.Laws.{refuted, upTo-in, both-inside}
+use Rattle.rowset.specs.Integers.{total}
 use Rattle.rowset.specs.Searches.{equalTo}
-use Rattle.rowset.specs.Sets.{empty, upTo, both, sum}
+use Rattle.rowset.specs.Sets.{empty, upTo, both}
 use Rattle.slice.specs.Slices.{size}
 use Rattle.star.proofs.Claims.{marked-row}
 use Rattle.star.specs.Call.{marked}
@@ -38,9 +41,9 @@ pub claimRows-marked : (l : List ℕ) → length l ≤ size → claimRows l ≡ 
 unfolding claimRows
 claimRows-marked l h = rw (le-leb (length l) size h)
 
--- a sum over the rows of a claim that fits a slice
-pub claimRows-sum : (l : List ℕ) (w : ℕ → ℕ) → length l ≤ size → sum size w (claimRows l) ≡ sum (length l) w (marked l)
-claimRows-sum l w h = rw (claimRows-marked l h) (sum-cut size (length l) w (marked l) h (λ i q. refuted (marked l i) (λ m. omega (arith, marked-row l i m))))
+-- a total over the rows of a claim that fits a slice
+pub claimRows-total : (l : List ℕ) (w : ℕ → ℤ) → length l ≤ size → total size w (claimRows l) ≡ total (length l) w (marked l)
+claimRows-total l w h = rw (claimRows-marked l h) (total-cut size (length l) w (marked l) h (λ i q. refuted (marked l i) (λ m. omega (arith, marked-row l i m))))
 
 -- the rows of a table that fits a slice
 pub rows-fit : (m : ℕ) → m ≤ size → both (upTo size) (upTo m) ≡ upTo m

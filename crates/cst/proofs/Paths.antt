@@ -1,38 +1,41 @@
 -- What CST reads from a path matrix, and that for a call that it does not refuse the heavier rows, the two rows of the exchange and the claim's weight
 -- are those of the definition. Assumes nothing.
-use Prim.Native.Nat.{ℕ, zero, suc, _*_, _-_, _≤_, _<_}
-use mathlib.Core.Bool.{Bool, true, false, cond, _&&_, xor, and-false, and-eq-true-iff}
+use Prim.Native.Nat.{ℕ, zero, suc, _*_, _≤_, _<_}
+use mathlib.Core.Bool.{Bool, true, false, _&&_, xor, and-false, and-eq-true-iff}
 use mathlib.Core.List.{List, [], _∷_, _++_}
 use mathlib.Core.Option.{Option, none, some}
 use mathlib.Core.Path.{_≡_, refl, sym, _∙_, fun-ext}
-use lib.Dec.{eqb}
+use lib.IntN.{natAbs, _-ℤ_}
 use lib.ListN.{length, drop}
+use lib.Signed.{_≤ℤ_}
 use native.Mathlib.Omega.{arith}
 use Rattle.graph.specs.Tree.{onPath}
 use Rattle.refusal.specs.declared.Refusal.{Refusal}
+use Rattle.rowset.proofs.Integers.{integers}
 use Rattle.rowset.proofs.Laws.{refuted, clash, upTo-in, in-upTo, any-cut, any-found, uppermost-cut, uppermost-ext, uppermost-some, uppermost-zero, xor-self}
 use Rattle.rowset.proofs.Members.{without-in}
 use Rattle.rowset.proofs.Searches.{greaterThan-in}
 use Rattle.rowset.specs.Bytes.{inRow}
+use Rattle.rowset.specs.Integers.{fromBits, total}
 use Rattle.rowset.specs.Searches.{greaterThan}
-use Rattle.rowset.specs.Sets.{upTo, both, oneOf, without, any, uppermost, sum}
+use Rattle.rowset.specs.Sets.{upTo, both, oneOf, without, any, uppermost}
 use Rattle.rowset.specs.Words.{columnWords}
 use Rattle.matrix.proofs.Laws.{matrix-column}
 use Rattle.matrix.specs.Matrix.{matrixColumn}
 use Rattle.slice.specs.Slices.{size}
 use Rattle.table.proofs.Loads.{load-taken, loaded-taken}
-use Rattle.table.specs.Loads.{loadRefusal, loadedRow}
+use Rattle.table.specs.Loads.{loadedRow}
 use Rattle.star.proofs.Accepted.{none-head, none-tail, none-both, none-nil, Taken, taken, sound}
 use Rattle.star.proofs.Claims.{marked-row}
 use Rattle.star.specs.Call.{Call, rowsOf, graphOf, weightOf, marked, claimWeight}
 use Rattle.star.specs.Cst.{refused, passed, lighter, between, heavier, improves, rowIn, rowOut, judged, verdict, cst}
 use Rattle.star.specs.MatrixPath.{pathColumn, matrixPath, matrixOr, matrixAfter}
 use Rattle.star.specs.Refusals.{maxVertices, cstCauses, tableCauses, refusal}
-use Rattle.claim.proofs.Laws.{claimRows-marked, claimRows-sum, rows-fit}
+use Rattle.claim.proofs.Laws.{claimRows-marked, claimRows-total, rows-fit}
 use Rattle.claim.specs.Claims.{claimRows}
 use Rattle.cst.proofs.Refused.{path-refusal}
 use Rattle.cst.proofs.Sets.{stopped, exhausted}
-use Rattle.cst.specs.steps.Paths.{heavierIn, someHeavier, firstHeavier, exchangeOf, firstLighter, Walked}
+use Rattle.cst.specs.steps.Paths.{weightIn, heavierIn, someHeavier, firstHeavier, exchangeOf, firstLighter, Walked}
 use Rattle.cst.specs.declared.Exchange.{Exchange}
 
 -- ── Any matrix and any columns ──
@@ -41,18 +44,14 @@ module _ (matrix left right weight : List ℕ) where
   -- no row is heavier than row 0, which is none
   none-heavier : firstHeavier matrix left right weight 0 ≡ 0
   unfolding firstHeavier heavierIn greaterThan oneOf inRow
-  none-heavier = uppermost-zero size (heavierIn (loadedRow 4 weight) matrix left right weight 0) (λ k l u. rw (xor-self (matrixColumn matrix 0 k)))
+  none-heavier = uppermost-zero size (heavierIn (weightIn weight) (weightIn weight 0) matrix left right 0) (λ k l u. rw (xor-self (matrixColumn matrix 0 k)))
 
-  -- the uppermost heavier row of a row that has one is heavier: a table holds at most what the column holds that it was loaded from
-  pub heavier-out : (i : ℕ) → someHeavier matrix left right weight i ≡ true → inRow 4 weight i ≤ inRow 4 weight (firstHeavier matrix left right weight i)
-  unfolding someHeavier firstHeavier heavierIn loadedRow
+  -- the uppermost heavier row of a row that has one is heavier
+  pub heavier-out : (i : ℕ) → someHeavier matrix left right weight i ≡ true → weightIn weight i ≤ℤ weightIn weight (firstHeavier matrix left right weight i)
+  unfolding someHeavier firstHeavier heavierIn
   heavier-out i e =
       let (j, u) = any-found size _ e in
-      rw u (at-most (eqb (loadRefusal 4 weight .number) 0) (greaterThan-in (loadedRow 4 weight) _ _ (suc j) (uppermost-some size j _ u .0) .1))
-    where
-      at-most : (b : Bool) {x y : ℕ} → x < cond b y 0 → x ≤ y
-      at-most true h = omega arith
-      at-most false h = absurd (omega arith)
+      rw u (omega (arith, integers, greaterThan-in (weightIn weight) _ _ (suc j) (uppermost-some size j _ u .0) .1))
 
   -- while the row sought among the rows Z still to be looked at is the one sought among all rows:
   module _ (rows Z : ℕ → Bool) (same : uppermost size (both Z (someHeavier matrix left right weight)) ≡ uppermost size (both rows (someHeavier matrix left right weight))) where
@@ -63,7 +62,7 @@ module _ (matrix left right weight : List ℕ) where
 
     -- and where Z has no row, none does
     pub none-found : any size Z ≡ false → record { out = 0; into = 0; saving = 0 } ≡ firstLighter matrix left right weight rows
-    unfolding firstLighter exchangeOf inRow
+    unfolding firstLighter exchangeOf inRow fromBits
     none-found e = rw (← same, exhausted size Z (someHeavier matrix left right weight) e, none-heavier)
 
 -- ── A call that CST does not refuse ──
@@ -117,28 +116,27 @@ module _ (c : Call) (e : refusal (cstCauses c) ≡ none) where
       go false true f g t = omega (arith, column-row b k g .1)
       go false false f g t = clash t (xor-self false)
 
-  -- the loaded weights are those of the rows, the rows that are left are the unmarked ones, and the weight of the claim's rows is the claim's
-  loaded-weight : loadedRow 4 (c .weight) ≡ weightOf c
-  unfolding weightOf
-  loaded-weight =
+  -- the weights can be loaded, the rows that are left are the unmarked ones, and the weight of the claim's rows is the claim's
+  loads : loadedRow 4 (c .weight) ≡ inRow 4 (c .weight)
+  loads =
       let t = accepted in
       loaded-taken 4 (c .weight) (load-taken 4 (c .weight) (omega (arith, t .weight-length, t .few-rows)) (omega (arith, t .weight-length)))
 
   unmarked : without (both (upTo size) (upTo (rowsOf c))) (claimRows (c .mark)) ≡ without (upTo (rowsOf c)) (marked (c .mark))
   unmarked = rw (rows-fit (rowsOf c) (accepted .few-rows), claimRows-marked (c .mark) (rw (accepted .mark-length) (accepted .few-rows)))
 
-  marked-weight : sum size (inRow 4 (c .weight)) (claimRows (c .mark)) ≡ claimWeight c
+  marked-weight : total size (weightIn (c .weight)) (claimRows (c .mark)) ≡ claimWeight c
   unfolding claimWeight weightOf
-  marked-weight = rw (← accepted .mark-length) (claimRows-sum (c .mark) (inRow 4 (c .weight)) (rw (accepted .mark-length) (accepted .few-rows)))
+  marked-weight = rw (← accepted .mark-length) (claimRows-total (c .mark) (weightIn (c .weight)) (rw (accepted .mark-length) (accepted .few-rows)))
 
 module _ (c : Call) (matrix : List ℕ) (w : Walked c matrix) where
   -- the heavier rows that the matrix gives for a row of the table are those of the definition
-  heavier-read : (i : ℕ) → 1 ≤ i → i ≤ rowsOf c → heavierIn (loadedRow 4 (c .weight)) matrix (c .left) (c .right) (c .weight) i ≡ heavier c i
+  heavier-read : (i : ℕ) → 1 ≤ i → i ≤ rowsOf c → heavierIn (weightIn (c .weight)) (weightIn (c .weight) i) matrix (c .left) (c .right) i ≡ heavier c i
   unfolding heavierIn heavier between weightOf graphOf
   heavier-read i l u =
       let ok = sound c (accepted c (w .unrefused)) in
       let r = in-upTo (rowsOf c) i l u in
-      rw (loaded-weight c (w .unrefused), w .columns (inRow 1 (c .left) i) (ok .left i r .0) (ok .left i r .1), w .columns (inRow 1 (c .right) i) (ok .right i r .0) (ok .right i r .1))
+      rw (w .columns (inRow 1 (c .left) i) (ok .left i r .0) (ok .left i r .1), w .columns (inRow 1 (c .right) i) (ok .right i r .0) (ok .right i r .1))
 
   -- the uppermost unmarked row with a heavier row comes in
   row-in : uppermost size (both (without (upTo (rowsOf c)) (marked (c .mark))) (someHeavier matrix (c .left) (c .right) (c .weight))) ≡ rowIn c
@@ -168,12 +166,12 @@ module _ (c : Call) (matrix : List ℕ) (w : Walked c matrix) where
     unfolding firstLighter exchangeOf
     out-is = rw found
 
-    saving-is : x .saving ≡ inRow 4 (c .weight) (x .out) - inRow 4 (c .weight) (x .into)
+    saving-is : x .saving ≡ natAbs (weightIn (c .weight) (x .out) -ℤ weightIn (c .weight) (x .into))
     unfolding firstLighter exchangeOf
     saving-is = rw found
 
     -- passed where no row comes in, with the weight of the marked rows
-    pub passes : x .into ≡ 0 → passed (sum size (inRow 4 (c .weight)) (claimRows (c .mark))) ≡ cst c
+    pub passes : x .into ≡ 0 → passed (total size (weightIn (c .weight)) (claimRows (c .mark))) ≡ cst c
     unfolding cst verdict judged
     passes e = rw (w .unrefused, marked-weight c (w .unrefused), ← into-is, e)
 
@@ -197,3 +195,7 @@ refused-walk c R l r e = rw (← path-refusal c R l, ← e)
 -- and where it is done the matrix has the path columns
 pub done-walk : (c : Call) (R : List ℕ) → length R ≡ columnWords * maxVertices → (matrix : List ℕ) → none ≡ matrixPath c 1 R → matrix ≡ matrixAfter c 1 R → Walked c matrix
 done-walk c R l matrix e m = rw m (walked c (sym (path-refusal c R l) ∙ sym e) R l)
+
+-- and its weights can be loaded
+pub done-loads : (c : Call) (R : List ℕ) → length R ≡ columnWords * maxVertices → none ≡ matrixPath c 1 R → loadedRow 4 (c .weight) ≡ inRow 4 (c .weight)
+done-loads c R l e = loads c (sym (path-refusal c R l) ∙ sym e)

@@ -1,15 +1,20 @@
 // CST, the tree checker: its verdict on the claim that a table's marked rows are a least spanning tree.
 ghost use mathlib.Core.Path.{_≡_};
-ghost use Prim.Native.Nat.{ℕ, _≤_};
+ghost use Prim.Native.Nat.{ℕ, _-_, _≤_};
+ghost use lib.Signed.{_≤ℤ_};
 ghost use Rattle.rowset.specs.Bytes.{inRow};
+ghost use Rattle.rowset.specs.Columns.{width};
+ghost use Rattle.rowset.specs.Integers.{fromBits};
 ghost use Rattle.slice.specs.Slices.{size, component};
 ghost use Rattle.star.specs.Cst.{cst};
 ghost use Rattle.star.specs.Call.{Call, callOf};
-ghost use Rattle.cst.specs.steps.Paths.{rowsAfter, heavierIn, exchangeOf, firstLighter, Walked};
+ghost use Rattle.table.specs.Loads.{loadedRow};
+ghost use Rattle.cst.specs.steps.Paths.{weightIn, integersAfter, heavierIn, exchangeOf, firstLighter, Walked};
 ghost use Rattle.cst.specs.steps.Records.{recordOf};
 ghost use Rattle.cst.specs.Verdicts.{answerOf};
 use checks::row_byte;
 use checks::row_weight;
+use claim::flipped_weight;
 use refusal::Outcome;
 use refusal::Refusal;
 use slice::Slice;
@@ -22,14 +27,14 @@ pub struct Exchange {
     pub saving: u64,
 }
 
-// The verdict: passed, with the claim's weight; lighter, with the exchange; or refused, with the refusal.
+// The verdict: passed, with the 64 bits of the claim's weight; lighter, with the exchange; or refused, with the refusal.
 pub enum Verdict {
     Passed(u64),
     Lighter(Exchange),
     Refused(Refusal),
 }
 
-// The rows on the tree path between row i's ends that are heavier than row i. `weights` has the words of the weight column as a table, of which the first columns are left out.
+// The rows on the tree path between row i's ends that are heavier than row i. `weights` has the words of the weight column as a table, of which the first columns are left out, and of row i's weight as many bits.
 fn heavier_rows(
     matrix: &[u64],
     weights: &[u64],
@@ -39,7 +44,7 @@ fn heavier_rows(
     weight: &[u8],
     i: usize,
 ) -> Slice
-    ensures { λ r. ⌜ component r ≡ heavierIn (rowsAfter (now (weights .entry)) first) (now (matrix .entry)) (now (left .entry)) (now (right .entry)) (now (weight .entry)) i ⌝ }
+    ensures { λ r. ⌜ component r ≡ heavierIn (integersAfter (now (weights .entry)) first) (fromBits (width - first) (inRow 4 (now (weight .entry)) i)) (now (matrix .entry)) (now (left .entry)) (now (right .entry)) i ⌝ }
 {
     let node1 = row_byte(left, i) as usize;
     let node2 = row_byte(right, i) as usize;
@@ -51,24 +56,25 @@ fn heavier_rows(
     lent::great_from(weights, first, w, x)
 }
 
-// The exchange of row out for row into, which is not heavier.
+// The exchange of row out for row into, which is not heavier. The difference of their weights is that of their flipped weights.
 fn exchange_of(weight: &[u8], out: usize, into: usize) -> Exchange
-    requires { ⌜ (out ≤ size) × (into ≤ size) × (inRow 4 (now weight) into ≤ inRow 4 (now weight) out) ⌝ }
+    requires { ⌜ (out ≤ size) × (into ≤ size) × (weightIn (now weight) into ≤ℤ weightIn (now weight) out) ⌝ }
     ensures { λ r. ⌜ r ≡ exchangeOf (now (weight .entry)) out into ⌝ }
 {
     Exchange {
         out: out as u32,
         into: into as u32,
-        saving: (row_weight(weight, out) - row_weight(weight, into)) as u64,
+        saving: (flipped_weight(weight, out) - flipped_weight(weight, into)) as u64,
     }
 }
 
-// The rows are taken from the top: the first that has a heavier row on the path between its ends comes in, and the uppermost such row goes out. All is 0 where none has.
+// The rows are taken from the top: the first that has a heavier row on the path between its ends comes in, and the uppermost such row goes out. All is 0 where none has. The weight column is one that can be loaded.
 fn first_lighter(matrix: &[u64], left: &[u8], right: &[u8], weight: &[u8], rows: Slice) -> Exchange
+    requires { ⌜ loadedRow 4 (now weight) ≡ inRow 4 (now weight) ⌝ }
     ensures { λ r. ⌜ r ≡ firstLighter (now (matrix .entry)) (now (left .entry)) (now (right .entry)) (now (weight .entry)) (component rows) ⌝ }
 {
     let weights = table::load_quads(weight).table;
-    let first = search::empty_columns(weights);
+    let first = search::sign_columns(weights);
     let stored = lent::columns_of(weights);
     let mut z = rows;
     while slice::some(z) {
@@ -86,8 +92,9 @@ fn first_lighter(matrix: &[u64], left: &[u8], right: &[u8], weight: &[u8], rows:
     }
 }
 
-// The verdict on a claim that is a spanning tree, by its path matrix from vertex 1.
+// The verdict on a claim that is a spanning tree, by its path matrix from vertex 1. The weight column is one that can be loaded.
 fn judge(matrix: &[u64], left: &[u8], right: &[u8], weight: &[u8], mark: &[u8]) -> Verdict
+    requires { ⌜ loadedRow 4 (now weight) ≡ inRow 4 (now weight) ⌝ }
     ensures { λ r.
         let call : ℕ → Call = λ n. callOf n (now (left .entry)) (now (right .entry)) (now (weight .entry)) (now (mark .entry)) in
         ⌜ ((n : ℕ) → Walked (call n) (now (matrix .entry)) → answerOf r ≡ cst (call n)) ⌝ }

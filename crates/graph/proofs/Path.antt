@@ -8,7 +8,7 @@ use native.Mathlib.Decide.{ℕ-discrete}
 use native.Mathlib.Omega.{arith}
 use borrow.Author.Tests.{eq-eqb, ne-eqb}
 use lib.Dec.{eqb}
-use Rattle.rowset.proofs.Laws.{takeOut-other, takeOut-in, count-takeOut, odd-ext, odd-some, odd-none, odd-oneOf, odd-single, xor-self, xor-comm, xor-false, false-xor, xor-through, xor-false-same, and-xor}
+use Rattle.rowset.proofs.Laws.{takeOut-other, takeOut-in, count-takeOut, odd-ext, odd-some, odd-none, odd-oneOf, odd-single, xor-self, xor-comm, false-xor, xor-through, xor-false-same, and-xor}
 use Rattle.graph.proofs.Reach.{walk-then, walk-back, walk-one-side, joined-self, joined-walk, joined-row, walk-joined, connected-count}
 use Rattle.graph.specs.Graph.{Graph, Sound, Inside, Walk, crosses, joined}
 use Rattle.graph.specs.Tree.{SpanningTree, onPath}
@@ -60,12 +60,6 @@ module _ (g : Graph) (ok : Sound g) (S : ℕ → Bool) (tree : SpanningTree g S)
       all same v lv hv =
           one-colour side i same (λ k r p. joined-row g ok (takeOut S i) (takeOut-inside i) s l h k (takeOut-other S i k p ∙ r)) v s lv hv l h
           ∙ joined-self g (takeOut S i) s
-
-  -- without a row of the tree its two ends are not joined
-  pub row-parts : (i : ℕ) → S i ≡ true → joined g (takeOut S i) (g .a i) (g .b i) ≡ false
-  row-parts i e =
-      let (l, h) = ok .left i (tree .inside i e) in
-      rw (row-separates (g .a i) l h i e, joined-self)
 
   -- the rows on a path are rows of the tree
   pub path-inside : (u v k : ℕ) → onPath g S u v k ≡ true → S k ≡ true
@@ -119,11 +113,6 @@ module _ (g : Graph) (ok : Sound g) (S : ℕ → Bool) (tree : SpanningTree g S)
   pub path-columns : (s u v : ℕ) → 1 ≤ s → s ≤ g .n → 1 ≤ u → u ≤ g .n → 1 ≤ v → v ≤ g .n → oneOf (onPath g S s u) (onPath g S s v) ≡ onPath g S u v
   unfolding oneOf
   path-columns s u v ls hs lu hu lv hv = fun-ext λ k. changes-alike (λ x. onPath g S s x k) (λ x. onPath g S u x k) u v lu hu lv hv (path-self u k lu hu) (λ i e. path-row s ls hs i e k ∙ sym (path-row u lu hu i e k))
-
-  -- the path from u to v has the rows of the path from v to u
-  pub path-symmetric : (u v : ℕ) → 1 ≤ u → u ≤ g .n → 1 ≤ v → v ≤ g .n → onPath g S u v ≡ onPath g S v u
-  unfolding oneOf
-  path-symmetric u v lu hu lv hv = sym (path-columns v u v lv hv lu hu lv hv) ∙ fun-ext λ k. rw (path-self v k lv hv, xor-false)
 
   -- the cut of row e: the vertices whose path from s has row e. A row of the graph crosses it exactly where e is on the path of that row's ends
   pub cut-crossed : (s e f : ℕ) → 1 ≤ s → s ≤ g .n → g .rows f ≡ true → crosses g (λ j. onPath g S s j e) f ≡ onPath g S (g .a f) (g .b f) e

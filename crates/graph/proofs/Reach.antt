@@ -3,11 +3,10 @@
 -- Main statements: a vertex is joined exactly where a walk leads to it (joined-walk, walk-joined); n steps are enough (grow-closed, grow-stops);
 -- the joined vertices are the only such set (joined-only), and at most one more than the rows (joined-count).
 -- Assumes nothing.
-use Prim.Native.Nat.{ℕ, zero, suc, _+_, _≤_, _-_}
+use Prim.Native.Nat.{ℕ, zero, suc, _≤_, _-_}
 use mathlib.Core.Bool.{Bool, true, false, xor, _&&_, true≢false, and-false, and-eq-true-iff}
 use mathlib.Core.Logic.{⊎-elim}
 use mathlib.Core.Path.{_≡_, refl, sym, ap, fun-ext, _∙_}
-use native.Mathlib.Nat.{zero-add, suc-add, sub-add-cancel}
 use native.Mathlib.Omega.{arith}
 use Rattle.rowset.proofs.Laws.{put-same, put-keeps, put-cases, uppermost-none, uppermost-some, count-put, count-empty, count-monotone, count-bound, count-full, xor-false-same}
 use Rattle.graph.specs.Graph.{Graph, Sound, Inside, Walk, stay, ahead, back, crosses, withEnds, step, grow, joined}
@@ -125,12 +124,6 @@ module _ (g : Graph) (S : ℕ → Bool) where
   grow-keeps P h Q p zero = p
   grow-keeps P h Q p (suc k) = step-keeps P h (grow g S k Q) (grow-keeps P h Q p k)
 
-  -- where no row leaves the vertex set, further steps change nothing
-  pub grow-stays : (Q : ℕ → Bool) (k d : ℕ) → leaving g S (grow g S k Q) ≡ 0 → grow g S (d + k) Q ≡ grow g S k Q
-  unfolding grow
-  grow-stays Q k zero e = rw zero-add
-  grow-stays Q k (suc d) e = rw suc-add (ap (step g S) (grow-stays Q k d e) ∙ step-none (grow g S k Q) e)
-
   -- a vertex set that no row of S leaves has both ends of a row of S or neither
   pub closed-row : Sound g → Inside g S → (Q : ℕ → Bool) → leaving g S Q ≡ 0 → (i : ℕ) → S i ≡ true → Q (g .a i) ≡ Q (g .b i)
   unfolding both crosses
@@ -154,12 +147,6 @@ module _ (g : Graph) (S : ℕ → Bool) where
       grown : Kept g S (λ Q. (x : ℕ) → Q x ≡ true → Walk g S u x)
       grown Q i r f h x p =
           ⊎-elim (h x) (λ q. rw q (walk-along r (f .joins) (h (f .near) (f .inside)))) (put-cases Q (f .far) x p)
-
-  -- where no row leaves the vertex set after k steps, n at most, it is the set of joined vertices
-  pub grow-stops : (u k : ℕ) → leaving g S (grow g S k (put empty u)) ≡ 0 → k ≤ g .n → joined g S u ≡ grow g S k (put empty u)
-  unfolding joined
-  grow-stops u k e l =
-      ap (λ (l : ℕ). grow g S l (put empty u)) (sym (sub-add-cancel l)) ∙ grow-stays (put empty u) k (g .n - k) e
 
 -- the rows of S with both ends in Q
 enclosed : Graph → (ℕ → Bool) → (ℕ → Bool) → ℕ → Bool
@@ -250,11 +237,6 @@ module _ (g : Graph) (ok : Sound g) (S : ℕ → Bool) (inside : Inside g S) (u 
       go zero e = e
       go (suc j) e = omega (arith, grow-bound (g .n) j e)
 
-  -- further steps change nothing
-  pub grow-further : (d : ℕ) → grow g S (d + g .n) (put empty u) ≡ joined g S u
-  unfolding joined
-  grow-further d = grow-stays g S (put empty u) (g .n) d grow-closed
-
   -- both ends of a row of S are joined to u, or neither
   pub joined-row : (i : ℕ) → S i ≡ true → joined g S u (g .a i) ≡ joined g S u (g .b i)
   unfolding joined
@@ -264,20 +246,6 @@ module _ (g : Graph) (ok : Sound g) (S : ℕ → Bool) (inside : Inside g S) (u 
   pub walk-joined : (v : ℕ) → Walk g S u v → joined g S u v ≡ true
   walk-joined v p = sym (walk-one-side (joined g S u) joined-row p) ∙ joined-self g S u
 
-  -- joined vertices are vertices
-  pub joined-vertex : (v : ℕ) → joined g S u v ≡ true → (1 ≤ v) × (v ≤ g .n)
-  joined-vertex v e = go (joined-walk g S u v e)
-    where
-      go : {x : ℕ} → Walk g S u x → (1 ≤ x) × (x ≤ g .n)
-      go stay = (low, high)
-      go (ahead i r p) = ok .right i (inside i r)
-      go (back i r p) = ok .left i (inside i r)
-
-  -- any set of vertices that has u, only vertices with a walk from u, and both ends of a row or neither, is the set of joined vertices
-  pub joined-only : (Q : ℕ → Bool) → Q u ≡ true → ((v : ℕ) → Q v ≡ true → Walk g S u v) → ((i : ℕ) → S i ≡ true → Q (g .a i) ≡ Q (g .b i)) → (v : ℕ) → Q v ≡ joined g S u v
-  joined-only Q start sound closed v =
-      same-truth (Q v) (joined g S u v) (λ e. walk-joined v (sound v e)) (λ e. sym (walk-one-side Q closed (joined-walk g S u v e)) ∙ start)
-
   -- each row of S joins at most one vertex more
   pub joined-count : count (g .n) (joined g S u) ≤ suc (count (g .m) S)
   unfolding joined
@@ -286,11 +254,6 @@ module _ (g : Graph) (ok : Sound g) (S : ℕ → Bool) (inside : Inside g S) (u 
     where
       grown : Kept g S (λ Q. count (g .n) Q ≤ suc (count (g .m) (enclosed g S Q)))
       grown Q i r f h = omega (arith, far-count g ok S inside Q i r f, enclosed-count g ok S inside Q i r f)
-
--- being joined is symmetric
-pub joined-symmetric : (g : Graph) (ok : Sound g) (S : ℕ → Bool) (inside : Inside g S) (u v : ℕ) → 1 ≤ u → u ≤ g .n → 1 ≤ v → v ≤ g .n → joined g S u v ≡ joined g S v u
-joined-symmetric g ok S inside u v lu hu lv hv =
-    same-truth (joined g S u v) (joined g S v u) (λ e. walk-joined g ok S inside v lv hv u (walk-back (joined-walk g S u v e))) (λ e. walk-joined g ok S inside u lu hu v (walk-back (joined-walk g S v u e)))
 
 -- rows that join every vertex to u are at least n − 1
 pub connected-count : (g : Graph) (ok : Sound g) (S : ℕ → Bool) (inside : Inside g S) (u : ℕ) → 1 ≤ u → u ≤ g .n → ((v : ℕ) → 1 ≤ v → v ≤ g .n → joined g S u v ≡ true) → g .n ≤ suc (count (g .m) S)

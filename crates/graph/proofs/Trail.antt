@@ -11,11 +11,11 @@ use native.Mathlib.Omega.{arith}
 use Rattle.rowset.proofs.Laws.{clash, put-same, put-other, put-keeps, put-cases, refuted, xor-comm, false-xor, xor-false-same}
 use Rattle.rowset.proofs.Members.{put-all}
 use Rattle.graph.proofs.Path.{path-self, path-row}
-use Rattle.graph.proofs.Reach.{Joins, rightward, leftward, joins-vertex, FarEnd, crossing-far-end, leaving, leaving-row, step-none, step-some, grow-keeps, grow-stops, grow-bound}
-use Rattle.graph.specs.Graph.{Graph, Sound, Inside, crosses, step, grow, joined}
+use Rattle.graph.proofs.Reach.{Joins, rightward, leftward, joins-vertex, FarEnd, crossing-far-end, leaving, leaving-row, step-none, step-some, grow-keeps}
+use Rattle.graph.specs.Graph.{Graph, Sound, Inside, crosses, step, grow}
 use Rattle.graph.specs.steps.Trail.{Trail, near, far, extend, trail}
 use Rattle.graph.specs.Tree.{SpanningTree, onPath}
-use Rattle.rowset.specs.Sets.{empty, both, put, uppermost}
+use Rattle.rowset.specs.Sets.{empty, both, put}
 
 -- ── The ends of a row that crosses ──
 
@@ -78,14 +78,6 @@ pub trail-vertices : (g : Graph) (S : ℕ → Bool) (s k : ℕ) → trail g S s 
 unfolding trail grow
 trail-vertices g S s zero = refl
 trail-vertices g S s (suc k) = extend-vertices g S (trail g S s k) ∙ ap (step g S) (trail-vertices g S s k)
-
--- where no row leaves the vertices of a trail of at most n rows, they are the joined vertices
-pub trail-stops : (g : Graph) (S : ℕ → Bool) (s k : ℕ) → uppermost (g .m) (both S (crosses g (trail g S s k .vertices))) ≡ 0 → k ≤ g .n → trail g S s k .vertices ≡ joined g S s
-trail-stops g S s k e l = trail-vertices g S s k ∙ sym (grow-stops g S s k (rw (trail-vertices g S s k) at e) l)
-
--- where a row leaves the vertices of a trail of k rows, k is less than n
-pub trail-bound : (g : Graph) → Sound g → (S : ℕ → Bool) → Inside g S → (s : ℕ) → 1 ≤ s → s ≤ g .n → (k j : ℕ) → uppermost (g .m) (both S (crosses g (trail g S s k .vertices))) ≡ suc j → suc k ≤ g .n
-trail-bound g ok S inside s low high k j e = grow-bound g ok S inside s low high k j (rw (trail-vertices g S s k) at e)
 
 -- a trail's vertices are vertices of the graph
 pub trail-vertex : (g : Graph) → Sound g → (S : ℕ → Bool) → Inside g S → (s : ℕ) → 1 ≤ s → s ≤ g .n → (k v : ℕ) → trail g S s k .vertices v ≡ true → (1 ≤ v) × (v ≤ g .n)

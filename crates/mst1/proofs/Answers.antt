@@ -16,8 +16,10 @@ use Rattle.refusal.specs.declared.Outcome.{Outcome}
 use Rattle.refusal.specs.declared.Outcome.the-variants.{Done, Refused}
 use Rattle.refusal.specs.declared.Refusal.{Refusal}
 use Rattle.rowset.specs.Bytes.{inRow}
-use Rattle.rowset.specs.Sets.{empty, upTo, both, sum}
-use Rattle.rowset.proofs.Laws.{refuted, upTo-in, in-upTo, sum-cut}
+use Rattle.rowset.specs.Integers.{fromBits, signed, total}
+use Rattle.rowset.specs.Sets.{empty, upTo, both}
+use Rattle.rowset.proofs.Integers.{total-cut}
+use Rattle.rowset.proofs.Laws.{refuted, upTo-in, in-upTo}
 use Rattle.slice.specs.Slices.{size}
 use Rattle.star.specs.Call.{Call, rowsOf, graphOf, weightOf, claimOf}
 use Rattle.star.specs.Cst.{Answer, refused, passed}
@@ -69,7 +71,7 @@ module _ (c : Call) where
     accepted = sym checked ∙ ap refusalOf done
 
     -- the tree that grows on the loaded tables is the tree of the table
-    loaded-tree : tree (loadedGraph (c .n) (c .left) (c .right)) (loadedRow 4 (c .weight)) ≡ tree (graphOf c) (weightOf c)
+    loaded-tree : tree (loadedGraph (c .n) (c .left) (c .right)) (λ i. signed (loadedRow 4 (c .weight) i)) ≡ tree (graphOf c) (weightOf c)
     unfolding graphOf weightOf
     loaded-tree =
         let t = taken c accepted in
@@ -97,7 +99,7 @@ module _ (c : Call) where
     last-cause true e = refusal-append (tableCauses c) (noTree c ∷ []) accepted ∙ rw e
     last-cause false e = refusal-append (tableCauses c) (noTree c ∷ []) accepted ∙ rw e
 
-    module _ {whole : Bool} {chosen : ℕ → Bool} (g : Grows (loadedGraph (c .n) (c .left) (c .right)) (loadedRow 4 (c .weight)) whole chosen) where
+    module _ {whole : Bool} {chosen : ℕ → Bool} (g : Grows (loadedGraph (c .n) (c .left) (c .right)) (λ i. signed (loadedRow 4 (c .weight) i)) whole chosen) where
       -- whether a tree was grown says whether there is one
       whole-tree : not (isNone (tree (graphOf c) (weightOf c))) ≡ whole
       whole-tree = rw (← loaded-tree) (sym (g .all))
@@ -113,11 +115,11 @@ module _ (c : Call) where
       tree-refused e = ends-refused _ (last-cause true (not-false _ (whole-tree ∙ e)))
 
       -- where there is one, it is marked and weighed
-      pub tree-built : whole ≡ true → (weight : ℕ) → weight ≡ sum size (inRow 4 (c .weight)) chosen → Ends c (passed weight) (claimOf (length (c .mark)) chosen)
+      pub tree-built : whole ≡ true → (bits : ℕ) → fromBits 64 bits ≡ total size (λ i. signed (inRow 4 (c .weight) i)) chosen → Ends c (passed (fromBits 64 bits)) (claimOf (length (c .mark)) chosen)
       unfolding mst1 mst1Marks built builtMarks cause weightOf
-      tree-built e weight h =
+      tree-built e bits h =
           let t = taken c accepted in
           let none-left = last-cause false (not-true _ (whole-tree ∙ e)) in (
-            rw (none-left, h, chosen-tree) (ap passed (sum-cut size (rowsOf c) (weightOf c) (treeRows c) (t .few-rows) tree-inside)),
+            rw (none-left, h, chosen-tree) (ap passed (total-cut size (rowsOf c) (weightOf c) (treeRows c) (t .few-rows) tree-inside)),
             rw (none-left, t .mark-length, chosen-tree),
           )

@@ -1,13 +1,14 @@
 -- The tree of a graph over more positions than it has rows in: positions without a row change nothing.
 -- Assumes nothing.
 use Prim.Native.Nat.{ℕ, zero, suc, _≤_, _<_}
+use lib.IntN.{ℤ}
 use mathlib.Core.Bool.{Bool, false}
 use mathlib.Core.Option.{Option, none, some}
 use mathlib.Core.Path.{_≡_, refl, _∙_, ap}
 use Rattle.graph.specs.Builder.{Fragment, nothing, cheapest, choose, first, next, fragment, treeOf, tree}
 use Rattle.graph.specs.Graph.{Graph, crosses, withEnds}
-use Rattle.rowset.proofs.Laws.{refuted, clash, uppermost-cut, smallest-in}
-use Rattle.rowset.proofs.Searches.{smallest-cut}
+use Rattle.rowset.proofs.Laws.{refuted, clash, uppermost-cut}
+use Rattle.rowset.proofs.Searches.{smallest-in, smallest-cut}
 use Rattle.rowset.specs.Searches.{smallest}
 use Rattle.rowset.specs.Sets.{both}
 
@@ -15,7 +16,7 @@ use Rattle.rowset.specs.Sets.{both}
 abbrev pub over : Graph → ℕ → Graph
 over g k = record { n = g .n; m = k; a = g .a; b = g .b; rows = g .rows }
 
-module _ (g : Graph) (w : ℕ → ℕ) (k : ℕ) (l : g .m ≤ k) (above : (i : ℕ) → g .m < i → g .rows i ≡ false) where
+module _ (g : Graph) (w : ℕ → ℤ) (k : ℕ) (l : g .m ≤ k) (above : (i : ℕ) → g .m < i → g .rows i ≡ false) where
   -- the uppermost lightest row of a set that has no position above m
   cheapest-cut : (X : ℕ → Bool) → ((i : ℕ) → g .m < i → X i ≡ false) → cheapest (over g k) w X ≡ cheapest g w X
   unfolding cheapest

@@ -1,4 +1,4 @@
--- The growth of the tree by the calls that the code makes: the searches over the columns of a table that are not empty, and the slices that they give.
+-- The growth of the tree by the calls that the code makes: the searches over the columns of a table that are not left out, and the slices that they give.
 -- Main statements: what is grown where there is no tree, no row to choose or a whole fragment (grows-none, grows-small, grows-whole);
 -- the slices of the first row, and those of each next row, are the fragment's (begin-reached, extend-reached).
 -- Assumes nothing.
@@ -10,13 +10,15 @@ use mathlib.Core.Path.{_≡_, refl, sym, ap, _∙_}
 use native.Mathlib.Numerals.{add-one}
 use native.Mathlib.Omega.{arith}
 use lib.Dec.{eqb}
+use lib.IntN.{ℤ}
 use Rattle.graph.specs.Builder.{cheapest, treeOf, tree}
 use Rattle.graph.specs.Graph.{Graph}
-use Rattle.rowset.specs.Columns.{inColumns, emptyColumns}
+use Rattle.rowset.specs.Columns.{inColumns}
+use Rattle.rowset.specs.Integers.{integerIn, signed}
 use Rattle.rowset.specs.Searches.{equalTo, smallest}
 use Rattle.rowset.specs.Sets.{empty, either, oneOf, put, uppermost}
 use Rattle.rowset.proofs.Laws.{in-upTo, uppermost-some}
-use Rattle.search.proofs.Blanks.{empty-row}
+use Rattle.search.proofs.Signs.{skippable, sign-row}
 use Rattle.matrix.specs.Matrix.{matrixColumn}
 use Rattle.slice.specs.Slices.{size, component, written}
 use Rattle.slice.specs.declared.Slice.{Slice}
@@ -29,7 +31,7 @@ use Rattle.mst1.proofs.Steps.{farBy, first-reached, next-reached}
 
 -- ── What is grown ──
 
-module _ (g : Graph) (w : ℕ → ℕ) {whole : Bool} {chosen : ℕ → Bool} where
+module _ (g : Graph) (w : ℕ → ℤ) {whole : Bool} {chosen : ℕ → Bool} where
   -- where there is no tree
   pub grows-none : tree g w ≡ none → whole ≡ false → chosen ≡ empty → Grows g w whole chosen
   unfolding isNone chosenRows
@@ -46,7 +48,7 @@ module _ (g : Graph) (w : ℕ → ℕ) {whole : Bool} {chosen : ℕ → Bool} wh
       go (suc (suc n)) e h = absurd (omega arith)
 
 -- where the fragment has all vertices
-pub grows-whole : (g : Graph) (w : ℕ → ℕ) {k : ℕ} {lefts rights chosen : ℕ → Bool} → Reached g w k lefts rights chosen → k ≡ g .n → Grows g w true chosen
+pub grows-whole : (g : Graph) (w : ℕ → ℤ) {k : ℕ} {lefts rights chosen : ℕ → Bool} → Reached g w k lefts rights chosen → k ≡ g .n → Grows g w true chosen
 unfolding tree isNone chosenRows
 grows-whole g w {chosen = chosen} r e =
     let q : treeOf (g .n) g w ≡ some (record { vertices = r .vertices; chosen = chosen }) = ap (λ (n : ℕ). treeOf n g w) (sym e) ∙ r .grown in
@@ -58,24 +60,28 @@ grows-whole g w {chosen = chosen} r e =
 abbrev pub rowIn : List ℕ → ℕ → ℕ
 rowIn words = inColumns (matrixColumn words) 0 width
 
--- they are the rows of the table, and the numbers in the columns after the empty ones
+-- they are the rows of the table, and the numbers in the columns after those that are left out; so are the integers
 module _ (t : Table) (words : List ℕ) (stored : matrixColumn words ≡ column t) where
   pub row-stored : rowIn words ≡ row t
   unfolding row
   row-stored = rw stored
 
-  pub filled-row : {k : ℕ} → k ≡ emptyColumns size (column t) 0 width → inColumns (matrixColumn words) k (width - k) ≡ rowIn words
+  pub filled-row : (k : ℕ) → inColumns (column t) k (width - k) ≡ row t → inColumns (matrixColumn words) k (width - k) ≡ rowIn words
   unfolding row
-  filled-row e = rw (stored, e) (empty-row t)
+  filled-row k e = rw stored e
+
+  pub signed-row : {k : ℕ} → k ≡ skippable t → integerIn (matrixColumn words) k (width - k) ≡ (λ i. signed (rowIn words i))
+  unfolding row
+  signed-row e = rw (stored, e) (sign-row t)
 
 -- writing 1 at a position of a slice puts it in
 written-in : (p : ℕ → Bool) (i : ℕ) → 1 ≤ i → i ≤ size → written p i true ≡ put p i
 unfolding written
 written-in p i l u = rw (in-upTo size i l u)
 
-module _ (a b w : ℕ → ℕ) (rows : Slice) (n : ℕ) where
+module _ (a b : ℕ → ℕ) (w : ℕ → ℤ) (rows : Slice) (n : ℕ) where
   -- FND of MIN is the row to choose
-  pub cheapest-row : {i : ℕ} {W : ℕ → ℕ} {X Y : ℕ → Bool} → W ≡ w → X ≡ Y → i ≡ uppermost size (smallest size W X) → cheapest (graphBy a b rows n) w Y ≡ i
+  pub cheapest-row : {i : ℕ} {W : ℕ → ℤ} {X Y : ℕ → Bool} → W ≡ w → X ≡ Y → i ≡ uppermost size (smallest size W X) → cheapest (graphBy a b rows n) w Y ≡ i
   unfolding cheapest
   cheapest-row e q h = sym (rw (e, q) at h)
 

@@ -6,6 +6,7 @@ use mathlib.Core.Bool.{Bool, true, false, cond, xor, _&&_, _||_}
 use mathlib.Core.Option.{none}
 use mathlib.Core.Path.{_≡_, refl, sym, ap, _∙_, fun-ext}
 use lib.Dec.{eqb}
+use lib.IntN.{ℤ}
 use native.Mathlib.Omega.{arith}
 use Rattle.graph.specs.Builder.{cheapest, choose, first, next, fragment, treeOf, tree}
 use Rattle.graph.specs.Graph.{Graph, crosses, withEnds}
@@ -14,8 +15,9 @@ use Rattle.graph.proofs.Reach.{crossing-far-end}
 use Rattle.graph.proofs.Trail.{far-end}
 use Rattle.rowset.specs.Searches.{equalTo, smallest}
 use Rattle.rowset.specs.Sets.{empty, both, either, oneOf, put}
-use Rattle.rowset.proofs.Laws.{upwards, uppermost-some, smallest-in}
+use Rattle.rowset.proofs.Laws.{upwards, uppermost-some}
 use Rattle.rowset.proofs.Members.{both-in}
+use Rattle.rowset.proofs.Searches.{smallest-in}
 use Rattle.mst1.specs.steps.Growth.{Reached, touching, meeting}
 
 -- ── The rows with an end in a vertex set ──
@@ -49,7 +51,7 @@ touching-one g Q = fun-ext (λ i. go (g .rows i) (Q (g .a i)) (Q (g .b i)))
 abbrev pub farBy : Graph → (ℕ → Bool) → ℕ → ℕ
 farBy g lefts i = cond (lefts i) (g .b i) (g .a i)
 
-module _ (g : Graph) (w : ℕ → ℕ) where
+module _ (g : Graph) (w : ℕ → ℤ) where
   -- the tree of one vertex more has one row more
   treeOf-next : (k : ℕ) → 2 ≤ k → treeOf (suc k) g w ≡ next g w (treeOf k g w)
   unfolding treeOf fragment

@@ -3,6 +3,7 @@ ghost use mathlib.Core.Path.{_≡_};
 ghost use mathlib.Core.Bool.{true};
 ghost use Prim.Native.Nat.{_-_, _≤_};
 ghost use Rattle.rowset.specs.Columns.{inColumns};
+ghost use Rattle.rowset.specs.Integers.{integerIn, signed};
 ghost use Rattle.rowset.specs.Searches.{equalTo, smallest};
 ghost use Rattle.rowset.specs.Sets.{empty, either, uppermost};
 ghost use Rattle.matrix.specs.Matrix.{matrixColumn};
@@ -10,7 +11,7 @@ ghost use Rattle.slice.specs.Slices.{size, component, written};
 ghost use Rattle.star.specs.Mst1.{mst1, mst1Marks};
 ghost use Rattle.star.specs.Call.{callOf};
 ghost use Rattle.table.specs.Loads.{loadedRow};
-ghost use Rattle.table.specs.Tables.{width, row};
+ghost use Rattle.table.specs.Tables.{width, column, row};
 ghost use Rattle.mst1.specs.steps.Growth.{graphOn, loadedGraph, Grows, Reached, meeting};
 ghost use Rattle.mst1.specs.Answers.{answerOf};
 use refusal::Outcome;
@@ -18,7 +19,7 @@ use refusal::Refusal;
 use slice::Slice;
 use table::Table;
 
-// What MST1 answers: the tree's weight, or the refusal.
+// What MST1 answers: the tree's weight, as the 64 bits that stand for it in two's complement, or the refusal.
 pub enum Built {
     Tree(u64),
     Refused(Refusal),
@@ -39,14 +40,14 @@ struct Fragment {
 
 // FND of MIN: the uppermost row of x of least weight, 0 where x has no row.
 fn first_row(weight: Table, x: Slice) -> usize
-    ensures { λ r. ⌜ r ≡ uppermost size (smallest size (row weight) (component x)) ⌝ }
+    ensures { λ r. ⌜ r ≡ uppermost size (smallest size (λ i. signed (row weight i)) (component x)) ⌝ }
 {
     slice::fnd(search::min(weight, x))
 }
 
 // The same over a table's words, and over the columns after the first ones.
 fn cheapest(weight: &[u64], first: usize, x: Slice) -> usize
-    ensures { λ r. ⌜ r ≡ uppermost size (smallest size (inColumns (matrixColumn (now (weight .entry))) first (width - first)) (component x)) ⌝ }
+    ensures { λ r. ⌜ r ≡ uppermost size (smallest size (integerIn (matrixColumn (now (weight .entry))) first (width - first)) (component x)) ⌝ }
 {
     slice::fnd(lent::min_from(weight, first, x))
 }
@@ -90,8 +91,18 @@ fn nothing(whole: bool) -> Grown
     }
 }
 
+// The columns on the left that MATCH may leave out of a table of ends: those that are empty, none where column 1 is not.
+fn empty_columns(t: Table) -> usize
+    ensures { λ r. ⌜ inColumns (column t) r (width - r) ≡ row t ⌝ }
+{
+    if slice::some(t.columns[0]) {
+        return 0;
+    }
+    search::sign_columns(t) + 1
+}
+
 // The tree of n vertices that grows from a fragment of two. The rows with exactly one end in the fragment are those that only one of `lefts` and `rights` has.
-// The searches leave out the columns on the left that are empty.
+// The searches leave out columns on the left: MATCH those that are empty, MIN those that only repeat the sign.
 fn grow_from(
     left: Table,
     right: Table,
@@ -100,12 +111,12 @@ fn grow_from(
     n: usize,
     start: Fragment,
 ) -> Grown
-    requires { ⌜ (2 ≤ n) × Reached (graphOn left right rows n) (row weight) 2 (component (start .lefts)) (component (start .rights)) (component (start .chosen)) ⌝ }
-    ensures { λ r. ⌜ Grows (graphOn left right rows n) (row weight) (r .whole) (component (r .chosen)) ⌝ }
+    requires { ⌜ (2 ≤ n) × Reached (graphOn left right rows n) (λ i. signed (row weight i)) 2 (component (start .lefts)) (component (start .rights)) (component (start .chosen)) ⌝ }
+    ensures { λ r. ⌜ Grows (graphOn left right rows n) (λ i. signed (row weight i)) (r .whole) (component (r .chosen)) ⌝ }
 {
-    let l = search::empty_columns(left);
-    let r = search::empty_columns(right);
-    let w = search::empty_columns(weight);
+    let l = empty_columns(left);
+    let r = empty_columns(right);
+    let w = search::sign_columns(weight);
     let stored_left = lent::columns_of(left);
     let stored_right = lent::columns_of(right);
     let stored_weight = lent::columns_of(weight);
@@ -136,7 +147,7 @@ fn grow_from(
 
 // The tree of n vertices over the rows of a slice, whose ends and weights the tables hold. For one vertex no row is chosen.
 pub fn grow_tree(left: Table, right: Table, weight: Table, rows: Slice, n: usize) -> Grown
-    ensures { λ r. ⌜ Grows (graphOn left right rows n) (row weight) (r .whole) (component (r .chosen)) ⌝ }
+    ensures { λ r. ⌜ Grows (graphOn left right rows n) (λ i. signed (row weight i)) (r .whole) (component (r .chosen)) ⌝ }
 {
     if n < 2 {
         return nothing(n == 1);
@@ -151,7 +162,7 @@ pub fn grow_tree(left: Table, right: Table, weight: Table, rows: Slice, n: usize
 
 // The tree of n vertices over the rows of the left column, grown on the columns as tables.
 fn tree_of(n: u32, left: &[u8], right: &[u8], weight: &[u8]) -> Grown
-    ensures { λ r. ⌜ Grows (loadedGraph n (now (left .entry)) (now (right .entry))) (loadedRow 4 (now (weight .entry))) (r .whole) (component (r .chosen)) ⌝ }
+    ensures { λ r. ⌜ Grows (loadedGraph n (now (left .entry)) (now (right .entry))) (λ i. signed (loadedRow 4 (now (weight .entry)) i)) (r .whole) (component (r .chosen)) ⌝ }
 {
     let lefts = table::load_bytes(left);
     let rights = table::load_bytes(right);

@@ -144,7 +144,7 @@ fn call_check(n: u32, s: u32, words: usize) -> Outcome
     first(source, refused_if(words < WORDS * n as usize, 8))
 }
 
-// Causes 1 to 9.
+// Causes 1 to 4 and 6 to 9.
 fn path_check(
     n: u32,
     left: &[u8],

@@ -1,6 +1,6 @@
 -- The integers that bits stand for in two's complement.
 -- Main statements: the order of the integers is that of the bits with the first one turned over (signed-order); a sum of the integers is the sum of those bits' numbers less 2 ^ 31 for
--- each (total-flipped); integers within k bits read back (bits-back), and 64 bits hold the sum of up to 2 ^ 32 integers of 32 bits (total-small, total-fits).
+-- each (total-flipped); integers within k bits read back (bits-back), k bits write back (bits-again), and 64 bits hold the sum of up to 2 ^ 32 integers of 32 bits (total-small, total-fits).
 -- Assumes nothing.
 use Prim.Native.Nat.{ℕ, zero, suc, _+_, _*_, _-_, _%_, _^_, _≤_, _<_}
 use borrow.Author.Tests.{ltb-true, ltb-false, lt-ltb, le-ltb}
@@ -92,6 +92,19 @@ pub bits-small : (k : ℕ) (z : ℤ) → mag z < 2 ^ k → toBits (suc k) z < 2 
 unfolding toBits
 bits-small k (pos n) h = omega (arith, pow-suc 2 k)
 bits-small k (negsuc n) h = omega (arith, pow-suc 2 k)
+
+-- k bits write back
+pub bits-again : (k x : ℕ) → x < 2 ^ k → toBits k (fromBits k x) ≡ x
+unfolding toBits up down
+bits-again k x h = rw (small-bits k x h) (go (ltb (2 * x) (2 ^ k)))
+  where
+    below : (z : ℤ) → up z + 2 ^ k ≡ down z + x → toBits k z ≡ x
+    below (pos n) e = absurd (omega arith)
+    below (negsuc n) e = omega arith
+
+    go : (t : Bool) → toBits k (cond t (pos x) (pos x -ℤ pos (2 ^ k))) ≡ x
+    go true = refl
+    go false = below (pos x -ℤ pos (2 ^ k)) (omega (arith, minus (pos x) (pos (2 ^ k))))
 
 -- an integer of which one part is at most n more than the other has that part at most n
 up-small : (z : ℤ) (n : ℕ) → up z ≤ down z + n → up z ≤ n

@@ -1,5 +1,5 @@
 -- Columns on the left may be left out of a search: where they hold 0 in every row, the number in the others is the row; where they equal the column after them, the integer in the others is the row's.
--- Main statements: small-row, sign-row, sign-word. Assumes nothing.
+-- Main statements: small-row, empty-row, sign-row, sign-word. Assumes nothing.
 use Prim.Native.Nat.{ℕ, zero, suc, _+_, _-_, _*_, _/_, _%_, _^_, _≤_, _<_}
 use native.Mathlib.Nat.{div-eq-of-lt, zero-add, add-suc, suc-add, mul-add-mod-self-right, pow-suc}
 use native.Mathlib.Numerals.{add-one}
@@ -102,6 +102,12 @@ module _ (c : ℕ → ℕ → Bool) where
         let e : c (suc n) i ≡ c (suc (suc n)) i = repeated-bit n i (omega arith) ∙ sym (repeated-bit (suc n) i h) in
         rw b (sym (same-more n (30 - n) i e) ∙ rw a at (repeated-same n i (omega arith)))
 
+    -- where column 1 has no row, neither have the columns that are counted
+    repeated-zero : (n i : ℕ) → c 1 i ≡ false → n ≤ suc (repeatedColumns m c 1 31) → inColumns c 0 n i ≡ 0
+    unfolding inColumns
+    repeated-zero zero i e h = refl
+    repeated-zero (suc n) i e h = rw (zero-add (suc n), repeated-zero n i e (omega arith), repeated-bit n i (omega arith), e)
+
 -- the columns of a table have only rows of 1 to 1,024
 column-in : (t : Table) (j i : ℕ) → column t j i ≡ true → (1 ≤ i) × (i ≤ size)
 unfolding column empty
@@ -119,6 +125,18 @@ small-row t k h s =
 abbrev pub skippable : Table → ℕ
 skippable t = repeatedColumns size (column t) 1 31
 
+pub skippable-few : (t : Table) → skippable t ≤ 31
+skippable-few t = repeated-most (column t) size (column-in t) 1 31
+
+-- Where column 1 has no row, the row is the number in the columns after all that equal it.
+pub empty-row : (t : Table) → column t 1 ≡ empty → inColumns (column t) (suc (skippable t)) (width - suc (skippable t)) ≡ row t
+unfolding row empty
+empty-row t h =
+    let k = skippable t in
+    let few : k ≤ 31 = skippable-few t in
+    let e : suc k + (32 - suc k) ≡ 32 = omega arith in
+    rw e at (number-after (column t) (suc k) (32 - suc k) (λ i. repeated-zero (column t) size (column-in t) (suc k) i (ap (λ (p : ℕ → Bool). p i) h) (omega arith)))
+
 -- The integer of a row is that in the columns from the last on the left that equals column 1.
 pub sign-row : (t : Table) → integerIn (column t) (skippable t) (width - skippable t) ≡ (λ i. signed (row t i))
 unfolding row integerIn
@@ -129,7 +147,7 @@ pub sign-word : (t : Table) (i : ℕ) → fromBits (width - skippable t) (row t 
 unfolding row integerIn
 sign-word t i =
     let k = skippable t in
-    let few : k ≤ 31 = repeated-most (column t) size (column-in t) 1 31 in
+    let few : k ≤ 31 = skippable-few t in
     let e : k + (32 - k) ≡ 32 = omega arith in
     ap (fromBits (32 - k)) (subst (λ n. inColumns (column t) 0 n i ≡ inColumns (column t) 0 k i * 2 ^ (32 - k) + inColumns (column t) (0 + k) (32 - k) i) e (number-split (column t) 0 k (32 - k) i))
     ∙ last-bits (32 - k) (inColumns (column t) 0 k i) (inColumns (column t) (0 + k) (32 - k) i)

@@ -1,6 +1,6 @@
 // Reads trials on standard input and prints what MatrixPath, CST and MST1 answer; the file stdout has what they should.
 // A line is a trial: its name, a colon, and numbers: the procedure (1 CST, 2 MST1, 3 MatrixPath on a matrix of 112 words), n, s (for
-// MatrixPath), and then each column, as its length and its entries: left, right, prices, marks.
+// MatrixPath), and then each column, as its length and its entries: left, right, prices, marks. A price is the number of its 32 bits: 4294967295 is -1.
 use cst::Verdict;
 use libc::STDIN_FILENO;
 use libc::STDOUT_FILENO;
@@ -25,6 +25,16 @@ fn number(x: u64) {
     io::print_decimal(STDOUT_FILENO, x);
 }
 
+// The integer that 64 bits stand for.
+fn integer(x: u64) {
+    if 9223372036854775808 <= x {
+        text(b"-");
+        number(18446744073709551615 - x + 1);
+        return;
+    }
+    number(x);
+}
+
 fn refused(r: Refusal) {
     text(b"refused ");
     number(r.number as u64);
@@ -47,7 +57,7 @@ fn verdict(v: Verdict) {
     match v {
         Verdict::Passed(weight) => {
             text(b"passed, ");
-            number(weight);
+            integer(weight);
             text(b"\n");
         }
         Verdict::Lighter(x) => lighter(x),
@@ -70,7 +80,7 @@ fn rows(mark: &[u8]) {
 // The weight of a tree that was built, and its rows where the table has at most 16.
 fn tree(weight: u64, mark: &[u8]) {
     text(b"tree of weight ");
-    number(weight);
+    integer(weight);
     if mark.len() <= 16 {
         text(b", rows");
         rows(mark);

@@ -1,14 +1,16 @@
--- `answer::bytes_of` meets its contract: the array is the list of the fields' bytes, written out. Assumes nothing.
+-- `answer::bytes_of` meets its contract: the array is the list of the fields' bytes, written out, of which the amount's bits write back. Assumes nothing.
 use borrow.Author.Needs.{needs}
 use mathlib.Core.Path.{refl}
+use native.Mathlib.Omega.{arith}
 use Rattle.answer.proofs.bytes_of.Statement.{statement}
 use Rattle.answer.proofs.bytes_of.Tie as tie
 use Rattle.answer.specs.Records.{fieldsOf}
+use Rattle.rowset.proofs.Signed.{bits-again}
 use Rattle.star.specs.Door.{bytesOf, fieldBytes}
 
 returns : tie.Need-returns
 unfolding fieldsOf bytesOf fieldBytes
-returns c = refl
+returns c = rw (bits-again 64 (c .args .x .amount) (omega arith)) refl
 
 pub bytes-of-spec : {M : Type 1} → statement M
 bytes-of-spec =

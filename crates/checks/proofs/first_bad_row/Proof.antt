@@ -1,27 +1,28 @@
--- `checks::first_bad_row` meets its contract. The loop's invariant: none of the rows above row i has a fault.
+-- `checks::first_bad_row` meets its contract. The loop's invariant: none of the rows above row i has wrong ends.
 -- The measure is what is left of the rows. Assumes nothing.
 use Prim.Native.Nat.{_+_, _-_, _≤_}
 use lib.ListN.{length}
 use native.Mathlib.Omega.{arith}
-use Rattle.checks.specs.steps.Rows.{faulty}
+use Rattle.rowset.specs.Bytes.{inRow}
+use Rattle.star.specs.Refusals.{wrongEnds}
 use Rattle.checks.proofs.Laws.{Passed, passed-none, passed-more, passed-found, passed-all}
 use Rattle.checks.proofs.first_bad_row.Statement.{statement}
 use Rattle.checks.proofs.first_bad_row.Tie as tie
 
 abbrev Inv-loop : tie.InvT-loop
-Inv-loop n left right weight i₀ i = (1 ≤ i) × (i ≤ length left + 1) × Passed (faulty n left right weight) i
+Inv-loop n left right i₀ i = (1 ≤ i) × (i ≤ length left + 1) × Passed (λ k. wrongEnds n (inRow 1 left k) (inRow 1 right k)) i
 
 abbrev μ-loop : tie.MeasureT-loop
-μ-loop n left right weight i₀ i = length left + 1 - i
+μ-loop n left right i₀ i = length left + 1 - i
 
 loop-holds : tie.Need-loop-holds Inv-loop μ-loop
 loop-holds c = (omega arith, omega arith, passed-none _)
 
-bad-row-requires : tie.Need-bad-row-requires Inv-loop μ-loop
-bad-row-requires c κs = tt
+wrong-row-requires : tie.Need-wrong-row-requires Inv-loop μ-loop
+wrong-row-requires c κs = tt
 
 returns : tie.Need-returns Inv-loop μ-loop
-returns c = passed-found _ _ _ (omega arith) (omega arith) (c .before .before .before .loop .inv .2) (rw (c .before .bad-row .ensures) at (c .if1 .taken))
+returns c = passed-found _ _ _ (omega arith) (omega arith) (c .before .before .before .loop .inv .2) (rw (c .before .wrong-row .ensures) at (c .if1 .taken))
 
 add-i : tie.Need-add-i Inv-loop μ-loop
 add-i c = omega arith
@@ -30,7 +31,7 @@ loop-less : tie.Need-loop-less Inv-loop μ-loop
 loop-less c = omega arith
 
 loop-again : tie.Need-loop-again Inv-loop μ-loop
-loop-again c = (omega arith, omega arith, passed-more _ _ (c .before .before .before .loop .inv .2) (rw (c .before .bad-row .ensures) at (c .if1 .left)))
+loop-again c = (omega arith, omega arith, passed-more _ _ (c .before .before .before .loop .inv .2) (rw (c .before .wrong-row .ensures) at (c .if1 .left)))
 
 returns-2 : tie.Need-returns-2 Inv-loop μ-loop
 returns-2 c = passed-all _ _ _ (omega arith) (c .before .loop .inv .2)
@@ -42,7 +43,7 @@ first-bad-row-spec =
     Inv-loop
     μ-loop
     loop-holds
-    bad-row-requires
+    wrong-row-requires
     returns
     add-i
     loop-less

@@ -30,7 +30,7 @@ returns-2 c =
     let x = told .before .before .before .before .before .before .before .args in
     rw table-in-order
     (done-next _ _ _ _ (told .enum-told .given .1) (told .before .before .size-check .ensures)
-    (rw (c .first .ensures, c .before .before .lengths-check .ensures, c .before .rows-check .ensures (x .mark .now))))
+    (rw (c .first .ensures, c .before .before .lengths-check .ensures, c .before .rows-check .ensures (x .weight .now) (x .mark .now))))
 
 pub table-check-spec : {M : Type 1} → statement M
 table-check-spec =

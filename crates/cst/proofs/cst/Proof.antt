@@ -2,7 +2,7 @@
 use mathlib.Core.Path.{refl, sym, ap, _∙_}
 use borrow.Author.Needs.{needs}
 use Rattle.refusal.specs.Outcomes.{refusalOf}
-use Rattle.cst.proofs.Paths.{refused-walk, done-walk}
+use Rattle.cst.proofs.Paths.{refused-walk, done-walk, done-loads}
 use Rattle.cst.specs.Verdicts.{answerOf}
 use Rattle.cst.specs.steps.Records.{recordOf}
 use Rattle.cst.proofs.cst.Statement.{statement}
@@ -15,6 +15,13 @@ returns c =
     let p = told .before .before .before .matrix-path in
     rw (c .record-of .ensures, told .enum-told2 .given .1)
     (refused-walk _ _ refl _ (ap refusalOf (sym (told .enum-told2 .given .1)) ∙ p .ensures .0))
+
+judge-requires : tie.Need-judge-requires
+unfolding refusalOf
+judge-requires c κs =
+    let told = c .before in
+    let p = told .before .before .before .matrix-path in
+    done-loads _ _ refl (ap refusalOf (sym (told .enum-told .given .1)) ∙ p .ensures .0)
 
 returns-2 : tie.Need-returns-2
 unfolding refusalOf
@@ -34,5 +41,5 @@ cst-spec =
     (λ c κs. search needs)
     returns
     (λ c. search needs)
-    (λ c κs. search needs)
+    judge-requires
     returns-2)

@@ -5,8 +5,10 @@ use mathlib.Core.Bool.{Bool}
 use mathlib.Core.List.{List}
 use mathlib.Core.Option.{none}
 use mathlib.Core.Path.{_≡_}
+use lib.IntN.{ℤ, natAbs, _-ℤ_}
 use Rattle.rowset.specs.Bytes.{inRow}
-use Rattle.rowset.specs.Columns.{inColumns}
+use Rattle.rowset.specs.Columns.{width}
+use Rattle.rowset.specs.Integers.{integerIn, signed}
 use Rattle.rowset.specs.Searches.{greaterThan}
 use Rattle.rowset.specs.Sets.{both, oneOf, any, uppermost}
 use Rattle.matrix.specs.Matrix.{matrixColumn}
@@ -14,30 +16,32 @@ use Rattle.slice.specs.Slices.{size}
 use Rattle.star.specs.Call.{Call}
 use Rattle.star.specs.MatrixPath.{pathColumn}
 use Rattle.star.specs.Refusals.{cstCauses, refusal}
-use Rattle.table.specs.Loads.{loadedRow}
-use Rattle.table.specs.Tables.{width}
 use Rattle.cst.specs.declared.Exchange.{Exchange}
 
--- the number in each row of a table's words, read from the columns after the first ones
-abbrev pub rowsAfter : List ℕ → ℕ → ℕ → ℕ
-rowsAfter words first = inColumns (matrixColumn words) first (width - first)
+-- the weight of row i in the bytes of a weight column
+abbrev pub weightIn : List ℕ → ℕ → ℤ
+weightIn weight i = signed (inRow 4 weight i)
 
--- of the xor of the columns of row i's ends, the rows whose number in the table of weights f is greater than row i's weight
-unfoldable pub heavierIn : (f : ℕ → ℕ) → (matrix left right weight : List ℕ) → ℕ → ℕ → Bool
-heavierIn f matrix left right weight i =
-    greaterThan f (inRow 4 weight i)
+-- the integer in each row of a table's words, read from the columns after the first ones
+abbrev pub integersAfter : List ℕ → ℕ → ℕ → ℤ
+integersAfter words first = integerIn (matrixColumn words) first (width - first)
+
+-- of the xor of the columns of row i's ends, the rows whose weight, by f, is greater than w
+unfoldable pub heavierIn : (f : ℕ → ℤ) → (w : ℤ) → (matrix left right : List ℕ) → ℕ → ℕ → Bool
+heavierIn f w matrix left right i =
+    greaterThan f w
     (oneOf (matrixColumn matrix (inRow 1 left i)) (matrixColumn matrix (inRow 1 right i)))
 
--- whether there is such a row, and the uppermost, for the weights that a load gives
+-- whether one of those rows is heavier than row i, and the uppermost that is
 unfoldable pub someHeavier : (matrix left right weight : List ℕ) → ℕ → Bool
-someHeavier matrix left right weight i = any size (heavierIn (loadedRow 4 weight) matrix left right weight i)
+someHeavier matrix left right weight i = any size (heavierIn (weightIn weight) (weightIn weight i) matrix left right i)
 
 unfoldable pub firstHeavier : (matrix left right weight : List ℕ) → ℕ → ℕ
-firstHeavier matrix left right weight i = uppermost size (heavierIn (loadedRow 4 weight) matrix left right weight i)
+firstHeavier matrix left right weight i = uppermost size (heavierIn (weightIn weight) (weightIn weight i) matrix left right i)
 
 -- the exchange of row out for row into
 unfoldable pub exchangeOf : List ℕ → (out into : ℕ) → Exchange
-exchangeOf weight out into = record { out = out; into = into; saving = inRow 4 weight out - inRow 4 weight into }
+exchangeOf weight out into = record { out = out; into = into; saving = natAbs (weightIn weight out -ℤ weightIn weight into) }
 
 -- the uppermost of the rows that has a heavier row comes in, and its uppermost heavier row goes out; both are 0 where there is none
 unfoldable pub firstLighter : (matrix left right weight : List ℕ) → (ℕ → Bool) → Exchange

@@ -5,8 +5,9 @@ use native.Mathlib.Omega.{arith}
 use mathlib.Core.Logic.{⊎-elim}
 use mathlib.Core.Path.{ap, _∙_}
 use borrow.Author.Needs.{needs}
+use Rattle.rowset.specs.Integers.{signed}
 use Rattle.slice.specs.Slices.{component}
-use Rattle.mst1.proofs.Growth.{rowIn, row-stored, filled-row, grows-none, grows-whole, cheapest-row, extend-reached}
+use Rattle.mst1.proofs.Growth.{rowIn, row-stored, filled-row, signed-row, grows-none, grows-whole, cheapest-row, extend-reached}
 use Rattle.mst1.proofs.Steps.{next-none}
 use Rattle.mst1.specs.steps.Growth.{graphBy, Reached}
 use Rattle.mst1.proofs.grow_from.Statement.{statement}
@@ -14,7 +15,7 @@ use Rattle.mst1.proofs.grow_from.Tie as tie
 
 abbrev Inv-loop : tie.InvT-loop
 Inv-loop rows n l r w stored-left stored-right stored-weight lefts₀ rights₀ chosen₀ k₀ lefts rights chosen k =
-    (k ≤ n) × Reached (graphBy (rowIn (stored-left .columns)) (rowIn (stored-right .columns)) rows n) (rowIn (stored-weight .columns)) k (component lefts) (component rights) (component chosen) × (n < 2 ^ 64)
+    (k ≤ n) × Reached (graphBy (rowIn (stored-left .columns)) (rowIn (stored-right .columns)) rows n) (λ i. signed (rowIn (stored-weight .columns) i)) k (component lefts) (component rights) (component chosen) × (n < 2 ^ 64)
 
 abbrev μ-loop : tie.MeasureT-loop
 μ-loop rows n l r w stored-left stored-right stored-weight lefts₀ rights₀ chosen₀ k₀ lefts rights chosen k = n - k
@@ -25,8 +26,8 @@ empty-columns-requires c κs = search needs
 empty-columns-requires-2 : tie.Need-empty-columns-requires-2 Inv-loop μ-loop
 empty-columns-requires-2 c κs = search needs
 
-empty-columns-requires-3 : tie.Need-empty-columns-requires-3 Inv-loop μ-loop
-empty-columns-requires-3 c κs = search needs
+sign-columns-requires : tie.Need-sign-columns-requires Inv-loop μ-loop
+sign-columns-requires c κs = search needs
 
 columns-of-requires : tie.Need-columns-of-requires Inv-loop μ-loop
 columns-of-requires c κs = search needs
@@ -62,7 +63,7 @@ returns c =
     let s = x .before .before .before .before in
     let b = s .before .before .before .before .before in
     let a = b .before .before .before .before .before .before .args in
-    let weights = filled-row (a .weight) _ (b .columns-of3 .ensures) (b .before .before .before .empty-columns3 .ensures) in
+    let weights = signed-row (a .weight) _ (b .columns-of3 .ensures) (b .before .before .before .sign-columns .ensures) in
     let none-left = cheapest-row _ _ _ _ _ weights (x .xor .ensures) (c .before .before .cheapest .ensures) ∙ c .before .if1 .taken in
     rw (← row-stored (a .left) _ (b .before .before .columns-of .ensures), ← row-stored (a .right) _ (b .before .columns-of2 .ensures), ← row-stored (a .weight) _ (b .columns-of3 .ensures))
     (grows-none _ _ (next-none _ _ _ _ _ _ (s .before .loop .inv .1) none-left (s .loop-test .taken)) (c .nothing .ensures .0) (c .nothing .ensures .1))
@@ -99,9 +100,9 @@ loop-again c =
     let s = x .before .before .before .before in
     let b = s .before .before .before .before .before in
     let a = b .before .before .before .before .before .before .args in
-    let weights = filled-row (a .weight) _ (b .columns-of3 .ensures) (b .before .before .before .empty-columns3 .ensures) in
-    let rights = filled-row (a .right) _ (b .before .columns-of2 .ensures) (b .before .before .before .before .empty-columns2 .ensures) in
-    let lefts = filled-row (a .left) _ (b .before .before .columns-of .ensures) (b .before .before .before .before .before .empty-columns .ensures) in (
+    let weights = signed-row (a .weight) _ (b .columns-of3 .ensures) (b .before .before .before .sign-columns .ensures) in
+    let rights = filled-row (a .right) _ (b .before .columns-of2 .ensures) _ (b .before .before .before .before .empty-columns2 .ensures) in
+    let lefts = filled-row (a .left) _ (b .before .before .columns-of .ensures) _ (b .before .before .before .before .before .empty-columns .ensures) in (
       omega (arith, s .loop-test .taken),
       extend-reached _ _ _ _ _ (s .before .loop .inv .1)
           (cheapest-row _ _ _ _ _ weights (x .xor .ensures) (j .before .before .before .cheapest .ensures))
@@ -133,7 +134,7 @@ grow-from-spec =
     μ-loop
     empty-columns-requires
     empty-columns-requires-2
-    empty-columns-requires-3
+    sign-columns-requires
     columns-of-requires
     columns-of-requires-2
     columns-of-requires-3

@@ -5,6 +5,7 @@ use mathlib.Core.Bool.{Bool, not, _&&_}
 use mathlib.Core.List.{List}
 use mathlib.Core.Option.{some}
 use mathlib.Core.Path.{_≡_}
+use lib.IntN.{ℤ}
 use lib.ListN.{length}
 use Rattle.graph.specs.Builder.{treeOf, tree}
 use Rattle.graph.specs.Graph.{Graph}
@@ -32,7 +33,7 @@ loadedGraph n left right =
     record { n = n; m = size; a = loadedRow 1 left; b = loadedRow 1 right; rows = both (upTo size) (upTo (length left)) }
 
 -- what is grown: whether there is a tree, and its rows, none where there is no tree
-pub record Grows (g : Graph) (w : ℕ → ℕ) (whole : Bool) (chosen : ℕ → Bool) : Type 0 where
+pub record Grows (g : Graph) (w : ℕ → ℤ) (whole : Bool) (chosen : ℕ → Bool) : Type 0 where
   pub all : whole ≡ not (isNone (tree g w))
   pub rows : chosen ≡ chosenRows (tree g w)
 
@@ -41,7 +42,7 @@ unfoldable pub touching : (ℕ → ℕ) → (ℕ → Bool) → (ℕ → Bool) �
 touching side rows Q i = rows i && Q (side i)
 
 -- the fragment of k vertices: the rows chosen, and the rows whose left and whose right end is in it
-pub record Reached (g : Graph) (w : ℕ → ℕ) (k : ℕ) (lefts rights chosen : ℕ → Bool) : Type 0 where
+pub record Reached (g : Graph) (w : ℕ → ℤ) (k : ℕ) (lefts rights chosen : ℕ → Bool) : Type 0 where
   pub vertices : ℕ → Bool
   pub more : 2 ≤ k
   pub grown : treeOf k g w ≡ some (record { vertices = vertices; chosen = chosen })

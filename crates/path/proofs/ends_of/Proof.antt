@@ -3,7 +3,7 @@
 use native.Mathlib.Omega.{arith}
 use mathlib.Core.Path.{_∙_}
 use borrow.Author.Needs.{needs}
-use Rattle.search.proofs.Blanks.{small-row}
+use Rattle.search.proofs.Signs.{small-row}
 use Rattle.table.proofs.Loads.{loaded-below}
 use Rattle.path.proofs.ends_of.Statement.{statement}
 use Rattle.path.proofs.ends_of.Tie as tie
