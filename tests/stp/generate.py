@@ -10,7 +10,7 @@ import sys
 from typing import NamedTuple
 
 from known import KNOWN
-from reader import MAX_TEXT, Read, packed, read
+from reader import MAX_PRICE, MAX_TEXT, MIN_PRICE, Read, packed, read
 
 SEED = 1024
 
@@ -26,7 +26,7 @@ SKIPPED_NAMES = [b"Comment", b"Terminals", b"Coordinates", b"Presolve", b"Maximu
 SKIPPED_LINES = [b"Name \"A street\"", b"Creator x", b"Terminals 2", b"T 1", b"DD 1 80 40", b"END x", b"x END", b"ENDE", b"EN D", b"EOF", b"EOF x",
                  b"SECTION Graph", b"SECTION", b"SECTION a b c", b"Nodes 3", b"E 1 2 3", b"END END", b"end.", b"-1 4294967296 0x1", b"\xff\xfe\x80",
                  b"\x00", b"a\x00b", b"33D32945", b"\x0b\x0c", b"Graph"]
-ODD_WORDS = [b"END", b"EOF", b"SECTION", b"Graph", b"Nodes", b"Edges", b"E", b"33D32945", b"0", b"1", b"7", b"-1", b"+1", b"1.5", b"1e3", b"0x1",
+ODD_WORDS = [b"END", b"EOF", b"SECTION", b"Graph", b"Nodes", b"Edges", b"E", b"33D32945", b"0", b"1", b"7", b"-1", b"-", b"--1", b"+1", b"1.5", b"1e3", b"0x1",
              b"4294967295", b"4294967296", b"9" * 40, b"x", b"\x00", b"\xff", b"1\x00", b"\xc2\xa01", b"EN", b"ENDE", b"EE", b"\x0b", b"1,"]
 
 
@@ -45,7 +45,11 @@ class Maker:
 
     def number(self, x):
         how = self.r.randrange(12)
-        return b"%d" % x if how else b"0" * self.r.choice([1, 2, 9, 10, 11, 19, 20, 40]) + b"%d" % x
+        zeros = b"" if how else b"0" * self.r.choice([1, 2, 9, 10, 11, 19, 20, 40])
+        return b"-" * (x < 0) + zeros + b"%d" % abs(x)
+
+    def price(self):
+        return self.r.choice([self.r.randrange(20), self.r.randrange(2 ** 31), 0, 2 ** 31 - 1, -self.r.randrange(20), -self.r.randrange(2 ** 31), -1, -2 ** 31])
 
     def rows(self, n, m):
         if n == 1:
@@ -54,7 +58,7 @@ class Maker:
         for _ in range(m):
             a = self.r.randint(1, n)
             b = self.r.randint(1, n - 1)
-            rows.append((a, b + (b >= a), self.r.choice([self.r.randrange(20), self.r.randrange(2 ** 31), 0, 2 ** 31 - 1])))
+            rows.append((a, b + (b >= a), self.price()))
         return rows
 
     def graph(self, n, rows, edges=None):
@@ -275,7 +279,10 @@ def numbers(make):
               b"2147483647", b"2147483648", b"4294967294", b"4294967295", b"4294967296", b"4294967297", b"4294967551", b"42949672950", b"8589934593",
               b"9999999999", b"18446744073709551615", b"18446744073709551616", b"18446744073709551617", b"18446744073709551618", b"1" + b"0" * 39,
               b"4294967296" * 4, b"0" * 39 + b"1", b"0" * 40, b"0" * 30 + b"4294967295", b"0" * 30 + b"4294967296", b"0" * 5000 + b"2", b"9" * 5000,
-              b"-1", b"-0", b"+1", b"1.", b"1.0", b".5", b"1e0", b"0x1", b"1_0", b"1,0", b"1\x00", b"\xb2", b"\xd9\xa1", b"a", b"1a", b"/", b":", b"0/", b"0:"]
+              b"-1", b"-0", b"-007", b"-", b"--1", b"-+1", b"+-1", b"1-", b"-1-", b"- 1", b"-a", b"-1.5", b"\xe2\x88\x921", b"-255", b"-256", b"-2147483647",
+              b"-2147483648", b"-2147483649", b"-4294967295", b"-4294967296", b"-4294967297", b"-18446744073709551615", b"-18446744073709551617",
+              b"-" + b"0" * 30 + b"2147483648", b"-" + b"0" * 30 + b"2147483649", b"0" * 30 + b"2147483647", b"0" * 30 + b"2147483648",
+              b"-" + b"0" * 5000 + b"2", b"-" + b"9" * 5000, b"+1", b"1.", b"1.0", b".5", b"1e0", b"0x1", b"1_0", b"1,0", b"1\x00", b"\xb2", b"\xd9\xa1", b"a", b"1a", b"/", b":", b"0/", b"0:"]
     for v in values:
         for k in range(5):
             words = [b"3", b"1", b"1", b"2", b"7"]
@@ -295,14 +302,16 @@ def orders(make):
                     if m:
                         i = make.r.randrange(m)
                         a, b, w = rows[i]
-                        rows[i] = make.r.choice([(0, b, w), (a, a, w), (a, 256, w), (a, b, 2147483648), (n + 1 if n < 4294967295 else 1, b, 4294967295)])
+                        rows[i] = make.r.choice([(0, b, w), (a, a, w), (a, 256, w), (a, b, -2147483648), (n + 1 if n < 4294967295 else 1, b, w)])
+                        if make.r.randrange(8) == 0:
+                            rows[i] = (a, b, make.r.choice([2147483648, 4294967295, -2147483649]))
                 lines = [[b"33D32945"], [b"SECTION", b"Graph"], [b"Nodes", b"%d" % n], [b"Edges", b"%d" % (m + off)]]
                 lines += [[b"E"] + [b"%d" % x for x in row] for row in rows] + [[b"END"], [b"EOF"]]
                 if make.r.randrange(12) == 0:
                     lines.append([b"x"])
                 yield Text("several causes", b"\n".join(b" ".join(line) for line in lines))
     for m in [1025, 1026, 1100, 2048, 2500, 4000, 5000]:
-        rows = b"".join(b"E %d %d %d\n" % make.r.choice([(1, 2, 3), (2, 1, 0), (1, 1, 1), (0, 9, 2), (1, 2, 2147483648)]) for _ in range(m))
+        rows = b"".join(b"E %d %d %d\n" % make.r.choice([(1, 2, 3), (2, 1, 0), (1, 1, 1), (0, 9, -2), (1, 2, -2147483648)]) for _ in range(m))
         for n, edges in [(2, m), (2, m), (256, m), (2, m - 1024), (2, 1024)]:
             yield Text("several causes", b"33D32945\nSECTION Graph\nNodes %d\nEdges %d\n%bEND\nEOF\n" % (n, edges, rows))
     for _ in range(300):
@@ -312,7 +321,7 @@ def orders(make):
         for _ in range(make.r.choice([1, 2, 2])):
             i = make.r.randrange(len(rows))
             a, b, w = rows[i]
-            rows[i] = make.r.choice([(0, b, w), (a, 0, w), (n + 1, b, w), (a, n + 1, w), (a, a, w), (256 + a, b, w), (a, b, 2147483648), (a, b, 4294967295)])
+            rows[i] = make.r.choice([(0, b, w), (a, 0, w), (n + 1, b, w), (a, n + 1, w), (a, a, w), (256 + a, b, w), (a, a, -2147483648)] * 4 + [(a, b, 2147483648), (a, b, 4294967295), (a, b, -2147483649)])
         yield Text("several causes", make.text(make.lines(make.r.choice([n] * 12 + [0, 256, 65536 + n]), rows, edges)))
 
 
@@ -384,7 +393,7 @@ def causes():
                 if i > 1:
                     yield f"{form}: word {i} missing, next line"
     yield from ["too long", "no word", "first word wrong", "EOF without a Graph", "a line after EOF", "skipped section: no END", "more E lines",
-                "fewer E lines", "Nodes 0", "Nodes above 255", "too many rows", "an end that is no junction", "equal ends", "a price too high"]
+                "fewer E lines", "Nodes 0", "Nodes above 255", "too many rows", "an end that is no junction", "equal ends"]
 
 
 def sample():
@@ -397,7 +406,7 @@ def missing(texts, answers):
     refused = {a.number for a in answers if not isinstance(a, Read)}
     told = {a.cause for a in answers if not isinstance(a, Read)}
     lacks = [f"no text of the kind '{k}'" for k in KINDS if k not in kinds]
-    lacks += [f"no text refused {n}" for n in [12, 13, 1, 2, 4, 5] if n not in refused]
+    lacks += [f"no text refused {n}" for n in [12, 13, 1, 2, 4] if n not in refused]
     lacks += [f"no text refused for '{c}'" for c in causes() if c not in told]
     lacks += [f"a cause without a name in the list: '{c}'" for c in sorted(told - set(causes()))]
     lacks += [f"a kind without a name in the list: '{k}'" for k in sorted(kinds - set(KINDS))]
@@ -405,6 +414,10 @@ def missing(texts, answers):
         lacks.append("fewer than 1,200 texts")
     if sum(isinstance(a, Read) for a in answers) < 300:
         lacks.append("fewer than 300 texts that are read")
+    prices = {w for a in answers if isinstance(a, Read) for _, _, w in a.rows}
+    lacks += [f"no text read with a price of {w}" for w in [MIN_PRICE, MIN_PRICE + 1, -1, 0, 1, MAX_PRICE] if w not in prices]
+    if sum(isinstance(a, Read) and any(w < 0 for _, _, w in a.rows) for a in answers) < 150:
+        lacks.append("fewer than 150 texts that are read with a price below zero")
     return lacks
 
 
@@ -413,7 +426,7 @@ def pack(texts, answers, file):
         file.write(len(t.text).to_bytes(4, "little") + t.text + packed(a))
         if isinstance(a, Read):
             file.write(bytes(left for left, _, _ in a.rows) + bytes(right for _, right, _ in a.rows))
-            file.write(b"".join(w.to_bytes(4, "little") for _, _, w in a.rows))
+            file.write(b"".join(w.to_bytes(4, "little", signed=True) for _, _, w in a.rows))
 
 
 if __name__ == "__main__":

@@ -7,7 +7,7 @@
 import re
 from typing import NamedTuple
 
-MAX_TEXT, MAX_NUMBER, MAX_PRICE, MAX_JUNCTIONS, MAX_ROWS = 65536, 4294967295, 2147483647, 255, 1024
+MAX_TEXT, MAX_NUMBER, MIN_PRICE, MAX_PRICE, MAX_JUNCTIONS, MAX_ROWS = 65536, 4294967295, -2147483648, 2147483647, 255, 1024
 
 
 class Read(NamedTuple):
@@ -48,6 +48,17 @@ def value(word):
     return int(digits) if len(digits) <= 10 and int(digits) <= MAX_NUMBER else None
 
 
+def price(word):
+    """The price that a word stands for, or None."""
+    if not re.fullmatch(rb"-?[0-9]+", word):
+        return None
+    digits = word.lstrip(b"-").lstrip(b"0") or b"0"
+    if len(digits) > 10:
+        return None
+    w = -int(digits) if word.startswith(b"-") else int(digits)
+    return w if MIN_PRICE <= w <= MAX_PRICE else None
+
+
 def names(word, keyword):
     return word.upper() == keyword.upper()
 
@@ -77,10 +88,10 @@ class Layout:
             raise Broken(words[len(tests)][0], f"{form}: a word too many")
         return [w for _, w in words]
 
-    def numbers(self, k, keyword, count):
-        """The numbers on a line of a keyword and so many numbers."""
-        words = self.hold(k, keyword, lambda w: names(w, keyword.encode()), *[lambda w: value(w) is not None] * count)
-        return [value(w) for w in words[1:]]
+    def numbers(self, k, keyword, *kinds):
+        """The numbers on a line of a keyword and numbers of these kinds, each `value` or `price`."""
+        words = self.hold(k, keyword, lambda w: names(w, keyword.encode()), *[lambda w, kind=kind: kind(w) is not None for kind in kinds])
+        return [kind(w) for kind, w in zip(kinds, words[1:])]
 
     def read(self):
         if not self.lines:
@@ -112,11 +123,11 @@ class Layout:
         raise Broken(self.end, "skipped section: no END")
 
     def graph_lines(self, k):
-        n, = self.numbers(k, "Nodes", 1)
-        edges, = self.numbers(k + 1, "Edges", 1)
+        n, = self.numbers(k, "Nodes", value)
+        edges, = self.numbers(k + 1, "Edges", value)
         k, rows = k + 2, []
         while self.opens(k, b"E"):
-            rows.append(tuple(self.numbers(k, "E", 3)))
+            rows.append(tuple(self.numbers(k, "E", value, value, price)))
             k += 1
         self.hold(k, "END", lambda w: names(w, b"END"))
         self.graph = n, edges, rows
@@ -137,13 +148,11 @@ def read(text):
     if len(lines) > MAX_ROWS:
         return Refused(2, 0, "too many rows")
     rows = [(a if a <= 255 else 0, b if b <= 255 else 0, w) for a, b, w in lines]
-    for i, (a, b, w) in enumerate(rows, 1):
+    for i, (a, b, _) in enumerate(rows, 1):
         if not (1 <= a <= n and 1 <= b <= n):
             return Refused(4, i, "an end that is no junction")
         if a == b:
             return Refused(4, i, "equal ends")
-        if w > MAX_PRICE:
-            return Refused(5, i, "a price too high")
     return Read(n, rows)
 
 

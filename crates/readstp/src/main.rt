@@ -28,14 +28,24 @@ fn pair(a: u32, b: u32) {
     text(b"\n");
 }
 
+// The integer that 32 bits stand for in two's complement, with - before a negative one.
+fn price(w: u32) {
+    if w < 2147483648 {
+        number(w as u64);
+    } else {
+        text(b"-");
+        number(4294967296 - w as u64);
+    }
+}
+
 // Row i: its ends and its weight.
 fn row(left: &[u8], right: &[u8], weight: &[u8], i: usize) {
     number(checks::row_byte(left, i) as u64);
     text(b" ");
-    pair(
-        checks::row_byte(right, i) as u32,
-        checks::row_weight(weight, i),
-    );
+    number(checks::row_byte(right, i) as u64);
+    text(b" ");
+    price(checks::row_weight(weight, i));
+    text(b"\n");
 }
 
 // The rows that were read, from the top.
