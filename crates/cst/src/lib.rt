@@ -24,7 +24,7 @@ use slice::difference;
 pub struct Exchange {
     pub out: u32,
     pub into: u32,
-    pub saving: u64,
+    pub saving: u32,
 }
 
 // The verdict: passed, with the 64 bits of the claim's weight; lighter, with the exchange; or refused, with the refusal.
@@ -64,7 +64,7 @@ fn exchange_of(weight: &[u8], out: usize, into: usize) -> Exchange
     Exchange {
         out: out as u32,
         into: into as u32,
-        saving: (flipped_weight(weight, out) - flipped_weight(weight, into)) as u64,
+        saving: flipped_weight(weight, out) - flipped_weight(weight, into),
     }
 }
 

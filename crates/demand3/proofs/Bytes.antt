@@ -347,10 +347,10 @@ mst1-door-means c answer =
 
 -- a door that returns and leaves what the definitions say is such a call
 pub cst-call : {c : Call} {answer after : List ℕ} {r : ℕ} → (r ≡ doorReturns answer) × (after ≡ cstDoor c answer)
-    → (r ≡ doorReturns answer) × (after ≡ cstDoor c answer) × CstCall c answer after r
-cst-call {c} {answer} (p, q) = (p, q, rw (p, q) (cst-door-means c answer))
+    → (r ≡ doorReturns answer) × ((after ≡ cstDoor c answer) × CstCall c answer after r)
+cst-call {c} {answer} (p, q) = (p, (q, rw (p, q) (cst-door-means c answer)))
 
 pub mst1-call : {c : Call} {answer after marks : List ℕ} {r : ℕ}
     → (r ≡ doorReturns answer) × ((after ≡ mst1Door c answer) × (marks ≡ mst1DoorMarks c answer))
-    → (r ≡ doorReturns answer) × ((after ≡ mst1Door c answer) × (marks ≡ mst1DoorMarks c answer)) × Mst1Call c answer after marks r
-mst1-call {c} {answer} (p, (q, s)) = (p, (q, s), rw (p, q, s) (mst1-door-means c answer))
+    → (r ≡ doorReturns answer) × (((after ≡ mst1Door c answer) × (marks ≡ mst1DoorMarks c answer)) × Mst1Call c answer after marks r)
+mst1-call {c} {answer} (p, (q, s)) = (p, ((q, s), rw (p, q, s) (mst1-door-means c answer)))

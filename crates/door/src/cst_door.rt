@@ -26,7 +26,7 @@ pub fn of_verdict(v: Verdict) -> Record
             number: 0,
             out: x.out,
             into: x.into,
-            amount: x.saving,
+            amount: x.saving as u64,
         },
         Verdict::Refused(r) => Record {
             kind: 0,

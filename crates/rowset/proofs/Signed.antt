@@ -1,6 +1,6 @@
 -- The integers that bits stand for in two's complement.
 -- Main statements: the order of the integers is that of the bits with the first one turned over (signed-order); a sum of the integers is the sum of those bits' numbers less 2 ^ 31 for
--- each (total-flipped); integers within k bits read back (bits-back), k bits write back (bits-again), and 64 bits hold the sum of up to 2 ^ 32 integers of 32 bits (total-small, total-fits).
+-- each (total-flipped); integers within k bits read back (bits-back), k bits write back (bits-again), a natural is what its own digits stand for (natural-bits), and 64 bits hold the sum of up to 2 ^ 32 integers of 32 bits (total-small, total-fits).
 -- Assumes nothing.
 use Prim.Native.Nat.{ℕ, zero, suc, _+_, _*_, _-_, _%_, _^_, _≤_, _<_}
 use borrow.Author.Tests.{ltb-true, ltb-false, lt-ltb, le-ltb}
@@ -86,6 +86,11 @@ bits-back k (negsuc n) h =
     small-bits (suc k) (2 ^ suc k - suc n) (omega (arith, pow-suc 2 k))
     ∙ rw (le-ltb (2 * (2 ^ suc k - suc n)) (2 ^ suc k) (omega (arith, pow-suc 2 k)))
     (omega (arith, integers, pow-suc 2 k, minus (pos (2 ^ suc k - suc n)) (pos (2 ^ suc k))))
+
+-- so a natural below 2 ^ k is what its own digits stand for
+pub natural-bits : (k x : ℕ) → x < 2 ^ k → fromBits (suc k) x ≡ pos x
+unfolding toBits
+natural-bits k x h = bits-back k (pos x) h
 
 -- and their bits are no more
 pub bits-small : (k : ℕ) (z : ℤ) → mag z < 2 ^ k → toBits (suc k) z < 2 ^ suc k

@@ -49,7 +49,7 @@ fn lighter(x: cst::Exchange) {
     text(b", in ");
     number(x.into as u64);
     text(b", saving ");
-    number(x.saving);
+    number(x.saving as u64);
     text(b"\n");
 }
 

@@ -45,5 +45,4 @@ exchange-of-spec =
     (λ c κs. search needs)
     (λ c κs. search needs)
     (λ c. let s = c .before .before .before in rw (c .flipped-weight2 .ensures, c .before .flipped-weight .ensures) (flipped-most _ _ (s .pre .2)))
-    (λ c. search needs)
     returns)

@@ -1,10 +1,11 @@
--- `door::mst1_door::of_built` meets its contract: each case's fields, written out. Assumes nothing.
+-- `door::mst1_door::of_built` meets its contract: each case's fields, written out, with the weight's bits handed on. Assumes nothing.
 use borrow.Author.Needs.{needs}
 use mathlib.Core.Path.{refl}
 use Rattle.answer.specs.Records.{fieldsOf}
 use Rattle.mst1.specs.Answers.{answerOf}
 use Rattle.door.proofs.mst1_door.of_built.Statement.{statement}
 use Rattle.door.proofs.mst1_door.of_built.Tie as tie
+use Rattle.rowset.specs.Integers.{fromBits}
 use Rattle.star.specs.Door.{fields}
 
 returns : tie.Need-returns
@@ -12,7 +13,7 @@ unfolding fieldsOf fields answerOf
 returns c = rw (c .before .b .given .1) refl
 
 returns-2 : tie.Need-returns-2
-unfolding fieldsOf fields answerOf
+unfolding fieldsOf fields answerOf fromBits
 returns-2 c = rw (c .before .b2 .given .1) refl
 
 pub of-built-spec : {M : Type 1} → statement M
