@@ -21,7 +21,7 @@ use Rattle.star.specs.MatrixPath.{pathColumn}
 
 module _ (c : Call) (ok : Sound (graphOf c)) (tree : SpanningTree (graphOf c) (marked (c .mark))) where
   -- the xor of the two columns is the tree path between the row's ends
-  between-path : (i : ℕ) → graphOf c .rows i ≡ true → between c i ≡ onPath (graphOf c) (marked (c .mark)) (graphOf c .a i) (graphOf c .b i)
+  pub between-path : (i : ℕ) → graphOf c .rows i ≡ true → between c i ≡ onPath (graphOf c) (marked (c .mark)) (graphOf c .a i) (graphOf c .b i)
   unfolding between pathColumn graphOf
   between-path i r = path-columns (graphOf c) ok (marked (c .mark)) tree 1 _ _ (omega arith) (ok .vertex) (ok .left i r .0) (ok .left i r .1) (ok .right i r .0) (ok .right i r .1)
 

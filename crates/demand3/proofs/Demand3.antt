@@ -32,6 +32,7 @@ use Rattle.graph.proofs.Least.{Lighter, good-least, least-good}
 use Rattle.star.proofs.Accepted.{none-head, none-tail, none-both, none-nil, refusal-append, cause-none, none-cause, causeAt-none, none-causeAt, some-cons, some-cause, some-causeAt, Taken, taken, sound}
 use Rattle.demand3.proofs.Checker.{none-good, good-none, found-lighter}
 use Rattle.star.proofs.Claims.{byte-outside, marked-row, marked-claimOf, claimOf-length, claimOf-bytes, marked-exchanged, exchanged-bytes}
+use Rattle.star.specs.Accepted.{Row}
 use Rattle.star.specs.Call.{Call, rowsOf, graphOf, weightOf, marked, claimWeight, withClaim, claimOf, exchanged}
 use Rattle.star.specs.Cst.{Answer, refused, passed, lighter, rowIn, rowOut, judged, verdict, cst}
 use Rattle.demand3.specs.Demand3.{ClaimTree, LeastClaim, WorthExchange, ZeroOrOne, RightCount, Fault, bad-byte, bad-count, cut-off, Holds, Demand3}
@@ -74,7 +75,7 @@ unfolding cstCauses
 claim-causes c a = refusal-append (tableCauses c) _ a
 
 module _ (c : Call) (a : Accepted c) where
-  ok : Sound (graphOf c)
+  pub ok : Sound (graphOf c)
   ok = sound c (taken c a)
 
   -- a claim that is not refused is a spanning tree
@@ -165,7 +166,7 @@ module _ (c : Call) (a : Accepted c) where
         spanning = subst (λ (Q : ℕ → Bool). SpanningTree (graphOf c) Q) (sym (claim-rows S t)) t;
       }
 
-  claim-least : LeastClaim c → Least (graphOf c) (weightOf c) (marked (c .mark))
+  pub claim-least : LeastClaim c → Least (graphOf c) (weightOf c) (marked (c .mark))
   unfolding graphOf weightOf claimWeight
   claim-least l =
       record {
@@ -176,24 +177,39 @@ module _ (c : Call) (a : Accepted c) where
             (l .least _ (claim-tree S t));
       }
 
+  -- the exchange of two rows as an exchange of bytes: which rows it marks, and that it is a spanning tree where the rows are
+  pub exchanged-rows : ClaimTree c → (out into : ℕ) → marked (c .mark) out ≡ true → Row c into → marked (exchanged (c .mark) out into) ≡ exchange (marked (c .mark)) out into
+  exchanged-rows t out into m r =
+      let (lo, ho) = marked-row (c .mark) out m in
+      marked-exchanged (c .mark) out into lo ho (r .0) (rw (t .bytes) (r .1))
+
+  pub exchanged-tree : ClaimTree c → (out into : ℕ) → marked (c .mark) out ≡ true → Row c into → SpanningTree (graphOf c) (exchange (marked (c .mark)) out into) → ClaimTree (withClaim c (exchanged (c .mark) out into))
+  unfolding graphOf
+  exchanged-tree t out into m r s =
+      let (lo, ho) = marked-row (c .mark) out m in
+      record {
+        bytes = length-exchanged (c .mark) out into ∙ t .bytes;
+        zero-or-one = exchanged-bytes (c .mark) out into lo ho (r .0) (rw (t .bytes) (r .1)) (t .zero-or-one);
+        spanning = subst (λ (Q : ℕ → Bool). SpanningTree (graphOf c) Q) (sym (exchanged-rows t out into m r)) s;
+      }
+
+  -- a marked row is a row of the table
+  pub out-row : ClaimTree c → (out : ℕ) → marked (c .mark) out ≡ true → Row c out
+  out-row t out m = let (l, h) = marked-row (c .mark) out m in (l, rw (t .bytes) at h)
+
   -- what a lighter exchange of rows says of the claim's bytes
   worth : ClaimTree c → (out into : ℕ) → Lighter (graphOf c) (weightOf c) (marked (c .mark)) out into → WorthExchange c out into (natAbs (weightOf c out -ℤ weightOf c into))
   unfolding graphOf weightOf claimWeight
   worth t out into l =
       record {
         claim-tree = t;
-        out-row = (o .0, subst (λ n. out ≤ n) (t .bytes) (o .1));
-        in-row = upTo-in (rowsOf c) into (l .in-row);
+        out-row = out-row t out (l .out-marked);
+        in-row = i;
         out-marked = l .out-marked;
         in-unmarked = l .in-unmarked;
-        tree =
-            record {
-              bytes = length-exchanged (c .mark) out into ∙ t .bytes;
-              zero-or-one = exchanged-bytes (c .mark) out into (o .0) (o .1) (i .0) (i .1) (t .zero-or-one);
-              spanning = subst (λ (Q : ℕ → Bool). SpanningTree (graphOf c) Q) (sym rows) (l .tree);
-            };
+        tree = exchanged-tree t out into (l .out-marked) i (l .tree);
         weight =
-            rw rows (omega (
+            rw (exchanged-rows t out into (l .out-marked) i) (omega (
               arith,
               integers,
               exchange-weight (graphOf c) ok (marked (c .mark)) (t .spanning) w out into (l .out-marked) (l .in-row) (l .in-unmarked),
@@ -213,14 +229,8 @@ module _ (c : Call) (a : Accepted c) where
       less : w into ≤ℤ w out
       less = omega (arith, integers, l .saves)
 
-      o : (1 ≤ out) × (out ≤ length (c .mark))
-      o = marked-row (c .mark) out (l .out-marked)
-
-      i : (1 ≤ into) × (into ≤ length (c .mark))
-      i = (upTo-in (rowsOf c) into (l .in-row) .0, subst (λ n. into ≤ n) (sym (t .bytes)) (upTo-in (rowsOf c) into (l .in-row) .1))
-
-      rows : marked (exchanged (c .mark) out into) ≡ exchange (marked (c .mark)) out into
-      rows = marked-exchanged (c .mark) out into (o .0) (o .1) (i .0) (i .1)
+      i : Row c into
+      i = upTo-in (rowsOf c) into (l .in-row)
 
   -- the two forms of MST1's answer
   data Grown : Type 0 where

@@ -1,3 +1,5 @@
 pub mod Checker
 pub mod Demand3
 pub mod Bytes
+pub mod Only
+pub mod OnlyTrials

@@ -7,3 +7,4 @@ pub mod Least
 pub mod Builder
 pub mod Meaning
 pub mod Trail
+pub mod Only

@@ -4,3 +4,4 @@ pub mod Least
 pub mod Builder
 pub mod Meaning
 pub mod steps
+pub mod Only
