@@ -12,14 +12,15 @@ use Rattle.star.specs.Trials.{small, yard, stem, bare}
 abbrev pub alike : List ℕ → Call
 alike claim = callOf 3 (1 ∷ 2 ∷ 1 ∷ []) (2 ∷ 3 ∷ 3 ∷ []) (small 2 ++ (small 2 ++ small 3)) claim
 
--- 1-2 of weight 1, 2-3 of weight 2, 1-3 of weight 3 and 2-3 of weight 2 again
+-- 1-2 of weight 1, 2-3 of weight 2, 1-3 of weight 3, 2-4 of weight 2 and 3-4 of weight 1
 abbrev pub again : List ℕ → Call
 again claim =
-    callOf 3 (1 ∷ 2 ∷ 1 ∷ 2 ∷ []) (2 ∷ 3 ∷ 3 ∷ 3 ∷ []) (small 1 ++ (small 2 ++ (small 3 ++ small 2))) claim
+    callOf 4 (1 ∷ 2 ∷ 1 ∷ 2 ∷ 3 ∷ []) (2 ∷ 3 ∷ 3 ∷ 4 ∷ 4 ∷ []) (small 1 ++ (small 2 ++ (small 3 ++ (small 2 ++ small 1)))) claim
 
--- 1-2 of weight 2, 2-3 of weight 1 and 2-3 of weight 2
+-- 1-2 of weight 2, 2-3 and 3-4 of weight 1 each and 2-4 of weight 2
 abbrev pub beside : List ℕ → Call
-beside claim = callOf 3 (1 ∷ 2 ∷ 2 ∷ []) (2 ∷ 3 ∷ 3 ∷ []) (small 2 ++ (small 1 ++ small 2)) claim
+beside claim =
+    callOf 4 (1 ∷ 2 ∷ 3 ∷ 2 ∷ []) (2 ∷ 3 ∷ 4 ∷ 4 ∷ []) (small 2 ++ (small 1 ++ (small 1 ++ small 2))) claim
 
 -- the two cheapest trees of the yard, no; the Stem, no; one vertex, yes; equal weights inside the tree alone, yes;
 -- the second unmarked row has an equal on its path, no; an equal row of the tree that is not on the path, yes
@@ -30,8 +31,8 @@ given =
     ∷ only (stem (1 ∷ 1 ∷ 1 ∷ 0 ∷ []))
     ∷ only (bare 1)
     ∷ only (alike (1 ∷ 1 ∷ 0 ∷ []))
-    ∷ only (again (1 ∷ 1 ∷ 0 ∷ 0 ∷ []))
-    ∷ only (beside (1 ∷ 1 ∷ 0 ∷ []))
+    ∷ only (again (1 ∷ 1 ∷ 0 ∷ 0 ∷ 1 ∷ []))
+    ∷ only (beside (1 ∷ 1 ∷ 1 ∷ 0 ∷ []))
     ∷ []
 
 abbrev pub expected : List Bool
@@ -44,7 +45,7 @@ rows c = equalOut c ∷ equalIn c ∷ []
 abbrev pub givenRows : List (List ℕ)
 givenRows =
     rows (yard (1 ∷ 1 ∷ 0 ∷ 1 ∷ 0 ∷ [])) ∷ rows (yard (0 ∷ 1 ∷ 1 ∷ 1 ∷ 0 ∷ [])) ∷ rows (stem (1 ∷ 1 ∷ 1 ∷ 0 ∷ []))
-    ∷ rows (again (1 ∷ 1 ∷ 0 ∷ 0 ∷ []))
+    ∷ rows (again (1 ∷ 1 ∷ 0 ∷ 0 ∷ 1 ∷ []))
     ∷ []
 
 abbrev pub expectedRows : List (List ℕ)
