@@ -118,6 +118,10 @@ module _ (c : Call) (r : Refusal) (e : refusal (tableCauses c) ≡ some r) where
 table-fits : (r : Refusal) → TableRefusal r → Fits (fields (refused r))
 unfolding fields
 table-fits r t = record { kind = omega arith; number = small (t .number); out = omega (arith, t .place); into = omega arith; amount = omega arith }
+  where
+    small : ((1 ≤ r .number) × (r .number ≤ 4)) ⊎ (r .number ≡ 15) → r .number < 256
+    small (inl h) = omega (arith, h .1)
+    small (inr e) = omega arith
 
 table-declined : (r : Refusal) → TableRefusal r → TableDeclined (fields (refused r))
 unfolding fields
