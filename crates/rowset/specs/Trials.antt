@@ -13,7 +13,7 @@ use Rattle.rowset.specs.Integers.{fromBits, toBits, integerIn, signed, t
 use Rattle.rowset.specs.Counts.{readWithin, columnsRead}
 use Rattle.rowset.specs.Searches.{equalTo, greaterThan, sameAs, smallest, largest}
 use Rattle.rowset.specs.Sets.{empty, upTo, both, either, oneOf, without, put, takeOut, any, firstOf, uppermost, sum, count, odd}
-use Rattle.rowset.specs.Words.{wordAt, columnWordsFrom, matrixWords}
+use Rattle.rowset.specs.Words.{wordAt, columnWordsFrom, matrixWords, inWords}
 
 -- the set of these positions
 unfoldable pub these : List ℕ → ℕ → Bool
@@ -180,6 +180,18 @@ WordsHold =
     (((top + 1) ∷ 1 ∷ replicate 12 0) ++ ((top ∷ top ∷ replicate 15 0) ++ (1 ∷ []))) ∷ [] ∷ ((top + 1) ∷ 1 ∷ []) ∷ (top ∷ [])
     ∷ (4 ∷ 3 ∷ 0 ∷ []) ∷ [])
 
+-- which of the positions 0, 1, 2, 64, 65, 960, 961, 1,024 and 1,025 belong
+abbrev edges : (ℕ → Bool) → List ℕ
+edges p = yes (p 0) ∷ yes (p 1) ∷ yes (p 2) ∷ yes (p 64) ∷ yes (p 65) ∷ yes (p 960) ∷ yes (p 961) ∷ yes (p 1024) ∷ yes (p 1025) ∷ []
+
+-- what words hold: those of {1, 64, 65, 960, 1,024}, those of {0, 961, 1,025}, seventeen words that are full, one word that is full, and no word
+abbrev HeldHold : Type 0
+HeldHold =
+    (edges (inWords (matrixWords three 1)) ∷ edges (inWords (columnWordsFrom (three 2) 0 16)) ∷ edges (inWords (replicate 17 18446744073709551615)) ∷ edges (inWords (18446744073709551615 ∷ [])) ∷ edges (inWords []) ∷ [])
+    ≡ (
+    (0 ∷ 1 ∷ 0 ∷ 1 ∷ 1 ∷ 1 ∷ 0 ∷ 1 ∷ 0 ∷ []) ∷ (0 ∷ 0 ∷ 0 ∷ 0 ∷ 0 ∷ 0 ∷ 1 ∷ 0 ∷ 0 ∷ []) ∷ (0 ∷ 1 ∷ 1 ∷ 1 ∷ 1 ∷ 1 ∷ 1 ∷ 1 ∷ 0 ∷ []) ∷ (0 ∷ 1 ∷ 1 ∷ 1 ∷ 0 ∷ 0 ∷ 0 ∷ 0 ∷ 0 ∷ []) ∷ (0 ∷ 0 ∷ 0 ∷ 0 ∷ 0 ∷ 0 ∷ 0 ∷ 0 ∷ 0 ∷ [])
+    ∷ [])
+
 -- ── Bit columns, and the number of them that MATCH reads ──
 
 abbrev ColumnsHold : Type 0
@@ -226,4 +238,4 @@ CountsHold =
 
 -- all trials of this crate
 abbrev pub TrialsHold : Type 0
-TrialsHold = SetsHold × NumbersHold × SearchesHold × IntegersHold × BitsHold × BytesHold × WordsHold × ColumnsHold × CountsHold
+TrialsHold = SetsHold × NumbersHold × SearchesHold × IntegersHold × BitsHold × BytesHold × WordsHold × HeldHold × ColumnsHold × CountsHold
