@@ -8,8 +8,8 @@ use mathlib.Core.Option.{Option, none, some}
 use Rattle.refusal.specs.declared.Refusal.{Refusal}
 use Rattle.rowset.specs.Bytes.{inRow}
 use Rattle.rowset.specs.Searches.{greaterThan, sameAs}
-use Rattle.rowset.specs.Sets.{upTo, oneOf, without, any, uppermost}
-use Rattle.star.specs.Call.{Call, rowsOf, weightOf, marked, claimWeight}
+use Rattle.rowset.specs.Sets.{oneOf, without, any, uppermost}
+use Rattle.star.specs.Call.{Call, rowsOf, used, weightOf, claimed, claimWeight}
 use Rattle.star.specs.MatrixPath.{pathColumn}
 use Rattle.star.specs.Refusals.{cstCauses, refusal}
 
@@ -27,9 +27,9 @@ between c i = oneOf (pathColumn c 1 (inRow 1 (c .left) i)) (pathColumn c 1 (inRo
 unfoldable pub heavier : Call → ℕ → ℕ → Bool
 heavier c i = greaterThan (weightOf c) (weightOf c i) (between c i)
 
--- row i is unmarked, and a heavier row lies on the path between its ends
+-- row i is in use and unmarked, and a heavier row lies on the path between its ends
 unfoldable pub improves : Call → ℕ → Bool
-improves c i = without (upTo (rowsOf c)) (marked (c .mark)) i && any (rowsOf c) (heavier c i)
+improves c i = without (used c) (claimed c) i && any (rowsOf c) (heavier c i)
 
 -- the uppermost such row comes in, 0 if there is none, and the uppermost heavier row on its path goes out
 unfoldable pub rowIn : Call → ℕ
@@ -42,9 +42,9 @@ rowOut c = uppermost (rowsOf c) (heavier c (rowIn c))
 unfoldable pub equals : Call → ℕ → ℕ → Bool
 equals c i = sameAs (weightOf c) (weightOf c i) (between c i)
 
--- row i is unmarked, and a row of equal weight lies on the path between its ends
+-- row i is in use and unmarked, and a row of equal weight lies on the path between its ends
 unfoldable pub replaces : Call → ℕ → Bool
-replaces c i = without (upTo (rowsOf c)) (marked (c .mark)) i && any (rowsOf c) (equals c i)
+replaces c i = without (used c) (claimed c) i && any (rowsOf c) (equals c i)
 
 -- the uppermost such row, 0 if there is none, and the uppermost row of equal weight on its path: the exchange of these two gives another tree of the same weight
 unfoldable pub equalIn : Call → ℕ

@@ -8,7 +8,7 @@ use mathlib.Core.Path.{_≡_}
 use lib.IntN.{pos}
 use lib.ListN.{replicate}
 use Rattle.refusal.specs.declared.Refusal.{Refusal}
-use Rattle.star.specs.Call.{Call}
+use Rattle.star.specs.Call.{Call, callOf}
 use Rattle.star.specs.Cst.{Answer, refused, passed, lighter, cst}
 use Rattle.star.specs.MatrixPath.{matrixPath, matrixAfter}
 use Rattle.star.specs.Mst1.{BuildAnswer, unbuilt, treeBuilt, mst1, mst1Marks}
@@ -39,60 +39,36 @@ because number place = record { number = number; place = place }
 -- the yard: 1-2 weight 5, 2-3 weight 3, 3-4 weight 5, 1-4 weight 4, 1-3 weight 6
 abbrev pub yard : List ℕ → Call
 yard claim =
-    record {
-      n = 4;
-      left = 1 ∷ 2 ∷ 3 ∷ 1 ∷ 1 ∷ [];
-      right = 2 ∷ 3 ∷ 4 ∷ 4 ∷ 3 ∷ [];
-      weight = small 5 ++ (small 3 ++ (small 5 ++ (small 4 ++ small 6)));
-      mark = claim;
-    }
+    callOf 4 (1 ∷ 2 ∷ 3 ∷ 1 ∷ 1 ∷ []) (2 ∷ 3 ∷ 4 ∷ 4 ∷ 3 ∷ []) (small 5 ++ (small 3 ++ (small 5 ++ (small 4 ++ small 6)))) claim
 
 -- the Stem: 1-2 weight 9, 2-3, 2-4 and 3-4 weight 1 each
 abbrev pub stem : List ℕ → Call
 stem claim =
-    record {
-      n = 4;
-      left = 1 ∷ 2 ∷ 2 ∷ 3 ∷ [];
-      right = 2 ∷ 3 ∷ 4 ∷ 4 ∷ [];
-      weight = small 9 ++ (small 1 ++ (small 1 ++ small 1));
-      mark = claim;
-    }
+    callOf 4 (1 ∷ 2 ∷ 2 ∷ 3 ∷ []) (2 ∷ 3 ∷ 4 ∷ 4 ∷ []) (small 9 ++ (small 1 ++ (small 1 ++ small 1))) claim
 
 -- the same pair entered twice, from both ends: 1-2 weight 5 and 2-1 weight 3
 abbrev pub twice : List ℕ → Call
 twice claim =
-    record { n = 2; left = 1 ∷ 2 ∷ []; right = 2 ∷ 1 ∷ []; weight = small 5 ++ small 3; mark = claim }
+    callOf 2 (1 ∷ 2 ∷ []) (2 ∷ 1 ∷ []) (small 5 ++ small 3) claim
 
 -- a ring of four: 1-2 weight 5, 2-3 weight 9, 3-4 weight 1, 1-4 weight 2
 abbrev pub ring : List ℕ → Call
 ring claim =
-    record {
-      n = 4;
-      left = 1 ∷ 2 ∷ 3 ∷ 1 ∷ [];
-      right = 2 ∷ 3 ∷ 4 ∷ 4 ∷ [];
-      weight = small 5 ++ (small 9 ++ (small 1 ++ small 2));
-      mark = claim;
-    }
+    callOf 4 (1 ∷ 2 ∷ 3 ∷ 1 ∷ []) (2 ∷ 3 ∷ 4 ∷ 4 ∷ []) (small 5 ++ (small 9 ++ (small 1 ++ small 2))) claim
 
 -- the graph of the paper's two trees: 1-2 weight 2, 1-3 weight 7, 2-3 weight 4, 2-4 and 3-4 weight 6, 4-5 weight 3, 3-5 weight 4, 4-6 weight 7
 abbrev pub paper : List ℕ → Call
 paper claim =
-    record {
-      n = 6;
-      left = 1 ∷ 1 ∷ 2 ∷ 2 ∷ 3 ∷ 4 ∷ 3 ∷ 4 ∷ [];
-      right = 2 ∷ 3 ∷ 3 ∷ 4 ∷ 4 ∷ 5 ∷ 5 ∷ 6 ∷ [];
-      weight = small 2 ++ (small 7 ++ (small 4 ++ (small 6 ++ (small 6 ++ (small 3 ++ (small 4 ++ small 7))))));
-      mark = claim;
-    }
+    callOf 6 (1 ∷ 1 ∷ 2 ∷ 2 ∷ 3 ∷ 4 ∷ 3 ∷ 4 ∷ []) (2 ∷ 3 ∷ 3 ∷ 4 ∷ 4 ∷ 5 ∷ 5 ∷ 6 ∷ []) (small 2 ++ (small 7 ++ (small 4 ++ (small 6 ++ (small 6 ++ (small 3 ++ (small 4 ++ small 7))))))) claim
 
 -- 1-2 and 2-3 weight 2 each, and 1-3 weight 3
 abbrev pub alike : List ℕ → Call
 alike claim =
-    record { n = 3; left = 1 ∷ 2 ∷ 1 ∷ []; right = 2 ∷ 3 ∷ 3 ∷ []; weight = small 2 ++ (small 2 ++ small 3); mark = claim }
+    callOf 3 (1 ∷ 2 ∷ 1 ∷ []) (2 ∷ 3 ∷ 3 ∷ []) (small 2 ++ (small 2 ++ small 3)) claim
 
 -- n vertices and no row
 abbrev pub bare : ℕ → Call
-bare n = record { n = n; left = []; right = []; weight = []; mark = [] }
+bare n = callOf n [] [] [] []
 
 -- a column of the path matrix whose components are all among the first 64
 abbrev pub column : ℕ → List ℕ
