@@ -143,12 +143,12 @@ fn first_repeat(left: &[u8], right: &[u8]) -> usize
         ⌜ r ≡ uppermost m (repeatsAbove (upTo m) (now (left .entry)) (now (right .entry))) ⌝ }
 {
     let mut above: [u64; pairs::WORDS] = [0; pairs::WORDS];
-    let mut i = 1;
-    while i <= left.len() {
-        if pairs::put(&mut above, row_byte(left, i), row_byte(right, i)) {
-            return i;
+    let mut row = 1;
+    while row <= left.len() {
+        if pairs::put(&mut above, row_byte(left, row), row_byte(right, row)) {
+            return row;
         }
-        i += 1;
+        row += 1;
     }
     0
 }
