@@ -99,7 +99,7 @@ causeAt-none k zero e = refl
 causeAt-none k (suc i) e = cc
 
 -- the same pair of ends, in words and back
-pair-same : (a b x y : ℕ) → samePair a b x y ≡ true → ((a ≡ x) × (b ≡ y)) ⊎ ((a ≡ y) × (b ≡ x))
+pub pair-same : (a b x y : ℕ) → samePair a b x y ≡ true → ((a ≡ x) × (b ≡ y)) ⊎ ((a ≡ y) × (b ≡ x))
 pair-same a b x y e = go (eqb a x && eqb b y) refl e
   where
     equal : (p q r s : ℕ) → (eqb p q && eqb r s) ≡ true → (p ≡ q) × (r ≡ s)
@@ -111,7 +111,7 @@ pair-same a b x y e = go (eqb a x && eqb b y) refl e
     go true h k = inl (equal a x b y h)
     go false h k = inr (equal a y b x k)
 
-same-pair : (a b x y : ℕ) → ((a ≡ x) × (b ≡ y)) ⊎ ((a ≡ y) × (b ≡ x)) → samePair a b x y ≡ true
+pub same-pair : (a b x y : ℕ) → ((a ≡ x) × (b ≡ y)) ⊎ ((a ≡ y) × (b ≡ x)) → samePair a b x y ≡ true
 same-pair a b x y (inl (h, k)) = rw (h, k, eq-eqb x x refl, eq-eqb y y refl)
 same-pair a b x y (inr (h, k)) = rw (h, k, eq-eqb x x refl, eq-eqb y y refl) (or-true (eqb y x && eqb x y))
 
