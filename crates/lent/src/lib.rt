@@ -192,7 +192,10 @@ pub fn great_from(columns: &[u64], first: usize, w: u32, x: Slice) -> Compared
     let mut j = first;
     while j < WIDTH {
         if slice::zero(z) {
-            return Compared { greater: g, equal: z };
+            return Compared {
+                greater: g,
+                equal: z,
+            };
         }
         let digit = WIDTH - 1 - j;
         let b = (v >> digit) % 2 == 1;
@@ -201,7 +204,10 @@ pub fn great_from(columns: &[u64], first: usize, w: u32, x: Slice) -> Compared
         z = keep(z, c, b);
         j += 1;
     }
-    Compared { greater: g, equal: z }
+    Compared {
+        greater: g,
+        equal: z,
+    }
 }
 
 // MAX where `high` is true and MIN where it is not.
