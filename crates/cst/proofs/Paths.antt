@@ -33,6 +33,7 @@ use Rattle.star.specs.Call.{Call, rowsOf, graphOf, weightOf, marked, claimWeigh
 use Rattle.star.specs.Cst.{refused, passed, lighter, between, heavier, improves, rowIn, rowOut, equals, replaces, equalIn, equalOut, only, judged, verdict, cst, EqualRows, rowsBeside, equalRows}
 use Rattle.star.specs.MatrixPath.{pathColumn, matrixPath, matrixOr, matrixAfter}
 use Rattle.star.specs.Refusals.{maxVertices, cstCauses, tableCauses, refusal}
+use Rattle.checks.proofs.Laws.{uppermost-bound}
 use Rattle.claim.proofs.Laws.{claimRows-marked, claimRows-total, rows-fit}
 use Rattle.claim.specs.Claims.{claimRows}
 use Rattle.cst.proofs.Refused.{path-refusal}
@@ -88,20 +89,16 @@ module _ (matrix left right weight : List ℕ) where
     unfolding firstLighter rowWith exchangeOf inRow fromBits
     none-found e = rw (← same, exhausted size Z (someOn greaterThan matrix left right weight) e, none-first greaterThan greater-selected)
 
-  -- what is remembered: the exchange of equal rows p, or else the first among the rows Z still to be looked at, is the first among all rows
-  pub record Remembered (rows Z : ℕ → Bool) (p : Equal) : Type 0 where
-    pub none : p .into ≡ 0 → p .out ≡ 0
-    pub first : cond (eqb (p .into) 0) (firstEqual matrix left right weight Z) p ≡ firstEqual matrix left right weight rows
+  -- what is remembered: the row e, or where it is 0 the row sought among the rows Z still to be looked at, is the one sought among all rows
+  pub record Remembered (rows Z : ℕ → Bool) (e : ℕ) : Type 0 where
+    pub row : cond (eqb e 0) (rowWith sameAs matrix left right weight Z) e ≡ rowWith sameAs matrix left right weight rows
 
-  pub remembered-start : (rows : ℕ → Bool) → Remembered rows rows (record { out = 0; into = 0 })
-  remembered-start rows = record { none = λ e. refl; first = refl }
-
-  module _ (rows Z : ℕ → Bool) (p : Equal) (r : Remembered rows Z p) where
+  module _ (rows Z : ℕ → Bool) (e : ℕ) (r : Remembered rows Z e) where
     -- with the uppermost row of Z looked at
     pub remembered-more : (i : ℕ) → i ≡ uppermost size Z → any size Z ≡ true
-        → Remembered rows (takeOut Z (uppermost size Z)) (remembered p (foundOn sameAs (weightIn weight) (weightIn weight i) matrix left right i) i)
-    unfolding remembered firstEqual rowWith someOn firstOn
-    remembered-more i u h = rw (← u) (go (eqb (p .into) 0) refl (any size E) refl)
+        → Remembered rows (takeOut Z (uppermost size Z)) (remembered e (foundOn sameAs (weightIn weight) (weightIn weight i) matrix left right i) i)
+    unfolding remembered rowWith someOn
+    remembered-more i u h = rw (← u) (record { row = go (eqb e 0) refl (any size E) refl })
       where
         E : ℕ → Bool
         E = foundOn sameAs (weightIn weight) (weightIn weight i) matrix left right i
@@ -109,28 +106,32 @@ module _ (matrix left right weight : List ℕ) where
         G : ℕ → Bool
         G = someOn sameAs matrix left right weight
 
-        go : (b : Bool) → eqb (p .into) 0 ≡ b → (d : Bool) → any size E ≡ d
-            → Remembered rows (takeOut Z i) (cond b (cond d (record { out = uppermost size E; into = i }) (record { out = 0; into = 0 })) p)
-        go false e d f = record { none = r .none; first = rw e (rw e at (r .first)) }
-        go true e true f =
+        go : (b : Bool) → eqb e 0 ≡ b → (d : Bool) → any size E ≡ d
+            → cond (eqb (cond b (cond d i 0) e) 0) (rowWith sameAs matrix left right weight (takeOut Z i)) (cond b (cond d i 0) e) ≡ rowWith sameAs matrix left right weight rows
+        go false t d f = rw t (rw t at (r .row))
+        go true t true f =
             let (j, z) = any-found size Z h in
-            record { none = λ t. absurd (omega arith); first = rw (ne-eqb i 0 (λ t. omega arith)) ((rw (stopped size Z G (rw (← u) f), ← u)) ∙ rw e at (r .first)) }
-        go true e false f = record { none = λ t. refl; first = rw (passed-over Z G i f) (rw e at (r .first)) }
+            rw (ne-eqb i 0 (λ n. omega arith)) (u ∙ sym (stopped size Z G (rw (← u) f)) ∙ rw t at (r .row))
+        go true t false f = rw (passed-over Z G i f) (rw t at (r .row))
 
-    -- and with all of them looked at
-    none-equal : any size Z ≡ false → _≡_ {A = Equal} (record { out = 0; into = 0 }) (firstEqual matrix left right weight Z)
-    unfolding firstEqual rowWith
-    none-equal h = rw (exhausted size Z (someOn sameAs matrix left right weight) h, none-first sameAs equal-selected)
-
-    pub remembered-all : any size Z ≡ false → p ≡ firstEqual matrix left right weight rows
-    remembered-all h = go (eqb (p .into) 0) refl
+    -- and with all of them looked at, it is the row that comes in by the first exchange of equal rows
+    pub remembered-all : any size Z ≡ false → e ≡ rowWith sameAs matrix left right weight rows
+    unfolding rowWith
+    remembered-all h = go (eqb e 0) refl
       where
-        blank : p .into ≡ 0 → p ≡ record { out = 0; into = 0 }
-        blank e = let z : _≡_ {A = Equal} (record { out = p .out; into = p .into }) (record { out = 0; into = 0 }) = rw (e, r .none e) in z
+        go : (b : Bool) → eqb e 0 ≡ b → e ≡ rowWith sameAs matrix left right weight rows
+        go false t = rw t at (r .row)
+        go true t = eqb-true e 0 t ∙ sym (exhausted size Z (someOn sameAs matrix left right weight) h) ∙ rw t at (r .row)
 
-        go : (b : Bool) → eqb (p .into) 0 ≡ b → p ≡ firstEqual matrix left right weight rows
-        go false e = rw e at (r .first)
-        go true e = blank (eqb-true (p .into) 0 e) ∙ none-equal h ∙ rw e at (r .first)
+    pub remembered-bound : any size Z ≡ false → e ≤ size
+    unfolding rowWith
+    remembered-bound h = uppermost-bound size e _ (remembered-all h)
+
+  -- the exchange by what is found for that row
+  pub equal-found : (rows : ℕ → Bool) (o e : ℕ) → e ≡ rowWith sameAs matrix left right weight rows → o ≡ firstOn sameAs matrix left right weight e
+      → _≡_ {A = Equal} (record { out = o; into = e }) (firstEqual matrix left right weight rows)
+  unfolding firstEqual
+  equal-found rows o e into out = rw (out, into)
 
 -- ── A call that CST does not refuse ──
 

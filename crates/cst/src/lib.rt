@@ -96,21 +96,14 @@ fn exchange_of(weight: &[u8], out: usize, into: usize) -> Exchange
     }
 }
 
-// The exchange of equal rows that was found already, else that of the uppermost of the rows equal to row i for row i, if there are any.
-fn remember(found: Equal, equal: Slice, i: usize) -> Equal
-    requires { ⌜ i ≤ size ⌝ }
+// The row that was found already to have an equal row on its path; else row i, if there are rows equal to it; 0 where there is none.
+fn remember(found: usize, equal: Slice, i: usize) -> usize
     ensures { λ r. ⌜ r ≡ remembered found (component equal) i ⌝ }
 {
-    if found.into != 0 {
+    if found != 0 {
         return found;
     }
-    if slice::zero(equal) {
-        return Equal { out: 0, into: 0 };
-    }
-    Equal {
-        out: slice::fnd(equal) as u32,
-        into: i as u32,
-    }
+    if slice::zero(equal) { 0 } else { i }
 }
 
 // The rows are taken from the top: the first that has a heavier row on the path between its ends comes in, and the uppermost such row goes out. All is 0 where none has; then the first with a row of equal weight on that path,
@@ -124,7 +117,7 @@ fn first_found(matrix: &[u64], left: &[u8], right: &[u8], weight: &[u8], rows: S
     let first = search::sign_columns(weights);
     let stored = lent::columns_of(weights);
     let mut z = rows;
-    let mut equal = Equal { out: 0, into: 0 };
+    let mut into = 0;
     while slice::some(z) {
         let s = slice::step_value(z);
         z = s.slice;
@@ -133,19 +126,24 @@ fn first_found(matrix: &[u64], left: &[u8], right: &[u8], weight: &[u8], rows: S
         if slice::some(heavier) {
             return Found {
                 lighter: exchange_of(weight, slice::fnd(heavier), s.at),
-                equal: equal,
+                equal: Equal { out: 0, into: 0 },
             };
         }
         let same = y.equal;
-        equal = remember(equal, same, s.at);
+        into = remember(into, same, s.at);
     }
+    let beside = compared_rows(matrix, &stored.columns, first, left, right, weight, into);
+    let equal = beside.equal;
     Found {
         lighter: Exchange {
             out: 0,
             into: 0,
             saving: 0,
         },
-        equal: equal,
+        equal: Equal {
+            out: slice::fnd(equal) as u32,
+            into: into as u32,
+        },
     }
 }
 

@@ -11,21 +11,21 @@ use Rattle.rowset.specs.Searches.{greaterThan}
 use Rattle.rowset.specs.Sets.{any, uppermost, count}
 use Rattle.search.proofs.Signs.{sign-row, sign-word}
 use Rattle.slice.specs.Slices.{size, component}
-use Rattle.cst.proofs.Paths.{heavier-out, exchange-found, none-found, comes-in, Remembered, remembered-start, remembered-more, remembered-all}
+use Rattle.cst.proofs.Paths.{heavier-out, exchange-found, none-found, comes-in, Remembered, remembered-more, remembered-all, remembered-bound, equal-found}
 use Rattle.cst.proofs.Sets.{passed-over, fewer}
 use Rattle.cst.specs.steps.Paths.{weightIn, integersAfter, someOn, firstOn, rowWith}
 use Rattle.cst.proofs.first_found.Statement.{statement}
 use Rattle.cst.proofs.first_found.Tie as tie
 
 abbrev Inv-loop : tie.InvT-loop
-Inv-loop matrix left right weight first stored z₀ equal₀ z equal =
+Inv-loop matrix left right weight first stored z₀ into₀ z into =
     (integersAfter (stored .columns) first ≡ weightIn weight)
     × ((k : ℕ) → fromBits (width - first) (inRow 4 weight k) ≡ weightIn weight k)
     × (rowWith greaterThan matrix left right weight (component z) ≡ rowWith greaterThan matrix left right weight (component z₀))
-    × Remembered matrix left right weight (component z₀) (component z) equal
+    × Remembered matrix left right weight (component z₀) (component z) into
 
 abbrev μ-loop : tie.MeasureT-loop
-μ-loop matrix left right weight first stored z₀ equal₀ z equal = count size (component z)
+μ-loop matrix left right weight first stored z₀ into₀ z into = count size (component z)
 
 loop-holds : tie.Need-loop-holds Inv-loop μ-loop
 loop-holds c =
@@ -34,7 +34,7 @@ loop-holds c =
       rw (c .columns-of .ensures, c .before .sign-columns .ensures) (sign-row t ∙ ap (λ f k. signed (f k)) loaded),
       λ k. rw (c .before .sign-columns .ensures) (rw loaded at (sign-word t k)),
       refl,
-      remembered-start _ _ _ _ _,
+      record { row = refl },
     )
 
 exchange-of-requires : tie.Need-exchange-of-requires Inv-loop μ-loop
@@ -79,13 +79,22 @@ loop-again c =
       rw (s .ensures .1, c .remember .ensures, same) (remembered-more _ _ _ _ _ _ _ (l .inv .3) _ (s .ensures .0) some),
     )
 
-returns-2 : tie.Need-returns-2 Inv-loop μ-loop
-returns-2 c =
-    let l = c .before .before .loop in
-    (none-found _ _ _ _ _ _ (l .inv .2) (cc), λ e. remembered-all _ _ _ _ _ _ _ (l .inv .3) (cc))
+-- the row that is remembered is one of 1 to 1,024, or 0
+remembered-row : tie.Need-cast-t31 Inv-loop μ-loop
+remembered-row c =
+    let l = c .before .before .before .before .before .before .before .before .loop in
+    let none = sym (c .before .before .before .before .before .before .before .some .ensures) ∙ c .before .before .before .before .before .before .if1 .left in
+    search (needs, remembered-bound _ _ _ _ _ _ _ (l .inv .3) none)
 
-remember-requires : tie.Need-remember-requires Inv-loop μ-loop
-remember-requires c κs = uppermost-bound size _ _ (c .before .before .before .before .before .before .before .before .before .step-value .ensures .0)
+returns-2 : tie.Need-returns-2 Inv-loop μ-loop
+unfolding firstOn
+returns-2 c =
+    let l = c .before .before .before .before .before .before .before .before .loop in
+    let none = sym (c .before .before .before .before .before .before .before .some .ensures) ∙ c .before .before .before .before .before .before .if1 .left in
+    let same = rw (l .inv .0, l .inv .1) at (c .before .before .compared-rows2 .ensures .1) in (
+      none-found _ _ _ _ _ _ (l .inv .2) none,
+      λ e. equal-found _ _ _ _ _ _ _ (remembered-all _ _ _ _ _ _ _ (l .inv .3) none) (c .fnd2 .ensures ∙ ap (uppermost size) same),
+    )
 
 pub first-found-spec : {M : Type 1} → statement M
 first-found-spec =
@@ -104,7 +113,11 @@ first-found-spec =
     (λ c κs. search needs)
     exchange-of-requires
     returns
-    remember-requires
+    (λ c κs. search needs)
     loop-less
     loop-again
+    (λ c κs. search needs)
+    (λ c κs. search needs)
+    (λ c. search (needs, uppermost-bound size _ _ (c .fnd2 .ensures)))
+    remembered-row
     returns-2)

@@ -65,9 +65,9 @@ firstEqual matrix left right weight rows =
     let i = rowWith sameAs matrix left right weight rows in
     record { out = firstOn sameAs matrix left right weight i; into = i }
 
--- the exchange of equal rows found already, else that of the uppermost row of E, if E has one, for row i
-unfoldable pub remembered : Equal → (ℕ → Bool) → ℕ → Equal
-remembered found E i = cond (eqb (found .into) 0) (cond (any size E) (record { out = uppermost size E; into = i }) (record { out = 0; into = 0 })) found
+-- the row found already, else row i, if E has a row; 0 where there is none
+unfoldable pub remembered : ℕ → (ℕ → Bool) → ℕ → ℕ
+remembered found E i = cond (eqb found 0) (cond (any size E) i 0) found
 
 -- a call that CST does not refuse, and a matrix with its path columns from vertex 1
 pub record Walked (c : Call) (matrix : List ℕ) : Type 0 where
