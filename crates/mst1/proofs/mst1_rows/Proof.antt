@@ -1,12 +1,12 @@
--- `mst1::mst1` meets its contract in each of its three cases: the table is refused, there is no tree, or a tree is built.
+-- `mst1::mst1_rows` meets its contract in each of its three cases: the table is refused, there is no tree, or a tree is built.
 -- Assumes nothing.
 use mathlib.Core.Path.{_∙_}
 use borrow.Author.Needs.{needs}
 use borrow.Author.Tests.{not-true, not-false}
 use Rattle.mst1.proofs.Answers.{table-refused, tree-refused, tree-built}
 use Rattle.mst1.specs.Answers.{answerOf}
-use Rattle.mst1.proofs.mst1.Statement.{statement}
-use Rattle.mst1.proofs.mst1.Tie as tie
+use Rattle.mst1.proofs.mst1_rows.Statement.{statement}
+use Rattle.mst1.proofs.mst1_rows.Tie as tie
 
 table-check-requires : tie.Need-table-check-requires
 table-check-requires c κs = search needs
@@ -54,8 +54,8 @@ returns-3 c =
     let (answer, marks) = tree-built _ (a .before .before .table-check .ensures) (a .enum-told .given .1) (s .before .before .tree-of .ensures) (not-false _ (s .if1 .left)) _ (c .weigh .ensures) in
     (answer, c .before .before .before .write-claim .ensures ∙ marks)
 
-pub mst1-spec : {M : Type 1} → statement M
-mst1-spec =
+pub mst1-rows-spec : {M : Type 1} → statement M
+mst1-rows-spec =
     tie.close
     (tie.spec
     table-check-requires
