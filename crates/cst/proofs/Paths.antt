@@ -30,7 +30,7 @@ use Rattle.table.specs.Loads.{loadedRow}
 use Rattle.star.proofs.Accepted.{none-head, none-tail, none-both, none-nil, Taken, taken, sound}
 use Rattle.star.proofs.Claims.{marked-row}
 use Rattle.star.specs.Call.{Call, rowsOf, graphOf, weightOf, marked, claimWeight}
-use Rattle.star.specs.Cst.{refused, passed, lighter, between, heavier, improves, rowIn, rowOut, equals, replaces, equalIn, equalOut, only, judged, verdict, cst, EqualRows, rowsBeside, equalRows}
+use Rattle.star.specs.Cst.{refused, passed, lighter, between, heavier, improves, rowIn, rowOut, equals, replaces, equalIn, equalOut, only, judged, verdict, cst, rowsBeside, equalRows}
 use Rattle.star.specs.MatrixPath.{pathColumn, matrixPath, matrixOr, matrixAfter}
 use Rattle.star.specs.Refusals.{maxVertices, cstCauses, tableCauses, refusal}
 use Rattle.checks.proofs.Laws.{uppermost-bound}

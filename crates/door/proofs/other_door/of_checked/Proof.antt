@@ -1,6 +1,6 @@
 -- `door::other_door::of_checked` meets its contract: the two rows are written beside a pass that is not the only one, and else the fields are those of the verdict. Assumes nothing.
 use borrow.Author.Needs.{needs}
-use mathlib.Core.Bool.{Bool, true, false}
+use mathlib.Core.Bool.{true, false}
 use mathlib.Core.Path.{_≡_, refl, sym, ap, _∙_}
 use native.Mathlib.Omega.{arith}
 use Rattle.answer.specs.Records.{fieldsOf}
