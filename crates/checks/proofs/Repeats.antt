@@ -11,9 +11,9 @@ use mathlib.Core.Path.{_≡_, refl, sym, _∙_}
 use native.Mathlib.Omega.{arith}
 use Rattle.pairs.proofs.Laws.{same-bit, bit-same, with-length, has-with, has-none}
 use Rattle.pairs.specs.Pairs.{pairAt, hasPair, withPair}
-use Rattle.rowset.proofs.Laws.{clash, in-upTo}
+use Rattle.rowset.proofs.Laws.{clash}
 use Rattle.rowset.specs.Bytes.{inRow}
-use Rattle.rowset.specs.Sets.{upTo, any}
+use Rattle.rowset.specs.Sets.{any}
 use Rattle.star.proofs.Accepted.{pair-same, same-pair}
 use Rattle.star.specs.Refusals.{samePair, repeatsAbove}
 
@@ -25,10 +25,10 @@ pair-bit a b x y ha hb hx hy = go (samePair a b x y) refl
     go true e = eq-eqb _ _ (sym (same-bit a b x y (pair-same a b x y e)))
     go false e = ne-eqb _ _ (λ z. clash (same-pair a b x y (bit-same a b x y ha hb hx hy (sym z))) e)
 
-module _ (left right : List ℕ) where
-  -- row k is a row, and joins the pair of x and y
+module _ (rows : ℕ → Bool) (left right : List ℕ) where
+  -- row k is one of the rows, and joins the pair of x and y
   abbrev pub Joins : ℕ → ℕ → ℕ → Bool
-  Joins x y k = upTo (length left) k && samePair (inRow 1 left k) (inRow 1 right k) x y
+  Joins x y k = rows k && samePair (inRow 1 left k) (inRow 1 right k) x y
 
   -- of the pairs of bytes, the set has exactly those of the rows above row i
   pub record Above (set : List ℕ) (i : ℕ) : Type 0 where
@@ -40,23 +40,23 @@ module _ (left right : List ℕ) where
   unfolding any
   above-none = record { words = refl; pairs = λ x y hx hy. has-none 1024 x y }
 
-  -- row i, whose ends a and b are bytes, repeats a row above it exactly where the set has its pair
-  pub above-repeats : (set : List ℕ) (i a b : ℕ) → 1 ≤ i → i ≤ length left → a ≡ inRow 1 left i → b ≡ inRow 1 right i → a < 256 → b < 256 → Above set i
-      → hasPair set a b ≡ repeatsAbove (upTo (length left)) left right i
+  -- one of the rows, row i, whose ends a and b are bytes, repeats a row above it exactly where the set has its pair
+  pub above-repeats : (set : List ℕ) (i a b : ℕ) → rows i ≡ true → a ≡ inRow 1 left i → b ≡ inRow 1 right i → a < 256 → b < 256 → Above set i
+      → hasPair set a b ≡ repeatsAbove rows left right i
   unfolding repeatsAbove
-  above-repeats set i a b l u ea eb ha hb h = rw (in-upTo (length left) i l u, ← ea, ← eb) (h .pairs a b ha hb)
+  above-repeats set i a b r ea eb ha hb h = rw (r, ← ea, ← eb) (h .pairs a b ha hb)
 
   -- with its pair put in, the set has the pairs of the rows above the next row
-  pub above-more : (set : List ℕ) (i a b : ℕ) → 1 ≤ i → i ≤ length left → a ≡ inRow 1 left i → b ≡ inRow 1 right i → a < 256 → b < 256 → Above set i
+  pub above-more : (set : List ℕ) (i a b : ℕ) → 1 ≤ i → rows i ≡ true → a ≡ inRow 1 left i → b ≡ inRow 1 right i → a < 256 → b < 256 → Above set i
       → Above (withPair set a b) (i + 1)
   unfolding any
-  above-more set zero a b l u ea eb ha hb h = absurd (omega arith)
-  above-more set (suc j) a b l u ea eb ha hb h =
+  above-more set zero a b l r ea eb ha hb h = absurd (omega arith)
+  above-more set (suc j) a b l r ea eb ha hb h =
       record {
         words = with-length set a b ∙ h .words;
         pairs = λ x y hx hy.
             let up : suc j + 1 - 1 ≡ suc j = omega arith in
             let down : suc j - 1 ≡ j = omega arith in
-            rw (up, in-upTo (length left) (suc j) l u, ← ea, ← eb)
+            rw (up, r, ← ea, ← eb)
             (has-with set a b x y (h .words) ha hb ∙ rw (h .pairs x y hx hy, down, pair-bit a b x y ha hb hx hy));
       }
