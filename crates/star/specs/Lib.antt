@@ -11,3 +11,4 @@ pub mod AnswerTrials
 pub mod SignedTrials
 pub mod OnlyTrials
 pub mod RepeatTrials
+pub mod WorkTrials
