@@ -9,3 +9,4 @@ pub mod Meaning
 pub mod Trail
 pub mod Only
 pub mod Renumbered
+pub mod LeastTotal

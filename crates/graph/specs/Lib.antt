@@ -6,3 +6,4 @@ pub mod Meaning
 pub mod steps
 pub mod Only
 pub mod Renumbered
+pub mod LeastTotal
