@@ -10,3 +10,4 @@ pub mod Trail
 pub mod Only
 pub mod Renumbered
 pub mod LeastTotal
+pub mod Stretch

@@ -7,3 +7,4 @@ pub mod steps
 pub mod Only
 pub mod Renumbered
 pub mod LeastTotal
+pub mod Stretch
