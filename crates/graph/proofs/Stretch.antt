@@ -14,7 +14,7 @@ use native.Mathlib.Omega.{arith}
 use Rattle.graph.proofs.Least.{cut-light, least-good}
 use Rattle.graph.proofs.Path.{path-inside, path-columns, path-crossed}
 use Rattle.graph.proofs.PathRows.{uses-inside}
-use Rattle.graph.specs.Graph.{Graph, Sound, Walk, stay, ahead, back, crosses}
+use Rattle.graph.specs.Graph.{Graph, Sound, Inside, Walk, stay, ahead, back, crosses}
 use Rattle.graph.specs.Least.{Least}
 use Rattle.graph.specs.Stretch.{Heaviest, DearestStretch}
 use Rattle.graph.specs.Tree.{onPath, uses}
@@ -54,6 +54,12 @@ apart : (u v : ℕ) → u ≢ v → xor (eqb u u) (eqb v u) ≡ true
 unfolding xor
 apart u v d = rw (eq-eqb u u refl, ne-eqb v u (λ q. d (sym q)))
 
+-- between different vertices a walk has a heaviest row
+pub walk-heaviest : (g : Graph) → Sound g → (w : ℕ → ℤ) (S : ℕ → Bool) → Inside g S → (u v : ℕ) → u ≢ v → (p : Walk g S u v) → Heaviest w (uses p) (uppermost (g .m) (largest (g .m) w (uses p)))
+walk-heaviest g ok w S inside u v d p =
+    let (k, on, _) = walk-crosses (λ j. eqb j u) p (apart u v d) in
+    heaviest-exists (g .m) w (uses p) (λ i h. ok .position i (inside i (uses-inside p i h))) k on
+
 module _ (g : Graph) (ok : Sound g) (w : ℕ → ℤ) (S : ℕ → Bool) (least : Least g w S) (u v : ℕ) (lu : 1 ≤ u) (hu : u ≤ g .n) (lv : 1 ≤ v) (hv : v ≤ g .n) where
   -- a row on the path of a least tree is no heavier than some row of any walk between the same vertices: one that crosses its cut
   pub stretch-row : (e : ℕ) → onPath g S u v e ≡ true → (p : Walk g (g .rows) u v) → (f : ℕ) × (uses p f ≡ true) × (w e ≤ℤ w f)
@@ -62,22 +68,17 @@ module _ (g : Graph) (ok : Sound g) (w : ℕ → ℤ) (S : ℕ → Bool) (least 
       let (f, h, c) = walk-crosses (λ j. onPath g S 1 j e) p (ap (λ (P : ℕ → Bool). P e) (path-columns g ok S (least .tree) 1 u v (omega arith) (ok .vertex) lu hu lv hv) ∙ on) in
       (f, h, cut-light g ok w S (least .tree) (least-good g ok w S (least .tree) least) e f (uses-inside p f h) c)
 
-  -- between different vertices the path has a heaviest row, and so has each walk
+  -- between different vertices the path has a heaviest row
   pub path-heaviest : u ≢ v → Heaviest w (onPath g S u v) (uppermost (g .m) (largest (g .m) w (onPath g S u v)))
   path-heaviest d =
       let (k, on, _) = path-crossed g ok S (least .tree) (λ j. eqb j u) u v lu hu lv hv (apart u v d) in
       heaviest-exists (g .m) w (onPath g S u v) (λ i h. ok .position i (least .tree .inside i (path-inside g ok S (least .tree) u v i h))) k on
 
-  walk-heaviest : u ≢ v → (p : Walk g (g .rows) u v) → Heaviest w (uses p) (uppermost (g .m) (largest (g .m) w (uses p)))
-  walk-heaviest d p =
-      let (k, on, _) = walk-crosses (λ j. eqb j u) p (apart u v d) in
-      heaviest-exists (g .m) w (uses p) (λ i h. ok .position i (uses-inside p i h)) k on
-
 pub dearest-stretch : DearestStretch
 dearest-stretch g ok w S least u v (lu, hu) (lv, hv) d =
     record {
       on-path = (_, path-heaviest g ok w S least u v lu hu lv hv d);
-      on-walk = λ p. (_, walk-heaviest g ok w S least u v lu hu lv hv d p);
+      on-walk = λ p. (_, walk-heaviest g ok w (g .rows) (λ i e. e) u v d p);
       no-heavier =
           λ e (on, _) p f (_, most).
           let (k, h, le) = stretch-row g ok w S least u v lu hu lv hv e on p in

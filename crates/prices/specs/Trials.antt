@@ -7,6 +7,7 @@ use mathlib.Core.List.{List, [], _∷_}
 use mathlib.Core.Option.{Option, none, some}
 use mathlib.Core.Path.{_≡_}
 use Rattle.graph.specs.Graph.{Graph}
+use Rattle.prices.specs.Breaking.{breaking, counted}
 use Rattle.prices.specs.Quote.{Totals, quote}
 use Rattle.rowset.specs.Sets.{upTo}
 
@@ -49,6 +50,43 @@ QuotesHold =
     ∷ quoted (negsuc 4) (pos 2) ∷ none
     ∷ [])
 
+-- 1-2 of 2, 2-3 of 3, 1-3 of 7, 3-4 of -1
+abbrev tail : Graph
+tail = graph 4 (1 ∷ 2 ∷ 1 ∷ 3 ∷ []) (2 ∷ 3 ∷ 3 ∷ 4 ∷ [])
+
+abbrev tailPrices : ℕ → ℤ
+tailPrices = prices (pos 2 ∷ pos 3 ∷ pos 7 ∷ negsuc 0 ∷ [])
+
+-- 1-2 three times, of -3, 8 and -1
+abbrev triple : Graph
+triple = graph 2 (1 ∷ 2 ∷ 1 ∷ []) (2 ∷ 1 ∷ 2 ∷ [])
+
+abbrev triplePrices : ℕ → ℤ
+triplePrices = prices (negsuc 2 ∷ pos 8 ∷ negsuc 0 ∷ [])
+
+abbrev BreakingHolds : Type 0
+BreakingHolds =
+    (
+    -- the yard: each row; a ring with a row at its end, which no route goes around; three rows between two vertices
+    breaking yard yardPrices 1 ∷ breaking yard yardPrices 2 ∷ breaking yard yardPrices 3 ∷ breaking yard yardPrices 4 ∷ breaking yard yardPrices 5
+    ∷ breaking tail tailPrices 1 ∷ breaking tail tailPrices 2 ∷ breaking tail tailPrices 3 ∷ breaking tail tailPrices 4
+    ∷ breaking triple triplePrices 1 ∷ breaking triple triplePrices 2 ∷ breaking triple triplePrices 3
+    ∷ [])
+    ≡ (
+    some (pos 5) ∷ some (pos 5) ∷ some (pos 5) ∷ some (pos 5) ∷ some (pos 5)
+    ∷ some (pos 7) ∷ some (pos 7) ∷ some (pos 3) ∷ none
+    ∷ some (negsuc 0) ∷ some (negsuc 2) ∷ some (negsuc 2)
+    ∷ [])
+
+-- what of a price counts: up to the breaking price, and all of it where there is none
+abbrev CountedHolds : Type 0
+CountedHolds =
+    (
+    counted (some (pos 5)) (pos 4) ∷ counted (some (pos 5)) (pos 5) ∷ counted (some (pos 5)) (pos 9) ∷ counted (some (negsuc 2)) (negsuc 8) ∷ counted (some (negsuc 2)) (pos 0)
+    ∷ counted none (pos 9) ∷ counted none (negsuc 8)
+    ∷ [])
+    ≡ (pos 4 ∷ pos 5 ∷ pos 5 ∷ negsuc 8 ∷ negsuc 2 ∷ pos 9 ∷ negsuc 8 ∷ [])
+
 -- the theorem: each trial gives what it should
 abbrev pub TrialsHold : Type 0
-TrialsHold = QuotesHold
+TrialsHold = QuotesHold × BreakingHolds × CountedHolds
