@@ -25,7 +25,7 @@ use Rattle.rowset.specs.Searches.{largest}
 use Rattle.rowset.specs.Sets.{put, oneOf, uppermost}
 
 -- the uppermost of the largest rows of a set is a heaviest row of it, where the set has a row
-pub heaviest-exists : (m : ℕ) (w : ℕ → ℤ) (P : ℕ → Bool) → ((i : ℕ) → P i ≡ true → (1 ≤ i) × (i ≤ m)) → (i : ℕ) → P i ≡ true → Heaviest w P (uppermost m (largest m w P))
+heaviest-exists : (m : ℕ) (w : ℕ → ℤ) (P : ℕ → Bool) → ((i : ℕ) → P i ≡ true → (1 ≤ i) × (i ≤ m)) → (i : ℕ) → P i ≡ true → Heaviest w P (uppermost m (largest m w P))
 heaviest-exists m w P inside i e =
     let (l, u) = inside i e in
     let (j, q) = any-found m (largest m w P) (largest-exists m w P (any-some m i P l u e)) in
@@ -62,7 +62,7 @@ walk-heaviest g ok w S inside u v d p =
 
 module _ (g : Graph) (ok : Sound g) (w : ℕ → ℤ) (S : ℕ → Bool) (least : Least g w S) (u v : ℕ) (lu : 1 ≤ u) (hu : u ≤ g .n) (lv : 1 ≤ v) (hv : v ≤ g .n) where
   -- a row on the path of a least tree is no heavier than some row of any walk between the same vertices: one that crosses its cut
-  pub stretch-row : (e : ℕ) → onPath g S u v e ≡ true → (p : Walk g (g .rows) u v) → (f : ℕ) × (uses p f ≡ true) × (w e ≤ℤ w f)
+  stretch-row : (e : ℕ) → onPath g S u v e ≡ true → (p : Walk g (g .rows) u v) → (f : ℕ) × (uses p f ≡ true) × (w e ≤ℤ w f)
   unfolding oneOf
   stretch-row e on p =
       let (f, h, c) = walk-crosses (λ j. onPath g S 1 j e) p (ap (λ (P : ℕ → Bool). P e) (path-columns g ok S (least .tree) 1 u v (omega arith) (ok .vertex) lu hu lv hv) ∙ on) in

@@ -1,5 +1,6 @@
 -- The breaking price.
--- Main statements: its meaning by routes (no-route, route-least); the least total at a price, by the least tree without the row (level); the theorem (breaking-prices).
+-- Main statements: its meaning by routes (no-route, least-route); the least total by the least tree without the row (level); the exact effect of a new price (exact);
+-- the theorem (breaking-prices).
 -- Assumes nothing.
 use Prim.Native.Nat.{ℕ, _≤_}
 use lib.IntN.{ℤ, _+ℤ_, _-ℤ_}
@@ -49,6 +50,7 @@ lesser-second x y h = go (ltZ y x) refl
 
 -- where T is a least tree without row k, and e a heaviest row on its path between k's ends
 module _ (g : Graph) (ok : Sound g) (k : ℕ) (row : g .rows k ≡ true) (w : ℕ → ℤ) (T : ℕ → Bool) (least : Least (lacking g k) w T) (e : ℕ) (heavy : Heaviest w (onPath g T (g .a k) (g .b k)) e) where
+  -- T is a spanning tree of the whole graph, and lacks row k
   whole : SpanningTree g T
   whole = lacking-tree g k T (least .tree) .0
 
@@ -176,7 +178,7 @@ same-least g k w y alike T l =
     same S t = alike-without (g .m) k w y alike S (lacking-tree g k S t .1)
 
 module _ (g : Graph) (ok : Sound g) (joins : Connected g) (w : ℕ → ℤ) (k : ℕ) (row : g .rows k ≡ true) where
-  -- the breaking price is the least possible heaviest row of a route, and there is none where no route exists
+  -- without row k nothing is built, and no route exists; or a least tree, and the breaking price is the weight of a heaviest row e on its path between k's ends
   data Outcome : Type 0 where
     unbuilt : tree (lacking g k) w ≡ none → breaking g w k ≡ none → (Route g k → ⊥) → Outcome
     built : (T : ℕ → Bool) → Least (lacking g k) w T → (e : ℕ) → Heaviest w (onPath g T (g .a k) (g .b k)) e → breaking g w k ≡ some (w e) → Outcome
@@ -191,6 +193,7 @@ module _ (g : Graph) (ok : Sound g) (joins : Connected g) (w : ℕ → ℤ) (k :
           let least = built-least (lacking g k) (lacking-sound g k ok) w f q in
           built (f .chosen) least _ (path-heavy g ok k row w (f .chosen) least) (rw q)
 
+  -- there is none exactly where no route exists
   no-route : (breaking g w k ≡ none) ↔ (Route g k → ⊥)
   no-route = go outcome
     where
@@ -205,6 +208,7 @@ module _ (g : Graph) (ok : Sound g) (joins : Connected g) (w : ℕ → ℤ) (k :
       let (q, f, most, there) = s .some-route in
       omega (arith, integers, r .every-route q f most, s .every-route p e heavy)
 
+  -- it is the least possible heaviest row of a route
   least-route : (x : ℤ) → (breaking g w k ≡ some x) ↔ LeastHeaviest g w k x
   least-route x = go outcome
     where
@@ -243,7 +247,7 @@ module _ (g : Graph) (ok : Sound g) (joins : Connected g) (w : ℕ → ℤ) (k :
         minus x (w k),
       )
 
-  -- by the tree without row k at both prices
+  -- otherwise by what counts of the two prices: the tree without row k gives both least totals
   part-change : (T : ℕ → Bool) → Least (lacking g k) w T → (e : ℕ) → Heaviest w (onPath g T (g .a k) (g .b k)) e → (x : ℤ) (t : Totals) → quote g w k x ≡ some t → (t .after -ℤ t .before) ≡ (lesser x (w e) -ℤ lesser (w k) (w e))
   part-change T least e heavy x t h =
       let y = priced w k x in
@@ -267,6 +271,7 @@ module _ (g : Graph) (ok : Sound g) (joins : Connected g) (w : ℕ → ℤ) (k :
         minus (lesser x (w e)) (lesser (w k) (w e)),
       )
 
+  -- the exact effect
   exact : (x : ℤ) (t : Totals) → quote g w k x ≡ some t → (t .after -ℤ t .before) ≡ (counted (breaking g w k) x -ℤ counted (breaking g w k) (w k))
   unfolding counted
   exact x t h = go outcome
@@ -276,6 +281,7 @@ module _ (g : Graph) (ok : Sound g) (joins : Connected g) (w : ℕ → ℤ) (k :
       go (built T least e heavy b) = rw b (part-change T least e heavy x t h)
 
 module _ (g : Graph) (ok : Sound g) (joins : Connected g) (w : ℕ → ℤ) (k : ℕ) (row : g .rows k ≡ true) where
+  -- the row's own price plays no part
   own-price : (x : ℤ) → breaking g (priced w k x) k ≡ breaking g w k
   own-price x = go (outcome g ok joins w k row)
     where
