@@ -1,22 +1,20 @@
 -- Laws of the refusals of striking, MERGE and adding a row, and of what each leaves behind, case by case.
 -- Assumes nothing.
 use Prim.Native.Nat.{ℕ}
-use borrow.Author.Tests.{eq-eqb, ne-eqb, eqb-true, not-false}
-use lib.Dec.{eqb}
+use borrow.Author.Tests.{eq-eqb, ne-eqb}
 use lib.ListN.{length}
-use mathlib.Core.Bool.{Bool, true, false, not, _||_}
+use mathlib.Core.Bool.{true, false}
 use mathlib.Core.List.{List}
 use mathlib.Core.Logic.{_≢_}
 use mathlib.Core.Option.{Option, none, some}
-use mathlib.Core.Path.{_≡_, refl, sym, ap, _∙_}
+use mathlib.Core.Path.{_≡_}
 use Rattle.refusal.specs.declared.Refusal.{Refusal}
 use Rattle.rowset.specs.Sets.{takeOut, count}
 use Rattle.rowset.specs.Words.{columnWords, inWords}
-use Rattle.rowset.proofs.Laws.{clash}
 use Rattle.star.specs.Refusals.{maxRows, cause, orElse, refusal}
-use Rattle.working.specs.Changes.{afterwards, wordsOf, struckWords, packedTable, merged, roomMade, newRow, withNewRow, added, unadded, addedAt, answered, addAnswer}
-use Rattle.working.specs.Tables.{Working, inUse, wrongSizes, badSizes, tableFull, notInUse, strikeRefusal, mergeRefusal, addRefusal}
-use Rattle.working.proofs.Tables.{Sized}
+use Rattle.worktable.specs.Changes.{afterwards, wordsOf, struckWords, packedTable, merged, roomMade, newRow, withNewRow, added, unadded, addedAt, answered, addAnswer}
+use Rattle.worktable.specs.Tables.{Working, inUse, badSizes, tableFull, notInUse, strikeRefusal, mergeRefusal, addRefusal}
+use Rattle.worktable.proofs.Tables.{wrong}
 
 -- what is left, where something is refused and where nothing is
 pub kept-old : {A : Type 0} (o : Option Refusal) (r : Refusal) (new old : A) → o ≡ some r → afterwards o new old ≡ old
@@ -56,32 +54,12 @@ module _ (words : List ℕ) (row : ℕ) where
 
 -- ── MERGE and adding ──
 
--- neither of two tests holds
-or-false-both : (x y : Bool) → (x || y) ≡ false → (x ≡ false) × (y ≡ false)
-or-false-both true y e = clash refl e
-or-false-both false y e = (refl, e)
-
-same : (n m : ℕ) → not (eqb n m) ≡ false → n ≡ m
-same n m e = eqb-true n m (not-false _ e)
-
 module _ (t : Working) where
-  -- the lengths that cause 3 looks at
-  abbrev pub wrong : Bool
-  wrong = wrongSizes (length (t .words)) (length (t .left)) (length (t .right)) (length (t .weight)) (length (t .numbers))
-
-  pub sizes-sized : wrong ≡ false → Sized t × (length (t .numbers) ≡ maxRows)
-  sizes-sized e =
-      let h4 = or-false-both _ _ e in
-      let h3 = or-false-both _ _ (h4 .0) in
-      let h2 = or-false-both _ _ (h3 .0) in
-      let h1 = or-false-both _ _ (h2 .0) in
-      (record { words = same _ _ (h1 .0); left = same _ _ (h1 .1); right = same _ _ (h2 .1); weight = same _ _ (h3 .1) }, same _ _ (h4 .1))
-
-  pub merge-wrong : wrong ≡ true → mergeRefusal t ≡ no 3
+  pub merge-wrong : wrong t ≡ true → mergeRefusal t ≡ no 3
   unfolding mergeRefusal badSizes cause
   merge-wrong e = rw e
 
-  pub merge-done : wrong ≡ false → mergeRefusal t ≡ none
+  pub merge-done : wrong t ≡ false → mergeRefusal t ≡ none
   unfolding mergeRefusal badSizes cause
   merge-done e = rw e
 
@@ -97,11 +75,11 @@ module _ (t : Working) where
   unfolding addRefusal tableFull cause orElse refusal
   add-full e = rw (eq-eqb (count maxRows (inUse t)) maxRows e)
 
-  pub add-wrong : count maxRows (inUse t) ≢ maxRows → wrong ≡ true → addRefusal t ≡ no 3
+  pub add-wrong : count maxRows (inUse t) ≢ maxRows → wrong t ≡ true → addRefusal t ≡ no 3
   unfolding addRefusal tableFull badSizes cause orElse refusal
   add-wrong h e = rw (ne-eqb (count maxRows (inUse t)) maxRows h, e)
 
-  pub add-done : count maxRows (inUse t) ≢ maxRows → wrong ≡ false → addRefusal t ≡ none
+  pub add-done : count maxRows (inUse t) ≢ maxRows → wrong t ≡ false → addRefusal t ≡ none
   unfolding addRefusal tableFull badSizes cause orElse refusal
   add-done h e = rw (ne-eqb (count maxRows (inUse t)) maxRows h, e)
 

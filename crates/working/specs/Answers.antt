@@ -1,6 +1,6 @@
 -- What an add's answer says, by its cases.
 -- Assumes nothing.
-use Rattle.working.specs.Changes.{AddAnswer, unadded, addedAt}
+use Rattle.worktable.specs.Changes.{AddAnswer, unadded, addedAt}
 use Rattle.working.specs.declared.Added.{Added}
 use Rattle.working.specs.declared.Added.the-variants.{At, Refused}
 

@@ -1,5 +1,1 @@
-pub mod Tables
-pub mod Packing
-pub mod Changes
 pub mod Answers
-pub mod Trials

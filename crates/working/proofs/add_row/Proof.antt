@@ -1,16 +1,17 @@
 -- `working::add_row` meets its contract, case by case. Assumes nothing.
 use borrow.Author.Needs.{needs}
-use mathlib.Core.Bool.{true, false}
+use mathlib.Core.Bool.{false}
 use mathlib.Core.Logic.{_≢_}
 use mathlib.Core.Path.{_≡_, sym, ap, _∙_}
 use native.Mathlib.Omega.{arith}
 use Rattle.rowset.specs.Sets.{count}
 use Rattle.star.specs.Refusals.{maxRows}
 use Rattle.working.specs.Answers.{answerOf}
-use Rattle.working.specs.Changes.{AddAnswer, unadded, addedAt, newRow, roomMade}
-use Rattle.working.specs.Tables.{Working, working, inUse}
-use Rattle.working.proofs.Refusing.{wrong, sizes-sized, add-full, add-wrong, add-done, unadded-answer, added-answer, unadded-table, added-table}
-use Rattle.working.proofs.Tables.{Room, room-made, row-added}
+use Rattle.worktable.specs.Changes.{unadded, addedAt, newRow}
+use Rattle.worktable.specs.Tables.{Working, working, inUse}
+use Rattle.working.proofs.Refusing.{add-full, add-wrong, add-done, unadded-answer, added-answer, unadded-table, added-table}
+use Rattle.working.proofs.Tables.{row-added}
+use Rattle.worktable.proofs.Tables.{wrong, sizes-sized, Room, room-made}
 use Rattle.working.proofs.add_row.Statement.{statement}
 use Rattle.working.proofs.add_row.Tie as tie
 

@@ -1,6 +1,6 @@
 -- `working::clear_from` meets its contract. The loop's invariant: the bytes before k are the old ones before `from` and 0 after them. The measure is what is left of the column.
 -- Assumes nothing.
-use Prim.Native.Nat.{ℕ, suc, _+_, _-_, _≤_, _<_}
+use Prim.Native.Nat.{ℕ, _+_, _-_, _≤_, _<_}
 use lib.ListN.{length, take, set, replicate, length-set, replicate-append-replicate}
 use lib.Seq.{take-suc-set, take-all}
 use mathlib.Core.List.{List, [], _∷_, _++_, append-assoc, append-nil}

@@ -2,12 +2,12 @@
 -- Assumes nothing.
 use Prim.Native.Nat.{_-_, _≤_}
 use borrow.Author.Needs.{needs}
-use mathlib.Core.Path.{_≡_, sym, _∙_}
+use mathlib.Core.Path.{_≡_, sym}
 use native.Mathlib.Omega.{arith}
 use Rattle.rowset.specs.Sets.{count}
 use Rattle.rowset.proofs.Laws.{count-bound}
 use Rattle.slice.specs.Slices.{component}
-use Rattle.working.proofs.Packing.{bool-small, count-none, count-more}
+use Rattle.working.proofs.Loops.{bool-small, count-none, count-more}
 use Rattle.working.proofs.count_rows.Statement.{statement}
 use Rattle.working.proofs.count_rows.Tie as tie
 

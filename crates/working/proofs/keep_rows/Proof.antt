@@ -1,15 +1,15 @@
 -- `working::keep_rows` meets its contract. The loop's invariant: of the bytes before b those that belong stand at the top, and the bytes from b on are as they were.
 -- The measure is what is left of the column. Assumes nothing.
-use Prim.Native.Nat.{_-_, _*_}
+use Prim.Native.Nat.{_-_}
 use borrow.Author.Needs.{needs}
 use lib.ListN.{length, take}
 use lib.Seq.{take-all}
-use mathlib.Core.Path.{_≡_, refl, sym, ap, _∙_}
+use mathlib.Core.Path.{_≡_, ap, _∙_}
 use native.Mathlib.Nat.{div-le-self}
 use native.Mathlib.Omega.{arith}
 use Rattle.slice.specs.Slices.{component}
-use Rattle.working.specs.Packing.{ofRows, keptFrom, keptRows}
-use Rattle.working.proofs.Packing.{bool-small, Keeping, keeping-none, keeping-more}
+use Rattle.worktable.specs.Packing.{ofRows, keptFrom, keptRows}
+use Rattle.working.proofs.Loops.{bool-small, Keeping, keeping-none, keeping-more}
 use Rattle.working.proofs.keep_rows.Statement.{statement}
 use Rattle.working.proofs.keep_rows.Tie as tie
 

@@ -5,8 +5,8 @@ use borrow.Author.Needs.{needs}
 use mathlib.Core.Path.{_≡_, sym, _∙_}
 use native.Mathlib.Omega.{arith}
 use Rattle.slice.specs.Slices.{component}
-use Rattle.working.specs.Packing.{lowermost}
-use Rattle.working.proofs.Packing.{lowermost-none, lowermost-more}
+use Rattle.worktable.specs.Packing.{lowermost}
+use Rattle.working.proofs.Loops.{lowermost-none, lowermost-more}
 use Rattle.working.proofs.last_row.Statement.{statement}
 use Rattle.working.proofs.last_row.Tie as tie
 

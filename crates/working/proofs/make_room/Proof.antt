@@ -1,9 +1,7 @@
 -- `working::make_room` meets its contract: the table is packed, or has its own numbers. Assumes nothing.
 use borrow.Author.Needs.{needs}
-use mathlib.Core.Bool.{Bool}
-use mathlib.Core.Path.{_≡_, sym, _∙_}
+use mathlib.Core.Path.{sym, _∙_}
 use Rattle.slice.specs.Slices.{component}
-use Rattle.star.specs.Refusals.{maxRows}
 use Rattle.working.proofs.Tables.{room-packed, room-there}
 use Rattle.working.proofs.make_room.Statement.{statement}
 use Rattle.working.proofs.make_room.Tie as tie

@@ -1,11 +1,12 @@
 -- `working::merge` meets its contract, case by case. Assumes nothing.
 use borrow.Author.Needs.{needs}
-use mathlib.Core.Bool.{true, false}
+use mathlib.Core.Bool.{false}
 use mathlib.Core.Option.{some}
 use mathlib.Core.Path.{_≡_, sym, ap, _∙_}
 use Rattle.refusal.specs.Outcomes.{refusalOf}
-use Rattle.working.specs.Tables.{Working, working}
-use Rattle.working.proofs.Refusing.{wrong, sizes-sized, merge-wrong, merge-done, unmerged, merged-packed}
+use Rattle.worktable.specs.Tables.{Working, working}
+use Rattle.working.proofs.Refusing.{merge-wrong, merge-done, unmerged, merged-packed}
+use Rattle.worktable.proofs.Tables.{wrong, sizes-sized}
 use Rattle.working.proofs.merge.Statement.{statement}
 use Rattle.working.proofs.merge.Tie as tie
 

@@ -8,14 +8,13 @@ use mathlib.Core.List.{List, [], _∷_}
 use mathlib.Core.Path.{_≡_, refl, sym, ap, ap₂, _∙_}
 use mir.Val.{boolByte}
 use native.Mathlib.Nat.{zero-add}
-use native.Mathlib.Numerals.{add-one}
 use native.Mathlib.Omega.{arith}
 use Rattle.rowset.specs.Sets.{count}
 use Rattle.rowset.proofs.Laws.{count-bound}
 use Rattle.slice.specs.Slices.{component}
 use Rattle.slice.proofs.Stores.{Filled, filled-none, filled-more, filled-all}
-use Rattle.working.specs.Packing.{newNumber, ownNumber, numbersFrom}
-use Rattle.working.proofs.Packing.{bool-small, count-none, count-more}
+use Rattle.worktable.specs.Packing.{newNumber, ownNumber, numbersFrom}
+use Rattle.working.proofs.Loops.{bool-small, count-none, count-more}
 use Rattle.working.proofs.number_rows.Statement.{statement}
 use Rattle.working.proofs.number_rows.Tie as tie
 

@@ -4,10 +4,10 @@ use borrow.Author.Needs.{needs}
 use lib.ListN.{length, take, replicate, length-take}
 use mathlib.Core.Bool.{Bool}
 use mathlib.Core.List.{List, _++_}
-use mathlib.Core.Path.{_≡_, sym, ap, ap₂, _∙_}
+use mathlib.Core.Path.{_≡_, ap, ap₂, _∙_}
 use native.Mathlib.Omega.{arith}
 use Rattle.slice.specs.Slices.{component}
-use Rattle.working.specs.Packing.{keptRows, packed}
+use Rattle.worktable.specs.Packing.{keptRows, packed}
 use Rattle.working.proofs.pack.Statement.{statement}
 use Rattle.working.proofs.pack.Tie as tie
 

@@ -1,9 +1,9 @@
 -- `working::pack_table` meets its contract: each part is packed. Assumes nothing.
 use borrow.Author.Needs.{needs}
-use mathlib.Core.Path.{_≡_, ap, _∙_}
+use mathlib.Core.Path.{ap, _∙_}
 use Rattle.rowset.specs.Sets.{upTo, both}
 use Rattle.slice.specs.Slices.{size, component}
-use Rattle.working.specs.Changes.{wordsOf}
+use Rattle.worktable.specs.Changes.{wordsOf}
 use Rattle.working.proofs.Tables.{table-packed}
 use Rattle.working.proofs.pack_table.Statement.{statement}
 use Rattle.working.proofs.pack_table.Tie as tie

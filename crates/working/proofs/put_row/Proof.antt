@@ -1,18 +1,18 @@
 -- `working::put_row` meets its contract: the row after the last one, in each part. Assumes nothing.
-use Prim.Native.Nat.{suc, _+_, _*_, _≤_}
+use Prim.Native.Nat.{_+_, _*_, _≤_}
 use borrow.Author.Needs.{needs}
 use lib.ListN.{length}
-use mathlib.Core.Path.{_≡_, sym, ap, _∙_}
+use mathlib.Core.Path.{_≡_, ap, _∙_}
 use native.Mathlib.Numerals.{add-one}
 use native.Mathlib.Omega.{arith}
 use Rattle.rowset.specs.Sets.{put}
 use Rattle.rowset.specs.Words.{inWords}
 use Rattle.rowset.proofs.Laws.{in-upTo}
-use Rattle.slice.specs.Slices.{component, size}
+use Rattle.slice.specs.Slices.{size}
 use Rattle.star.specs.Refusals.{maxRows}
-use Rattle.working.specs.Changes.{wordsOf}
-use Rattle.working.specs.Packing.{lowermost}
-use Rattle.working.proofs.Words.{written-true}
+use Rattle.worktable.specs.Changes.{wordsOf}
+use Rattle.worktable.specs.Packing.{lowermost}
+use Rattle.working.proofs.Loops.{written-true}
 use Rattle.working.proofs.put_row.Statement.{statement}
 use Rattle.working.proofs.put_row.Tie as tie
 

@@ -6,7 +6,7 @@ use lib.ListN.{getD}
 use mathlib.Core.Path.{_≡_}
 use native.Mathlib.Omega.{arith}
 use Rattle.slice.proofs.Stores.{Filled, filled-none, filled-more, filled-all}
-use Rattle.working.proofs.Words.{same-words}
+use Rattle.worktable.proofs.Words.{same-words}
 use Rattle.working.proofs.rows_in_use.Statement.{statement}
 use Rattle.working.proofs.rows_in_use.Tie as tie
 

@@ -8,7 +8,7 @@ use Rattle.refusal.specs.Outcomes.{refusalOf}
 use Rattle.rowset.specs.Sets.{takeOut}
 use Rattle.rowset.specs.Words.{inWords}
 use Rattle.slice.proofs.Laws.{written-false}
-use Rattle.working.specs.Changes.{wordsOf}
+use Rattle.worktable.specs.Changes.{wordsOf}
 use Rattle.working.proofs.Refusing.{strike-absent, strike-wrong, strike-done, unstruck, struck}
 use Rattle.working.proofs.strike.Statement.{statement}
 use Rattle.working.proofs.strike.Tie as tie

@@ -7,7 +7,7 @@ use mathlib.Core.Path.{_≡_, sym, ap, _∙_}
 use native.Mathlib.Nat.{mod-eq-of-lt}
 use native.Mathlib.Omega.{arith}
 use Rattle.star.specs.Door.{bytesOf}
-use Rattle.working.specs.Packing.{withRow}
+use Rattle.worktable.specs.Packing.{withRow}
 use Rattle.working.proofs.write_end.Statement.{statement}
 use Rattle.working.proofs.write_end.Tie as tie
 

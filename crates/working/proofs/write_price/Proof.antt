@@ -1,7 +1,7 @@
 -- `working::write_price` meets its contract: the four bytes of a price, written out. Assumes nothing.
 use borrow.Author.Needs.{needs}
 use Rattle.star.specs.Door.{bytesOf}
-use Rattle.working.specs.Packing.{withRow}
+use Rattle.worktable.specs.Packing.{withRow}
 use Rattle.working.proofs.write_price.Statement.{statement}
 use Rattle.working.proofs.write_price.Tie as tie
 

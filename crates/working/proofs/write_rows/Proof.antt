@@ -1,15 +1,14 @@
 -- `working::write_rows` meets its contract: sixteen words are one column. Assumes nothing.
-use Prim.Native.Nat.{ℕ, _*_, _≤_}
+use Prim.Native.Nat.{ℕ, _≤_}
 use borrow.Author.Needs.{needs}
-use lib.ListN.{length, drop, drop-of-length-le}
+use lib.ListN.{length, drop-of-length-le}
 use mathlib.Core.Bool.{Bool}
 use mathlib.Core.List.{List, _++_, append-nil}
 use mathlib.Core.Path.{_≡_, ap, _∙_}
 use native.Mathlib.Omega.{arith}
 use Rattle.matrix.specs.Matrix.{withColumn, hasColumn}
-use Rattle.rowset.specs.Words.{columnWords, columnWordsFrom}
 use Rattle.slice.specs.Slices.{component}
-use Rattle.working.specs.Changes.{wordsOf}
+use Rattle.worktable.specs.Changes.{wordsOf}
 use Rattle.working.proofs.write_rows.Statement.{statement}
 use Rattle.working.proofs.write_rows.Tie as tie
 

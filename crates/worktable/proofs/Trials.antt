@@ -6,10 +6,10 @@ use Rattle.rowset.specs.Trials.{these}
 use Rattle.rowset.specs.Words.{wordAt, columnWordsFrom, inWords}
 use Rattle.star.specs.Door.{bytesOf}
 use Rattle.star.specs.Refusals.{cause, orElse, refusal}
-use Rattle.working.specs.Changes.{afterwards, struckWords, packedTable, merged, unpackedTable, packedIf, roomMade, newRow, withNewRow, added, answered, addAnswer}
-use Rattle.working.specs.Packing.{keptFrom, keptRows, packed, newNumber, ownNumber, numbersFrom, lowermost, withRow}
-use Rattle.working.specs.Tables.{badSizes, tableFull, notInUse, strikeRefusal, mergeRefusal, addRefusal}
-use Rattle.working.specs.Trials.{TrialsHold}
+use Rattle.worktable.specs.Changes.{afterwards, struckWords, packedTable, merged, unpackedTable, packedIf, roomMade, newRow, withNewRow, added, answered, addAnswer}
+use Rattle.worktable.specs.Packing.{keptFrom, keptRows, packed, newNumber, ownNumber, numbersFrom, lowermost, withRow}
+use Rattle.worktable.specs.Tables.{badSizes, tableFull, notInUse, strikeRefusal, mergeRefusal, addRefusal}
+use Rattle.worktable.specs.Trials.{TrialsHold}
 
 pub trials-hold : TrialsHold
 unfolding empty upTo put takeOut sum count these wordAt columnWordsFrom inWords bytesOf cause orElse refusal afterwards struckWords packedTable merged unpackedTable packedIf roomMade newRow withNewRow added answered addAnswer keptFrom keptRows packed newNumber ownNumber numbersFrom lowermost withRow badSizes tableFull notInUse strikeRefusal mergeRefusal addRefusal

@@ -1,20 +1,19 @@
--- Laws of sets of rows as words: a slice of the words lent, the components of the words of a set, and the last row of a set.
+-- Laws of sets of rows as words: a slice of the words lent, and the components of the words of a set.
 -- Assumes nothing.
-use Prim.Native.Nat.{ℕ, zero, suc, _-_, _/_, _%_, _<_, _≤_}
+use Prim.Native.Nat.{ℕ, _-_, _/_, _%_, _<_}
 use lib.ListN.{getD}
-use mathlib.Core.Bool.{Bool, true, false, cond, _&&_}
+use mathlib.Core.Bool.{Bool, true, false, _&&_}
 use mathlib.Core.List.{List}
 use mathlib.Core.Path.{_≡_, refl, sym, ap, _∙_, fun-ext}
 use native.Mathlib.Omega.{arith}
 use Rattle.matrix.proofs.Laws.{component-words}
-use Rattle.rowset.specs.Sets.{upTo, both, put, count}
+use Rattle.rowset.specs.Sets.{upTo, both, count}
 use Rattle.rowset.specs.Words.{inWords}
 use Rattle.rowset.proofs.Laws.{upTo-in, both-inside, count-bound}
-use Rattle.slice.specs.Slices.{size, bit, component, written}
+use Rattle.slice.specs.Slices.{size, bit, component}
 use Rattle.slice.specs.declared.Slice.{Slice}
 use Rattle.slice.proofs.Sets.{upTo-bounds}
-use Rattle.working.specs.Changes.{wordsOf}
-use Rattle.working.specs.Packing.{lowermost}
+use Rattle.worktable.specs.Changes.{wordsOf}
 
 -- a slice whose sixteen words are the first of l has the components of l
 pub same-words : (x : Slice) (l : List ℕ) → ((k : ℕ) → k < 16 → getD (x .words) k 0 ≡ getD l k 0) → component x ≡ inWords l
@@ -32,22 +31,3 @@ words-hold p = sym (same-words (record { words = wordsOf p }) (wordsOf p) (λ k 
 -- the words of the first rows, as many as belong
 pub first-rows : (p : ℕ → Bool) → both (upTo size) (upTo (count size p)) ≡ upTo (count size p)
 first-rows p = both-inside size (upTo (count size p)) (λ i e. let h = upTo-in (count size p) i e in (h .0, omega (arith, h .1, count-bound size p)))
-
--- a row written in a slice
-pub written-true : (p : ℕ → Bool) (k : ℕ) → upTo size k ≡ true → written p k true ≡ put p k
-unfolding written
-written-true p k e = rw e
-
--- the last row of 1 to m is at most m, and below it where row m does not belong
-pub lowermost-most : (m : ℕ) (p : ℕ → Bool) → lowermost m p ≤ m
-unfolding lowermost
-lowermost-most zero p = omega arith
-lowermost-most (suc m) p = go (p (suc m)) (lowermost-most m p)
-  where
-    go : (b : Bool) → lowermost m p ≤ m → cond b (suc m) (lowermost m p) ≤ suc m
-    go true h = omega arith
-    go false h = omega arith
-
-pub lowermost-below : (m : ℕ) (p : ℕ → Bool) → p (suc m) ≡ false → lowermost (suc m) p < suc m
-unfolding lowermost
-lowermost-below m p e = rw e (omega (arith, lowermost-most m p))

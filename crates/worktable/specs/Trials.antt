@@ -10,9 +10,9 @@ use Rattle.refusal.specs.declared.Refusal.{Refusal}
 use Rattle.rowset.specs.Sets.{empty, upTo}
 use Rattle.rowset.specs.Trials.{these}
 use Rattle.star.specs.Trials.{small, because}
-use Rattle.working.specs.Changes.{AddAnswer, unadded, addedAt, wordsOf, struckWords, merged, added, addAnswer}
-use Rattle.working.specs.Packing.{packed, newNumber, ownNumber, numbersFrom, lowermost, withRow}
-use Rattle.working.specs.Tables.{Working, working, strikeRefusal, mergeRefusal, addRefusal}
+use Rattle.worktable.specs.Changes.{AddAnswer, unadded, addedAt, wordsOf, struckWords, merged, added, addAnswer}
+use Rattle.worktable.specs.Packing.{packed, newNumber, ownNumber, numbersFrom, lowermost, withRow}
+use Rattle.worktable.specs.Tables.{Working, working, strikeRefusal, mergeRefusal, addRefusal}
 
 -- ── Columns of few rows ──
 

@@ -1,17 +1,19 @@
--- Laws of packing: the elements that are kept of a list, and a column that is packed in place.
+-- Laws of the loops over a column, a slice and the numbers: a truth value as a number, one row more, and a column that is packed in place.
 -- Assumes nothing.
-use Prim.Native.Nat.{ℕ, zero, suc, _+_, _-_, _<_, _≤_}
+use Prim.Native.Nat.{ℕ, suc, _+_, _<_, _≤_}
 use mathlib.Core.Bool.{Bool, true, false, cond}
 use mathlib.Core.List.{List, [], _∷_, _++_, append-nil}
 use mathlib.Core.Path.{_≡_, refl, sym, ap, ap₂, _∙_}
 use mir.Val.{boolByte}
-use native.Mathlib.Nat.{add-zero, zero-add}
+use native.Mathlib.Nat.{add-zero}
 use native.Mathlib.Numerals.{add-one}
 use native.Mathlib.Omega.{arith}
 use lib.ListN.{length, getD, take, drop, set, length-append, length-set}
-use lib.Seq.{take-suc, take-suc-set, take-set-le, drop-set-lt, getD-drop, drop-drop, length-take-le}
-use Rattle.rowset.specs.Sets.{sum, count}
-use Rattle.working.specs.Packing.{keptFrom, lowermost}
+use lib.Seq.{take-suc-set, take-set-le, drop-set-lt, getD-drop, drop-drop}
+use Rattle.rowset.specs.Sets.{upTo, put, sum, count}
+use Rattle.slice.specs.Slices.{size, written}
+use Rattle.worktable.specs.Packing.{keptFrom, lowermost}
+use Rattle.worktable.proofs.Packing.{kept-suc}
 
 -- a truth value as a number
 pub bool-number : (b s : Bool) → b ≡ s → boolByte b ≡ cond s 1 0
@@ -39,26 +41,6 @@ lowermost-none p = refl
 pub lowermost-more : (p : ℕ → Bool) (i last : ℕ) → last ≡ lowermost i p → cond (p (i + 1)) (i + 1) last ≡ lowermost (i + 1) p
 unfolding lowermost
 lowermost-more p i last e = rw (e, add-one i)
-
-module _ (p : ℕ → Bool) where
-  -- what is kept of two lists, one after the other
-  pub kept-append : (i : ℕ) (l m : List ℕ) → keptFrom p i (l ++ m) ≡ keptFrom p i l ++ keptFrom p (i + length l) m
-  unfolding keptFrom
-  kept-append i [] m = ap (λ k. keptFrom p k m) (sym (add-zero i))
-  kept-append i (x ∷ l) m = go (p i) (kept-append (suc i) l m ∙ ap (λ k. keptFrom p (suc i) l ++ keptFrom p k m) (omega arith))
-    where
-      go : (b : Bool) → keptFrom p (suc i) (l ++ m) ≡ keptFrom p (suc i) l ++ keptFrom p (i + suc (length l)) m
-          → cond b (x ∷ keptFrom p (suc i) (l ++ m)) (keptFrom p (suc i) (l ++ m)) ≡ cond b (x ∷ keptFrom p (suc i) l) (keptFrom p (suc i) l) ++ keptFrom p (i + suc (length l)) m
-      go true e = ap (λ r. x ∷ r) e
-      go false e = e
-
-  -- one element more
-  pub kept-suc : (l : List ℕ) (b : ℕ) → b < length l → keptFrom p 0 (take (suc b) l) ≡ keptFrom p 0 (take b l) ++ cond (p b) (getD l b 0 ∷ []) []
-  unfolding keptFrom
-  kept-suc l b h =
-      ap (keptFrom p 0) (take-suc l b 0 h)
-      ∙ kept-append 0 (take b l) (getD l b 0 ∷ [])
-      ∙ rw (zero-add, length-take-le b l (omega arith))
 
 -- Of a column l the bytes before b are looked at: those that belong stand at the top of the column, and the bytes from b on are as they were.
 pub record Keeping (p : ℕ → Bool) (l column : List ℕ) (kept b : ℕ) : Type 0 where
@@ -111,3 +93,8 @@ module _ (p : ℕ → Bool) (l column : List ℕ) (kept b : ℕ) (k : Keeping p 
   -- one byte more
   pub keeping-more : (s : Bool) → s ≡ p b → Keeping p l (set column kept (getD column b 0)) (kept + boolByte s) (b + 1)
   keeping-more s e = rw (bool-number s (p b) e, add-one b) (stored (p b) refl)
+
+-- a row written in a slice
+pub written-true : (p : ℕ → Bool) (k : ℕ) → upTo size k ≡ true → written p k true ≡ put p k
+unfolding written
+written-true p k e = rw e

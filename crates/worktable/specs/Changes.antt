@@ -4,13 +4,12 @@ use Prim.Native.Nat.{ℕ, suc}
 use mathlib.Core.Bool.{Bool, true, false}
 use mathlib.Core.List.{List}
 use mathlib.Core.Option.{Option, none, some}
-use lib.Dec.{eqb}
 use Rattle.refusal.specs.declared.Refusal.{Refusal}
 use Rattle.rowset.specs.Sets.{upTo, put, takeOut, count}
 use Rattle.rowset.specs.Words.{columnWords, columnWordsFrom, inWords}
 use Rattle.star.specs.Refusals.{maxRows}
-use Rattle.working.specs.Packing.{packed, newNumber, ownNumber, numbersFrom, lowermost, withRow}
-use Rattle.working.specs.Tables.{Working, inUse, strikeRefusal, mergeRefusal, addRefusal}
+use Rattle.worktable.specs.Packing.{packed, newNumber, ownNumber, numbersFrom, lowermost, withRow}
+use Rattle.worktable.specs.Tables.{Working, inUse, strikeRefusal, mergeRefusal, addRefusal}
 
 -- what is left: the new where nothing is refused, else the old
 unfoldable pub afterwards : {A : Type 0} → Option Refusal → A → A → A
