@@ -49,7 +49,7 @@ module _ (t : Working) where
       (record { words = same _ _ (h1 .0); left = same _ _ (h1 .1); right = same _ _ (h2 .1); weight = same _ _ (h3 .1) }, same _ _ (h4 .1))
 
 module _ (t : Working) (s : Sized t) where
-  packedTable-sized : Sized (packedTable t)
+  pub packedTable-sized : Sized (packedTable t)
   unfolding packedTable
   packedTable-sized =
       record {
