@@ -17,6 +17,7 @@ use Rattle.graph.proofs.Reach.{walk-joined}
 use Rattle.graph.specs.Builder.{Fragment, tree}
 use Rattle.graph.specs.Graph.{Sound, Inside, joined}
 use Rattle.graph.specs.Least.{Least}
+use Rattle.graph.specs.LeastTotal.{weighed, leastTotal}
 use Rattle.graph.specs.Tree.{SpanningTree, exchange}
 use Rattle.refusal.specs.declared.Refusal.{Refusal}
 use Rattle.rowset.proofs.Laws.{both-subset, uppermost-none, uppermost-some, uppermost-zero}
@@ -76,6 +77,11 @@ none-some e = omega arith
 claimed-inside : (c : Call) → Inside (graphOf c) (claimed c)
 unfolding graphOf claimed
 claimed-inside c i h = both-in (used c) (marked (c .mark)) i h .0
+
+-- the builder's answer where this is the least total, and where there is none
+pub stated : Option ℤ → BuildAnswer
+stated none = unbuilt (record { number = 11; place = 0 })
+stated (some weight) = treeBuilt weight
 
 -- the causes that CST seeks after the table's own
 claim-causes : (c : Call) → Accepted c → refusal (cstCauses c) ≡ refusal (badClaim c ∷ badCount c ∷ unjoined c 1 ∷ [])
@@ -155,7 +161,7 @@ module _ (c : Call) (a : Accepted c) where
       go (some r) e = declined r (ap (verdict c) e) (λ t. apart r (sym e ∙ not-refused t))
 
   -- a claim is least among claims exactly where its rows are least among sets of rows
-  least-claim : ClaimTree c → Least (graphOf c) (weightOf c) (claimed c) → LeastClaim c
+  pub least-claim : ClaimTree c → Least (graphOf c) (weightOf c) (claimed c) → LeastClaim c
   unfolding used graphOf weightOf claimWeight
   least-claim t l = record { tree = t; least = λ other o. l .least (claimed (withClaim c other)) (o .spanning) }
 
@@ -268,8 +274,17 @@ module _ (c : Call) (a : Accepted c) where
           (ap (built c) (after (some f) e) ∙ ap (λ x. treeBuilt (total (rowsOf c) (weightOf c) (chosenRows x))) e)
           (ap (builtMarks c) (after (some f) e) ∙ ap (λ x. claimOf (rowsOf c) (chosenRows x)) e)
 
+  -- the builder states the least total
+  pub mst1-total : mst1 c ≡ stated (leastTotal (graphOf c) (weightOf c))
+  unfolding graphOf leastTotal weighed stated
+  mst1-total =
+      elim growth [
+        | ungrown z x ↦ x ∙ ap (λ o. stated (weighed (graphOf c) (weightOf c) o)) (sym z)
+        | grown f z x k ↦ x ∙ ap (λ o. stated (weighed (graphOf c) (weightOf c) o)) (sym z)
+      ]
+
   -- the verdict on a least tree
-  least-passed : LeastClaim c → cst c ≡ passed (claimWeight c) (only c)
+  pub least-passed : LeastClaim c → cst c ≡ passed (claimWeight c) (only c)
   unfolding judged
   least-passed l =
       elim judgement [

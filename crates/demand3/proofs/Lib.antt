@@ -1,4 +1,5 @@
 pub mod Checker
 pub mod Demand3
 pub mod Only
+pub mod Stretch
 pub mod Bytes

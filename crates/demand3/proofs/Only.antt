@@ -14,7 +14,7 @@ use Rattle.demand3.specs.Only.{NoOther, EqualExchange, OnlyHolds}
 use Rattle.graph.proofs.Only.{unequalled-only, equal-exchange}
 use Rattle.graph.proofs.Path.{path-inside}
 use Rattle.graph.specs.Least.{Least}
-use Rattle.graph.specs.Only.{Unequalled}
+use Rattle.graph.specs.Only.{Only, Unequalled}
 use Rattle.graph.specs.Tree.{onPath, exchange}
 use Rattle.rowset.proofs.Laws.{clash, put-same, any-some, any-found, uppermost-none, uppermost-some}
 use Rattle.rowset.proofs.Searches.{sameAs-in, in-sameAs}
@@ -90,13 +90,13 @@ module _ (c : Call) (a : Accepted c) (least : LeastClaim c) where
       })
 
   -- no other tree of the same weight, as sets of rows and as claims
-  none-other : equalIn c ≡ 0 → NoOther c
+  none-other : Only (graphOf c) (weightOf c) S → NoOther c
   unfolding used both claimed claimWeight weightOf graphOf
-  none-other none other t same i r =
+  none-other alone other t same i r =
       same-byte other (c .mark) i (t .zero-or-one i r) (least .tree .zero-or-one i r) (alike i r)
     where
       rows : claimed (withClaim c other) ≡ S
-      rows = unequalled-only (graphOf c) (ok c a) (weightOf c) S rows-least (none-unequalled none) (claimed (withClaim c other)) (t .spanning) same
+      rows = alone (claimed (withClaim c other)) (t .spanning) same
 
       alike : (i : ℕ) → Row c i → marked other i ≡ marked (c .mark) i
       alike i r = rw (row-used c i r) at (ap (λ (p : ℕ → Bool). p i) rows)
@@ -111,9 +111,12 @@ module _ (c : Call) (a : Accepted c) (least : LeastClaim c) where
       (ap (λ (p : ℕ → Bool). p into) (exchanged-rows c a (least .tree) out into (x .out-row) (x .in-row)) ∙ put-same (takeOut S out) into) .1)
       (x .in-unmarked)
 
-  pub yes-none : only c ≡ true → NoOther c
+  pub yes-rows : only c ≡ true → Only (graphOf c) (weightOf c) S
   unfolding only
-  yes-none h = none-other (eqb-true (equalIn c) 0 h)
+  yes-rows h = unequalled-only (graphOf c) (ok c a) (weightOf c) S rows-least (none-unequalled (eqb-true (equalIn c) 0 h))
+
+  pub yes-none : only c ≡ true → NoOther c
+  yes-none h = none-other (yes-rows h)
 
   pub none-yes : NoOther c → only c ≡ true
   unfolding only
@@ -122,6 +125,9 @@ module _ (c : Call) (a : Accepted c) (least : LeastClaim c) where
       go : (i : ℕ) → equalIn c ≡ i → eqb (equalIn c) 0 ≡ true
       go zero e = eq-eqb (equalIn c) 0 e
       go (suc j) e = absurd (another (equalOut c) (equalIn c) (found-equal j e) n)
+
+  pub rows-yes : Only (graphOf c) (weightOf c) S → only c ≡ true
+  rows-yes alone = none-yes (none-other alone)
 
   pub no-equal : only c ≡ false → EqualExchange c (equalOut c) (equalIn c)
   unfolding only

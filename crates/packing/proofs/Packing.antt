@@ -1,0 +1,336 @@
+-- Packing keeps least totals, spanning trees, the builder's answer and passed claims: the rows in use are the same rows under other numbers.
+-- Assumes nothing.
+use Prim.Native.Nat.{ℕ, suc, _-_, _≤_}
+use lib.IntN.{ℤ}
+use lib.ListN.{length, getD, List·getD-eq-default}
+use mathlib.Core.Bool.{Bool, true, false}
+use mathlib.Core.List.{List}
+use mathlib.Core.Logic.{_↔_, by-cases}
+use mathlib.Core.Option.{none}
+use mathlib.Core.Path.{_≡_, refl, sym, ap, ap₂, _∙_, fun-ext, subst}
+use native.Mathlib.Decide.{decLe}
+use native.Mathlib.Omega.{arith}
+use Rattle.demand3.proofs.Demand3.{ok, least-claim, claim-least, least-passed, passed-least, mst1-total, stated, built-accepted, demand3}
+use Rattle.demand3.proofs.Only.{yes-rows, rows-yes}
+use Rattle.demand3.specs.Demand3.{ClaimTree, LeastClaim}
+use Rattle.graph.proofs.LeastTotal.{least-total-stays}
+use Rattle.graph.proofs.Renumbered.{renumbering-keeps}
+use Rattle.graph.specs.Least.{Least}
+use Rattle.graph.specs.LeastTotal.{leastTotal}
+use Rattle.graph.specs.Renumbered.{Renumbered, SameWeights, carried, Keeps as Kept}
+use Rattle.graph.specs.Tree.{SpanningTree}
+use Rattle.packing.proofs.Carrying.{carried-length, carried-moved, carried-none}
+use Rattle.packing.specs.Packing.{callOn, carriedTo, Carries, Keeps, MergingKeeps, MakingRoomKeeps}
+use Rattle.rowset.proofs.Laws.{in-upTo, upTo-in}
+use Rattle.rowset.proofs.Members.{same-truth}
+use Rattle.rowset.specs.Bytes.{inRow}
+use Rattle.rowset.specs.Integers.{signed}
+use Rattle.rowset.specs.Sets.{both, count}
+use Rattle.star.proofs.Accepted.{accepted-means, working-means, used-work}
+use Rattle.star.specs.Accepted.{GoodRows, AcceptedTable, WorkingTable}
+use Rattle.star.specs.Call.{Call, used, graphOf, weightOf, marked, claimed, claimWeight, withClaim}
+use Rattle.star.specs.Cst.{passed, only, cst}
+use Rattle.star.specs.Mst1.{treeBuilt, mst1, mst1Marks}
+use Rattle.star.specs.Refusals.{Accepted}
+use Rattle.worktable.proofs.Meaning.{held-inside, merging-merges, adding-adds}
+use Rattle.worktable.proofs.Numbers.{numbers-in-order}
+use Rattle.worktable.proofs.Tables.{Sized, packedTable-sized, room-sized}
+use Rattle.worktable.specs.Changes.{afterwards, merged, roomMade}
+use Rattle.worktable.specs.Meaning.{oldRow, numberOf, MergesTo, Unpacked}
+use Rattle.worktable.specs.Packing.{newNumber, ownNumber}
+use Rattle.worktable.specs.Tables.{Working, inUse, mergeRefusal}
+
+-- the rows in use of t are those of s under other numbers: row i of s is row place i of t, row j of t is row number j of s, and s lists these numbers
+record Moved (t s : Working) (place number : ℕ → ℕ) : Type 0 where
+  sized : Sized s
+  placed : (i : ℕ) → inUse s i ≡ true → (inUse t (place i) ≡ true) × (number (place i) ≡ i)
+  numbered : (j : ℕ) → inUse t j ≡ true → (inUse s (number j) ≡ true) × (place (number j) ≡ j)
+  unnumbered : (j : ℕ) → inUse t j ≡ false → number j ≡ 0
+  row : (j : ℕ) → inUse t j ≡ true
+      → (inRow 1 (s .left) (number j) ≡ inRow 1 (t .left) j) × (inRow 1 (s .right) (number j) ≡ inRow 1 (t .right) j) × (inRow 4 (s .weight) (number j) ≡ inRow 4 (t .weight) j)
+  listed : length (s .numbers) ≡ 1024
+  numbers : (j : ℕ) → 1 ≤ j → j ≤ 1024 → numberOf s j ≡ number j
+
+-- ── Two ways to move rows ──
+
+-- MERGE's: the rows in use go to the top in their order
+packed-moved : (t s : Working) → Sized s → MergesTo t s → Moved t s (oldRow 1024 (inUse t)) (newNumber (inUse t))
+packed-moved t s z m =
+    let X = inUse t in
+    let o = numbers-in-order 1024 X in
+    record {
+      sized = z;
+      placed = λ i e. let h = upTo-in (count 1024 X) i (rw (m .rows) at e) in let x = o .onto i (h .0) (h .1) in (x .1, x .2);
+      numbered =
+          λ j e.
+          let b = held-inside (t .words) j e in
+          let h = o .inside j (b .0) (b .1) e in
+          (rw (m .rows) (in-upTo (count 1024 X) (newNumber X j) (h .0) (h .1)), o .back j (b .0) (b .1) e);
+      unnumbered = o .outside;
+      row =
+          λ j e.
+          let b = held-inside (t .words) j e in
+          rw (m .numbers j (b .0) (b .1)) at (m .moved j e);
+      listed = m .listed;
+      numbers = m .numbers;
+    }
+
+-- a row in use has its own number, any other 0
+own : (X : ℕ → Bool) (i : ℕ) → X i ≡ true → ownNumber X i ≡ i
+unfolding ownNumber
+own X i e = rw e
+
+not-own : (X : ℕ → Bool) (i : ℕ) → X i ≡ false → ownNumber X i ≡ 0
+unfolding ownNumber
+not-own X i e = rw e
+
+-- the rows stay where they are
+kept-moved : (t s : Working) → Sized s → Unpacked t s → Moved t s (λ i. i) (ownNumber (inUse t))
+kept-moved t s z u =
+    record {
+      sized = z;
+      placed = λ i e. let f : inUse t i ≡ true = rw (u .words) at e in (f, own (inUse t) i f);
+      numbered = λ j e. rw (own (inUse t) j e, u .words) (e, refl);
+      unnumbered = not-own (inUse t);
+      row = λ j e. rw (own (inUse t) j e, u .left, u .right, u .weight) (refl, refl, refl);
+      listed = u .listed;
+      numbers = u .numbers;
+    }
+
+-- ── What stays where rows have moved ──
+
+-- what is built is a spanning tree
+built-tree : (c : Call) → Accepted c → (weight : ℤ) → mst1 c ≡ treeBuilt weight → ClaimTree (withClaim c (mst1Marks c))
+built-tree c a weight e =
+    let (single, q) = demand3 c a .builds weight e in
+    demand3 (withClaim c (mst1Marks c)) (built-accepted c a weight e) .passes .0 (weight, single, q) .tree
+
+module _ (n : ℕ) (t s : Working) (claim : List ℕ) (place number : ℕ → ℕ) (v : Moved t s place number) (table : AcceptedTable (callOn n t claim)) where
+  abbrev c : Call
+  c = callOn n t claim
+
+  before : WorkingTable n (t .words) (t .left) (t .right) (t .weight) claim
+  before = working-means n (t .words) (t .left) (t .right) (t .weight) claim .0 table
+
+  -- row i of s has the ends and the price of row place i of t
+  from-left : (i : ℕ) → inUse s i ≡ true → inRow 1 (s .left) i ≡ inRow 1 (t .left) (place i)
+  from-left i e = let (f, q) = v .placed i e in rw q at (v .row (place i) f .0)
+
+  from-right : (i : ℕ) → inUse s i ≡ true → inRow 1 (s .right) i ≡ inRow 1 (t .right) (place i)
+  from-right i e = let (f, q) = v .placed i e in rw q at (v .row (place i) f .1)
+
+  from-weight : (i : ℕ) → inUse s i ≡ true → inRow 4 (s .weight) i ≡ inRow 4 (t .weight) (place i)
+  from-weight i e = let (f, q) = v .placed i e in rw q at (v .row (place i) f .2)
+
+  -- s is accepted with every claim of 1,024 bytes
+  good : GoodRows n (s .left) (s .right) (λ i. inUse s i ≡ true)
+  good =
+      record {
+        left-end = λ i e. rw (from-left i e) (before .good-rows .left-end (place i) (v .placed i e .0));
+        right-end = λ i e. rw (from-right i e) (before .good-rows .right-end (place i) (v .placed i e .0));
+        apart = λ i e. rw (from-left i e, from-right i e) (before .good-rows .apart (place i) (v .placed i e .0));
+        unrepeated =
+            λ i k e f p.
+            let same : place i ≡ place k = before .good-rows .unrepeated (place i) (place k) (v .placed i e .0) (v .placed k f .0) (rw (from-left i e, from-right i e, from-left k f, from-right k f) at p) in
+            sym (v .placed i e .1) ∙ ap number same ∙ v .placed k f .1;
+      }
+
+  after : (other : List ℕ) → length other ≡ 1024 → AcceptedTable (callOn n s other)
+  after other l =
+      working-means n (s .words) (s .left) (s .right) (s .weight) other .1 (record {
+        vertices = before .vertices;
+        words-length = v .sized .words;
+        left-length = v .sized .left;
+        right-length = v .sized .right;
+        weight-length = v .sized .weight;
+        mark-length = l;
+        good-rows = good;
+      })
+
+  -- a row that is named by a number is in use
+  named : (j k : ℕ) → getD (s .numbers) j 0 ≡ k → 1 ≤ k → (inUse t (suc j) ≡ true) × (number (suc j) ≡ k)
+  named j k e l = by-cases (decLe (suc j) 1024) (λ h. go h (inUse t (suc j)) refl) (λ h. absurd (omega (arith, List·getD-eq-default (s .numbers) 0 (outside h))))
+    where
+      outside : (suc j ≤ 1024 → ⊥) → length (s .numbers) ≤ j
+      outside h = omega (arith, h, v .listed)
+
+      there : suc j ≤ 1024 → number (suc j) ≡ k
+      there h =
+          let at : suc j - 1 ≡ j = omega arith in
+          sym (v .numbers (suc j) (omega arith) h) ∙ ap (λ x. getD (s .numbers) x 0) at ∙ e
+
+      go : suc j ≤ 1024 → (b : Bool) → inUse t (suc j) ≡ b → (inUse t (suc j) ≡ true) × (number (suc j) ≡ k)
+      go h true q = (q, there h)
+      go h false q = absurd (omega (arith, there h, v .unnumbered (suc j) q))
+
+  -- the carried claim
+  carries : Carries t s claim
+  carries =
+      record {
+        as-long = carried-length (s .numbers) claim;
+        moved =
+            λ i e.
+            let b = held-inside (t .words) i e in
+            let q = v .numbers i (b .0) (b .1) in
+            let (f, p) = v .numbered i e in
+            let h = held-inside (s .words) (number i) f in
+            rw q (carried-moved (s .numbers) claim i (number i) (b .0) (rw (v .listed) (b .1)) (rw (before .mark-length) (b .1)) (h .0) (rw (before .mark-length) (h .1)) q
+            (λ j r. let (x, y) = named j (number i) r (h .0) in sym (v .numbered (suc j) x .1) ∙ ap place y ∙ p));
+        elsewhere =
+            λ k away.
+            carried-none (s .numbers) claim k
+            (λ j r l.
+            let (x, y) = named j k r l in
+            let b = held-inside (t .words) (suc j) x in
+            away (suc j) x (v .numbers (suc j) (b .0) (b .1) ∙ y));
+      }
+
+  byte : (i : ℕ) → inUse s i ≡ true → inRow 1 (carriedTo s claim) i ≡ inRow 1 claim (place i)
+  byte i e =
+      let (f, q) = v .placed i e in
+      let b = held-inside (t .words) (place i) f in
+      ap (inRow 1 (carriedTo s claim)) (sym (v .numbers (place i) (b .0) (b .1) ∙ q)) ∙ carries .moved (place i) f
+
+  -- ── The graphs ──
+
+  abbrev d : Call
+  d = callOn n s claim
+
+  abbrev e : Call
+  e = callOn n s (carriedTo s claim)
+
+  c-ok : Accepted c
+  c-ok = accepted-means c .1 table
+
+  d-ok : Accepted d
+  d-ok = accepted-means d .1 (after claim (before .mark-length))
+
+  e-ok : Accepted e
+  e-ok = accepted-means e .1 (after (carriedTo s claim) (carries .as-long ∙ before .mark-length))
+
+  in-t : used c ≡ inUse t
+  in-t = used-work n (t .words) (t .left) (t .right) (t .weight) claim
+
+  in-s : used d ≡ inUse s
+  in-s = used-work n (s .words) (s .left) (s .right) (s .weight) claim
+
+  renumbered : Renumbered (graphOf c) (graphOf d) place number
+  unfolding graphOf
+  renumbered =
+      record {
+        vertices = refl;
+        placed = rw (in-t, in-s) (v .placed);
+        numbered = rw (in-t, in-s) (v .numbered);
+        left = rw in-s from-left;
+        right = rw in-s from-right;
+      }
+
+  same : SameWeights (graphOf d) place (weightOf c) (weightOf d)
+  unfolding graphOf weightOf
+  same = rw in-s (λ i e. ap signed (from-weight i e))
+
+  stays : Kept (graphOf c) (graphOf d) place number (weightOf c) (weightOf d)
+  stays = renumbering-keeps (graphOf c) (graphOf d) (ok c c-ok) (ok d d-ok) place number renumbered (weightOf c) (weightOf d) same
+
+  least-total : leastTotal (graphOf d) (weightOf d) ≡ leastTotal (graphOf c) (weightOf c)
+  least-total = least-total-stays (graphOf c) (graphOf d) (ok c c-ok) (ok d d-ok) place number renumbered (weightOf c) (weightOf d) same
+
+  -- the builder states the least total
+  builds : mst1 d ≡ mst1 c
+  builds = mst1-total d d-ok ∙ ap stated least-total ∙ sym (mst1-total c c-ok)
+
+  trees : ((other : List ℕ) × ClaimTree (callOn n t other)) ↔ ((other : List ℕ) × ClaimTree (callOn n s other))
+  trees = (
+    λ (other, x). let (weight, q) = demand3 c c-ok .built other x in (_, built-tree d d-ok weight (builds ∙ q)),
+    λ (other, x). let (weight, q) = demand3 d d-ok .built other x in (_, built-tree c c-ok weight (sym builds ∙ q)),
+  )
+
+  -- ── The carried claim as a set of rows ──
+
+  claimed-carried : claimed e ≡ carried (graphOf d) place (claimed c)
+  unfolding claimed carried graphOf both marked
+  claimed-carried = fun-ext λ i. go i (inUse s i) refl
+    where
+      in-e : used e ≡ inUse s
+      in-e = used-work n (s .words) (s .left) (s .right) (s .weight) (carriedTo s claim)
+
+      go : (i : ℕ) (b : Bool) → inUse s i ≡ b → claimed e i ≡ carried (graphOf d) place (claimed c) i
+      go i true q = rw (in-e, in-s, in-t, q, v .placed i q .0, byte i q) refl
+      go i false q = rw (in-e, in-s, q) refl
+
+  tree : ClaimTree c → ClaimTree e
+  unfolding used graphOf
+  tree x =
+      record {
+        bytes = carries .as-long ∙ x .bytes;
+        zero-or-one = λ i (l, u, q). let (f, r) = v .placed i q in let b = held-inside (t .words) (place i) f in rw (byte i q) (x .zero-or-one (place i) (b .0, b .1, f));
+        spanning = subst (λ (Q : ℕ → Bool). SpanningTree (graphOf d) Q) (sym claimed-carried) (stays .there .spanning (claimed c) (x .spanning));
+      }
+
+  weight : ClaimTree c → claimWeight e ≡ claimWeight c
+  unfolding used graphOf weightOf claimWeight
+  weight x = rw claimed-carried (stays .there .weight (claimed c) (x .spanning .inside))
+
+  least : LeastClaim c → LeastClaim e
+  unfolding used graphOf weightOf
+  least l =
+      least-claim e e-ok (tree (l .tree))
+      (subst (λ (Q : ℕ → Bool). Least (graphOf d) (weightOf d) Q) (sym claimed-carried) (stays .there .least (claimed c) (claim-least c c-ok l)))
+
+  -- yes stays yes, and no stays no
+  alone : LeastClaim c → only e ≡ only c
+  unfolding used graphOf weightOf
+  alone l = same-truth _ _ back there
+    where
+      there : only c ≡ true → only e ≡ true
+      there q = rows-yes e e-ok (least l) (rw claimed-carried (stays .there .only (claimed c) (l .tree .spanning) (yes-rows c c-ok l q)))
+
+      back : only e ≡ true → only c ≡ true
+      back q =
+          let x = stays .there .spanning (claimed c) (l .tree .spanning) in
+          let o = stays .back .only (carried (graphOf d) place (claimed c)) x (rw claimed-carried at (yes-rows e e-ok (least l) q)) in
+          rows-yes c c-ok l (rw (stays .there-and-back (claimed c) (l .tree .spanning .inside)) at o)
+
+  passes : (weight : ℤ) (single : Bool) → cst c ≡ passed weight single → cst e ≡ passed weight single
+  passes x single q =
+      let (l, w, y) = passed-least c c-ok x single q in
+      least-passed e e-ok (least l) ∙ ap₂ passed (weight (l .tree) ∙ sym w) (alone l ∙ sym y)
+
+  keeps : Keeps n t s claim
+  keeps =
+      record {
+        accepted = after;
+        least-total = least-total;
+        trees = trees;
+        builds = builds;
+        carries = carries;
+        tree = tree;
+        weight = weight;
+        least = least;
+        passes = passes;
+      }
+
+-- ── MERGE, and room for a row ──
+
+-- the lengths of an accepted working table's parts
+sized : (n : ℕ) (t : Working) (claim : List ℕ) → AcceptedTable (callOn n t claim) → Sized t
+sized n t claim a =
+    let w = working-means n (t .words) (t .left) (t .right) (t .weight) claim .0 a in
+    record { words = w .words-length; left = w .left-length; right = w .right-length; weight = w .weight-length }
+
+merged-sized : (t : Working) → mergeRefusal t ≡ none → Sized t → Sized (merged t)
+unfolding merged afterwards
+merged-sized t e z = rw e (packedTable-sized t z)
+
+pub merging-keeps : MergingKeeps
+merging-keeps n t claim a e = keeps n t (merged t) claim _ _ (packed-moved t (merged t) (merged-sized t e (sized n t claim a)) (merging-merges t .done e)) a
+
+pub making-room-keeps : MakingRoomKeeps
+making-room-keeps n t claim a e = go (inUse t 1024) refl
+  where
+    z : Sized (roomMade t)
+    z = room-sized t (sized n t claim a)
+
+    go : (b : Bool) → inUse t 1024 ≡ b → Keeps n t (roomMade t) claim
+    go true q = keeps n t (roomMade t) claim _ _ (packed-moved t (roomMade t) z (adding-adds t 0 0 0 .packs e q)) a
+    go false q = keeps n t (roomMade t) claim _ _ (kept-moved t (roomMade t) z (adding-adds t 0 0 0 .keeps e q)) a
