@@ -34,9 +34,9 @@ use Rattle.demand3.proofs.Checker.{none-good, good-none, found-lighter}
 use Rattle.star.proofs.Claims.{byte-outside, marked-row, marked-claimOf, claimOf-length, claimOf-bytes, marked-exchanged, exchanged-bytes}
 use Rattle.star.specs.Accepted.{Row}
 use Rattle.star.specs.Call.{Call, rowsOf, graphOf, weightOf, marked, claimWeight, withClaim, claimOf, exchanged}
-use Rattle.star.specs.Cst.{Answer, refused, passed, lighter, rowIn, rowOut, judged, verdict, cst}
+use Rattle.star.specs.Cst.{Answer, refused, passed, lighter, rowIn, rowOut, only, judged, verdict, cst}
 use Rattle.demand3.specs.Demand3.{ClaimTree, LeastClaim, WorthExchange, ZeroOrOne, RightCount, Fault, bad-byte, bad-count, cut-off, Holds, Demand3}
-use Rattle.star.specs.Mst1.{chosenRows, treeRows, built, mst1, builtMarks, mst1Marks}
+use Rattle.star.specs.Mst1.{BuildAnswer, unbuilt, treeBuilt, chosenRows, treeRows, built, mst1, builtMarks, mst1Marks}
 use Rattle.star.specs.Refusals.{cause, causeAt, badVertices, tooManyRows, badLengths, badRow, badEnds, badClaim, badCount, unjoined, noTree, isNone, tableCauses, cstCauses, mst1Causes, refusal, orElse, Accepted}
 
 -- position 0 holds no byte
@@ -48,14 +48,17 @@ byte-none l = refl
 pub apart : (r : Refusal) → _≡_ {A = Option Refusal} (some r) none → ⊥
 apart r e = let z : _≡_ {A = ℕ} 0 1 = cc in omega arith
 
-pub refused-passed : {x : Answer} {r : Refusal} {weight : ℤ} → x ≡ refused r → x ≡ passed weight → ⊥
+pub refused-passed : {x : Answer} {r : Refusal} {weight : ℤ} {alone : Bool} → x ≡ refused r → x ≡ passed weight alone → ⊥
 refused-passed e h = let z : _≡_ {A = ℕ} 0 1 = cc in omega arith
 
 pub refused-lighter : {x : Answer} {r : Refusal} {out into saving : ℕ} → x ≡ refused r → x ≡ lighter out into saving → ⊥
 refused-lighter e h = let z : _≡_ {A = ℕ} 0 1 = cc in omega arith
 
-pub passed-lighter : {x : Answer} {weight : ℤ} {out into saving : ℕ} → x ≡ passed weight → x ≡ lighter out into saving → ⊥
+pub passed-lighter : {x : Answer} {weight : ℤ} {alone : Bool} {out into saving : ℕ} → x ≡ passed weight alone → x ≡ lighter out into saving → ⊥
 passed-lighter e h = let z : _≡_ {A = ℕ} 0 1 = cc in omega arith
+
+pub unbuilt-built : {x : BuildAnswer} {r : Refusal} {weight : ℤ} → x ≡ unbuilt r → x ≡ treeBuilt weight → ⊥
+unbuilt-built e h = let z : _≡_ {A = ℕ} 0 1 = cc in omega arith
 
 length-exchanged : (l : List ℕ) (out into : ℕ) → length (exchanged l out into) ≡ length l
 unfolding exchanged
@@ -132,7 +135,7 @@ module _ (c : Call) (a : Accepted c) where
   -- the three forms of CST's answer
   data Judged : Type 0 where
     declined : (r : Refusal) → cst c ≡ refused r → (ClaimTree c → ⊥) → Judged
-    approved : ClaimTree c → rowIn c ≡ 0 → cst c ≡ passed (claimWeight c) → Judged
+    approved : ClaimTree c → rowIn c ≡ 0 → cst c ≡ passed (claimWeight c) (only c) → Judged
     faulted : ClaimTree c → (j : ℕ) → rowIn c ≡ suc j → cst c ≡ judged c (suc j) (rowOut c) → Judged
 
   judgement : Judged
@@ -234,8 +237,8 @@ module _ (c : Call) (a : Accepted c) where
 
   -- the two forms of MST1's answer
   data Grown : Type 0 where
-    unbuilt : tree (graphOf c) (weightOf c) ≡ none → mst1 c ≡ refused (record { number = 11; place = 0 }) → Grown
-    grown : (f : Fragment) → tree (graphOf c) (weightOf c) ≡ some f → mst1 c ≡ passed (total (rowsOf c) (weightOf c) (f .chosen)) → mst1Marks c ≡ claimOf (rowsOf c) (f .chosen) → Grown
+    ungrown : tree (graphOf c) (weightOf c) ≡ none → mst1 c ≡ unbuilt (record { number = 11; place = 0 }) → Grown
+    grown : (f : Fragment) → tree (graphOf c) (weightOf c) ≡ some f → mst1 c ≡ treeBuilt (total (rowsOf c) (weightOf c) (f .chosen)) → mst1Marks c ≡ claimOf (rowsOf c) (f .chosen) → Grown
 
   growth : Grown
   unfolding mst1 mst1Marks built builtMarks mst1Causes noTree refusal orElse cause isNone treeRows chosenRows
@@ -245,14 +248,14 @@ module _ (c : Call) (a : Accepted c) where
       after o e = refusal-append (tableCauses c) (noTree c ∷ []) a ∙ ap (λ x. refusal (cause (isNone x) 11 0 ∷ [])) e
 
       go : (o : Option Fragment) → tree (graphOf c) (weightOf c) ≡ o → Grown
-      go none e = unbuilt e (ap (built c) (after none e))
+      go none e = ungrown e (ap (built c) (after none e))
       go (some f) e =
           grown f e
-          (ap (built c) (after (some f) e) ∙ ap (λ x. passed (total (rowsOf c) (weightOf c) (chosenRows x))) e)
+          (ap (built c) (after (some f) e) ∙ ap (λ x. treeBuilt (total (rowsOf c) (weightOf c) (chosenRows x))) e)
           (ap (builtMarks c) (after (some f) e) ∙ ap (λ x. claimOf (rowsOf c) (chosenRows x)) e)
 
   -- the verdict on a least tree
-  least-passed : LeastClaim c → cst c ≡ passed (claimWeight c)
+  least-passed : LeastClaim c → cst c ≡ passed (claimWeight c) (only c)
   unfolding judged
   least-passed l =
       elim judgement [
@@ -261,12 +264,12 @@ module _ (c : Call) (a : Accepted c) where
         | faulted t j z x ↦ absurd (none-some (sym z ∙ good-none c ok (t .spanning) (least-good (graphOf c) ok (weightOf c) (marked (c .mark)) (t .spanning) (claim-least l))))
       ]
 
-  passed-least : (weight : ℤ) → cst c ≡ passed weight → LeastClaim c × (weight ≡ claimWeight c)
+  pub passed-least : (weight : ℤ) (alone : Bool) → cst c ≡ passed weight alone → LeastClaim c × (weight ≡ claimWeight c) × (alone ≡ only c)
   unfolding judged
-  passed-least weight e =
+  passed-least weight alone e =
       elim judgement [
         | declined r x n ↦ absurd (refused-passed x e)
-        | approved t z x ↦ (least-claim t (good-least (graphOf c) ok (weightOf c) (marked (c .mark)) (t .spanning) (none-good c ok (t .spanning) z)), cc)
+        | approved t z x ↦ (least-claim t (good-least (graphOf c) ok (weightOf c) (marked (c .mark)) (t .spanning) (none-good c ok (t .spanning) z)), cc, cc)
         | faulted t j z x ↦ absurd (passed-lighter e x)
       ]
 
@@ -276,7 +279,7 @@ module _ (c : Call) (a : Accepted c) where
   comes-lighter t n =
       elim judgement [
         | declined r x k ↦ absurd (k t)
-        | approved t z x ↦ absurd (n (passed-least _ x .0))
+        | approved t z x ↦ absurd (n (passed-least _ _ x .0))
         | faulted t j z x ↦ (_, _, _, x)
       ]
 
@@ -356,35 +359,35 @@ module _ (c : Call) (a : Accepted c) where
   refused-no-tree r e t = apart r (sym (refused-cause r e) ∙ not-refused t)
 
   -- the builder leaves the marks as they were where it refuses
-  marks-kept : (r : Refusal) → mst1 c ≡ refused r → mst1Marks c ≡ c .mark
+  marks-kept : (r : Refusal) → mst1 c ≡ unbuilt r → mst1Marks c ≡ c .mark
   unfolding mst1 mst1Marks built builtMarks
   marks-kept r e = go (refusal (mst1Causes c)) refl
     where
       go : (o : Option Refusal) → refusal (mst1Causes c) ≡ o → mst1Marks c ≡ c .mark
-      go none h = absurd (refused-passed e (ap (built c) h))
+      go none h = absurd (unbuilt-built e (ap (built c) h))
       go (some q) h = ap (builtMarks c) h
 
   -- the builder refuses exactly where there is no spanning tree
-  no-tree : mst1 c ≡ refused (record { number = 11; place = 0 }) → (other : List ℕ) → ClaimTree (withClaim c other) → ⊥
+  no-tree : mst1 c ≡ unbuilt (record { number = 11; place = 0 }) → (other : List ℕ) → ClaimTree (withClaim c other) → ⊥
   unfolding graphOf
   no-tree e other t =
       elim growth [
-        | unbuilt z x ↦ not-built (graphOf c) ok (weightOf c) z (marked other) (t .spanning)
-        | grown f z x k ↦ refused-passed e x
+        | ungrown z x ↦ not-built (graphOf c) ok (weightOf c) z (marked other) (t .spanning)
+        | grown f z x k ↦ unbuilt-built e x
       ]
 
-  refuses-no-tree : ((other : List ℕ) → ClaimTree (withClaim c other) → ⊥) → mst1 c ≡ refused (record { number = 11; place = 0 })
+  refuses-no-tree : ((other : List ℕ) → ClaimTree (withClaim c other) → ⊥) → mst1 c ≡ unbuilt (record { number = 11; place = 0 })
   refuses-no-tree n =
       elim growth [
-        | unbuilt z x ↦ x
+        | ungrown z x ↦ x
         | grown f z x k ↦ absurd (n _ (claim-tree (f .chosen) (built-spanning (graphOf c) ok (weightOf c) f z)))
       ]
 
-  refuses-eleven : (r : Refusal) → mst1 c ≡ refused r → r ≡ record { number = 11; place = 0 }
-  refuses-eleven r e = elim growth [ unbuilt z x ↦ cc | grown f z x k ↦ absurd (refused-passed e x) ]
+  refuses-eleven : (r : Refusal) → mst1 c ≡ unbuilt r → r ≡ record { number = 11; place = 0 }
+  refuses-eleven r e = elim growth [ ungrown z x ↦ cc | grown f z x k ↦ absurd (unbuilt-built e x) ]
 
-  builds-tree : (other : List ℕ) → ClaimTree (withClaim c other) → (weight : ℤ) × (mst1 c ≡ passed weight)
-  builds-tree other t = elim growth [ unbuilt z x ↦ absurd (no-tree x other t) | grown f z x k ↦ (_, x) ]
+  builds-tree : (other : List ℕ) → ClaimTree (withClaim c other) → (weight : ℤ) × (mst1 c ≡ treeBuilt weight)
+  builds-tree other t = elim growth [ ungrown z x ↦ absurd (no-tree x other t) | grown f z x k ↦ (_, x) ]
 
 -- another claim of m bytes leaves the table accepted
 accepted-claim : (c : Call) (l : List ℕ) → length l ≡ length (c .mark) → Accepted c → Accepted (withClaim c l)
@@ -392,9 +395,9 @@ unfolding tableCauses badVertices tooManyRows badLengths badRow badEnds
 accepted-claim c l e a = rw e a
 
 -- a least tree that was grown is passed as a claim, with its weight
-grown-passed : (c : Call) (a : Accepted c) (f : Fragment) → tree (graphOf c) (weightOf c) ≡ some f → cst (withClaim c (claimOf (rowsOf c) (f .chosen))) ≡ passed (total (rowsOf c) (weightOf c) (f .chosen))
+grown-passed : (c : Call) (a : Accepted c) (f : Fragment) → tree (graphOf c) (weightOf c) ≡ some f → (alone : Bool) × (cst (withClaim c (claimOf (rowsOf c) (f .chosen))) ≡ passed (total (rowsOf c) (weightOf c) (f .chosen)) alone)
 unfolding graphOf weightOf claimWeight
-grown-passed c a f z = least-passed d b least ∙ ap (λ S. passed (total (rowsOf c) (weightOf c) S)) rows
+grown-passed c a f z = (only d, least-passed d b least ∙ ap (λ S. passed (total (rowsOf c) (weightOf c) S) (only d)) rows)
   where
     t : SpanningTree (graphOf c) (f .chosen)
     t = built-spanning (graphOf c) (ok c a) (weightOf c) f z
@@ -412,35 +415,29 @@ grown-passed c a f z = least-passed d b least ∙ ap (λ S. passed (total (rowsO
     least = least-claim d b (claim-tree c a (f .chosen) t) (subst (λ (S : ℕ → Bool). Least (graphOf c) (weightOf c) S) (sym rows) (built-least (graphOf c) (ok c a) (weightOf c) f z))
 
 -- the table with the marks that were built is accepted
-pub built-accepted : (c : Call) → Accepted c → (weight : ℤ) → mst1 c ≡ passed weight → Accepted (withClaim c (mst1Marks c))
+pub built-accepted : (c : Call) → Accepted c → (weight : ℤ) → mst1 c ≡ treeBuilt weight → Accepted (withClaim c (mst1Marks c))
 built-accepted c a weight e =
     elim (growth c a) [
-      | unbuilt z x ↦ absurd (refused-passed x e)
+      | ungrown z x ↦ absurd (unbuilt-built x e)
       | grown f z x k ↦ accepted-claim c (mst1Marks c) (ap length k ∙ claimOf-length (rowsOf c) (f .chosen) ∙ sym (taken c a .mark-length)) a
     ]
 
--- the builder's answer is no exchange
-pub built-lighter : (c : Call) (out into saving : ℕ) → mst1 c ≡ lighter out into saving → ⊥
-unfolding mst1 built
-built-lighter c out into saving e = go (refusal (mst1Causes c)) e
-  where
-    go : (o : Option Refusal) → built c o ≡ lighter out into saving → ⊥
-    go none h = passed-lighter refl h
-    go (some r) h = refused-lighter refl h
-
 -- what is built is passed, with the weight that was stated
-built-passed : (c : Call) → Accepted c → (weight : ℤ) → mst1 c ≡ passed weight → cst (withClaim c (mst1Marks c)) ≡ passed weight
+built-passed : (c : Call) → Accepted c → (weight : ℤ) → mst1 c ≡ treeBuilt weight → (alone : Bool) × (cst (withClaim c (mst1Marks c)) ≡ passed weight alone)
 built-passed c a weight e =
     elim (growth c a) [
-      | unbuilt z x ↦ absurd (refused-passed x e)
-      | grown f z x k ↦ ap (λ l. cst (withClaim c l)) k ∙ grown-passed c a f z ∙ sym x ∙ e
+      | ungrown z x ↦ absurd (unbuilt-built x e)
+      | grown f z x k ↦
+          let (alone, p) = grown-passed c a f z in
+          let w : total (rowsOf c) (weightOf c) (f .chosen) ≡ weight = cc in
+          (alone, ap (λ l. cst (withClaim c l)) k ∙ p ∙ ap (λ v. passed v alone) w)
     ]
 
 pub demand3 : Demand3
 demand3 c a =
     record {
-      passes = (λ p. passed-least c a (p .0) (p .1) .0, λ l. (claimWeight c, least-passed c a l));
-      weight = λ weight e. passed-least c a weight e .1;
+      passes = (λ p. passed-least c a (p .0) (p .1) (p .2) .0, λ l. (claimWeight c, only c, least-passed c a l));
+      weight = λ weight alone e. passed-least c a weight alone e .1;
       not-passed = comes-lighter c a;
       exchange = lighter-worth c a;
       declines = (λ p. refused-no-tree c a (p .0) (p .1), refused-unless c a);

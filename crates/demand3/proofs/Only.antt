@@ -2,26 +2,25 @@
 -- Assumes nothing.
 use Prim.Native.Nat.{ℕ, zero, suc, _≤_, _<_}
 use borrow.Author.Tests.{eqb-true, eqb-false, eq-eqb}
-use lib.Dec.{T, eqb}
+use lib.Dec.{eqb}
 use lib.IntN.{ℤ}
 use lib.ListN.{length, getD}
 use lib.Seq.{ext-getD}
-use lib.Signed.{leZ, _≤ℤ_}
-use mathlib.Core.Bool.{Bool, true, false, _&&_, and-eq-true-iff}
+use mathlib.Core.Bool.{Bool, true, false, and-eq-true-iff}
 use mathlib.Core.List.{List}
 use mathlib.Core.Path.{_≡_, refl, sym, _∙_, ap}
 use native.Mathlib.Omega.{arith}
 use Rattle.demand3.proofs.Checker.{between-path}
-use Rattle.demand3.proofs.Demand3.{ok, claim-least, exchanged-rows, exchanged-tree, out-row, demand3}
+use Rattle.demand3.proofs.Demand3.{ok, claim-least, exchanged-rows, exchanged-tree, out-row, passed-least}
 use Rattle.demand3.specs.Demand3.{ClaimTree, LeastClaim}
-use Rattle.demand3.specs.Only.{equals, replaces, equalIn, equalOut, only, NoOther, EqualExchange, OnlyHolds}
+use Rattle.demand3.specs.Only.{NoOther, EqualExchange, OnlyMeans, OnlyHolds}
 use Rattle.graph.proofs.Only.{unequalled-only, equal-exchange}
 use Rattle.graph.proofs.Path.{path-inside}
 use Rattle.graph.specs.Least.{Least}
 use Rattle.graph.specs.Only.{Unequalled}
 use Rattle.graph.specs.Tree.{SpanningTree, onPath, exchange}
-use Rattle.rowset.proofs.Integers.{integers}
 use Rattle.rowset.proofs.Laws.{clash, put-same, any-some, any-found, uppermost-none, uppermost-some, upTo-in}
+use Rattle.rowset.proofs.Searches.{sameAs-in, in-sameAs}
 use Rattle.rowset.proofs.Members.{without-in, in-without}
 use Rattle.rowset.specs.Bytes.{inRow}
 use Rattle.rowset.specs.Integers.{total}
@@ -29,19 +28,8 @@ use Rattle.rowset.specs.Sets.{upTo, without, uppermost, takeOut}
 use Rattle.star.proofs.Claims.{inRow-byte, marked-byte}
 use Rattle.star.specs.Accepted.{Row}
 use Rattle.star.specs.Call.{Call, rowsOf, graphOf, weightOf, marked, claimWeight, withClaim, exchanged}
-use Rattle.star.specs.Cst.{passed, between, cst}
+use Rattle.star.specs.Cst.{passed, between, equals, replaces, equalIn, equalOut, only, cst, rowsBeside, equalRows}
 use Rattle.star.specs.Refusals.{Accepted}
-
--- the test of at most
-leZ-true : (a b : ℤ) → leZ a b ≡ true → a ≤ℤ b
-leZ-true a b e = record { le = rw e tt }
-
-le-leZ : (a b : ℤ) → a ≤ℤ b → leZ a b ≡ true
-le-leZ a b h = go (leZ a b) (h .le)
-  where
-    go : (t : Bool) → T t → t ≡ true
-    go true p = refl
-    go false p = absurd p
 
 -- claims of zeros and ones that mark the same rows are the same bytes
 same-bytes : (l k : List ℕ) → length l ≡ length k → ((i : ℕ) → inRow 1 l i ≤ 1) → ((i : ℕ) → inRow 1 k i ≤ 1) → marked l ≡ marked k → l ≡ k
@@ -66,14 +54,13 @@ module _ (c : Call) (a : Accepted c) (least : LeastClaim c) where
   equals-in : (e f : ℕ) → graphOf c .rows f ≡ true → equals c f e ≡ true → (onPath (graphOf c) S (graphOf c .a f) (graphOf c .b f) e ≡ true) × (weightOf c e ≡ weightOf c f)
   unfolding equals
   equals-in e f r h =
-      let (p, q) = and-eq-true-iff (between c f e && leZ (weightOf c e) (weightOf c f)) _ .0 h in
-      let (path, low) = and-eq-true-iff (between c f e) _ .0 p in
-      (ap (λ x. x e) (sym (between-path c (ok c a) (least .tree .spanning) f r)) ∙ path, omega (arith, integers, leZ-true (weightOf c e) (weightOf c f) low, leZ-true (weightOf c f) (weightOf c e) q))
+      let (path, same) = sameAs-in (weightOf c) (weightOf c f) (between c f) e h in
+      (ap (λ x. x e) (sym (between-path c (ok c a) (least .tree .spanning) f r)) ∙ path, same)
 
   in-equals : (e f : ℕ) → graphOf c .rows f ≡ true → onPath (graphOf c) S (graphOf c .a f) (graphOf c .b f) e ≡ true → weightOf c e ≡ weightOf c f → equals c f e ≡ true
   unfolding equals
   in-equals e f r path same =
-      rw (ap (λ x. x e) (between-path c (ok c a) (least .tree .spanning) f r) ∙ path, le-leZ (weightOf c e) (weightOf c f) (omega (arith, integers, same)), le-leZ (weightOf c f) (weightOf c e) (omega (arith, integers, same)))
+      in-sameAs (weightOf c) (weightOf c f) (between c f) e (ap (λ x. x e) (between-path c (ok c a) (least .tree .spanning) f r) ∙ path) same
 
   -- where there is no such row, no row outside the tree has an equal on its path
   none-unequalled : equalIn c ≡ 0 → Unequalled (graphOf c) (weightOf c) S
@@ -142,7 +129,11 @@ module _ (c : Call) (a : Accepted c) (least : LeastClaim c) where
       go zero e = clash (eq-eqb (equalIn c) 0 e) h
       go (suc j) e = found-equal j e
 
+-- what CST's yes and no are worth
 pub only-holds : OnlyHolds
-only-holds c a weight e =
-    let least = demand3 c a .passes .0 (weight, e) in
-    record { yes = (yes-none c a least, none-yes c a least); no = no-equal c a least }
+unfolding equalRows rowsBeside
+only-holds c a =
+    record {
+      yes = λ weight alone e. let (least, w, y) = passed-least c a weight alone e in rw y (yes-none c a least, none-yes c a least);
+      no = λ weight e. let (least, w, y) = passed-least c a weight false e in rw e (no-equal c a least (sym y));
+    }

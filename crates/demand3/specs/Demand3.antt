@@ -2,7 +2,7 @@
 -- Cites definitions alone; the proof is proofs/Demand3.antt. Assumes nothing.
 use Prim.Native.Nat.{ℕ, suc, _≤_, _<_}
 use lib.IntN.{ℤ, pos, _+ℤ_}
-use mathlib.Core.Bool.{true, false}
+use mathlib.Core.Bool.{Bool, true, false}
 use mathlib.Core.List.{List}
 use mathlib.Core.Logic.{_↔_}
 use mathlib.Core.Path.{_≡_}
@@ -16,7 +16,7 @@ use Rattle.rowset.specs.Sets.{count}
 use Rattle.star.specs.Accepted.{Vertex, Row}
 use Rattle.star.specs.Call.{Call, rowsOf, graphOf, marked, claimWeight, withClaim, exchanged}
 use Rattle.star.specs.Cst.{refused, passed, lighter, cst}
-use Rattle.star.specs.Mst1.{mst1, mst1Marks}
+use Rattle.star.specs.Mst1.{unbuilt, treeBuilt, mst1, mst1Marks}
 use Rattle.star.specs.Refusals.{Accepted}
 
 -- the claim is a spanning tree: m bytes, 0 and 1 only, exactly n − 1 marks, every vertex joined to vertex 1 by a walk over marked rows
@@ -63,10 +63,10 @@ pub data Fault (c : Call) : Refusal → Type 0 where
 
 -- demand 3, at one accepted table and claim
 pub record Holds (c : Call) : Type 0 where
-  -- the checker passes the claim exactly when it is a spanning tree and none weighs less
-  pub passes : ((weight : ℤ) × (cst c ≡ passed weight)) ↔ LeastClaim c
+  -- the checker passes the claim exactly when it is a spanning tree and none weighs less; what its yes or no is worth says Only.antt
+  pub passes : ((weight : ℤ) × (alone : Bool) × (cst c ≡ passed weight alone)) ↔ LeastClaim c
   -- the weight stated with a pass is the claim's own
-  pub weight : (weight : ℤ) → cst c ≡ passed weight → weight ≡ claimWeight c
+  pub weight : (weight : ℤ) (alone : Bool) → cst c ≡ passed weight alone → weight ≡ claimWeight c
   -- a spanning tree that is not passed comes back lighter
   pub not-passed : ClaimTree c → (LeastClaim c → ⊥) → (out into saving : ℕ) × (cst c ≡ lighter out into saving)
   -- and an exchange that comes back is worth it
@@ -75,14 +75,14 @@ pub record Holds (c : Call) : Type 0 where
   pub declines : ((r : Refusal) × (cst c ≡ refused r)) ↔ (ClaimTree c → ⊥)
   pub fault : (r : Refusal) → cst c ≡ refused r → Fault c r
   -- the builder refuses with number 11, and with no other, exactly when no claim is a spanning tree
-  pub refuses : (mst1 c ≡ refused (record { number = 11; place = 0 })) ↔ ((other : List ℕ) → ClaimTree (withClaim c other) → ⊥)
-  pub refuses-only : (r : Refusal) → mst1 c ≡ refused r → r ≡ record { number = 11; place = 0 }
+  pub refuses : (mst1 c ≡ unbuilt (record { number = 11; place = 0 })) ↔ ((other : List ℕ) → ClaimTree (withClaim c other) → ⊥)
+  pub refuses-only : (r : Refusal) → mst1 c ≡ unbuilt r → r ≡ record { number = 11; place = 0 }
   -- and then leaves the marks as they were
-  pub kept : (r : Refusal) → mst1 c ≡ refused r → mst1Marks c ≡ c .mark
+  pub kept : (r : Refusal) → mst1 c ≡ unbuilt r → mst1Marks c ≡ c .mark
   -- otherwise it builds a tree
-  pub built : (other : List ℕ) → ClaimTree (withClaim c other) → (weight : ℤ) × (mst1 c ≡ passed weight)
+  pub built : (other : List ℕ) → ClaimTree (withClaim c other) → (weight : ℤ) × (mst1 c ≡ treeBuilt weight)
   -- what it builds is passed by the checker over the same table, with the weight that the builder stated
-  pub builds : (weight : ℤ) → mst1 c ≡ passed weight → cst (withClaim c (mst1Marks c)) ≡ passed weight
+  pub builds : (weight : ℤ) → mst1 c ≡ treeBuilt weight → (alone : Bool) × (cst (withClaim c (mst1Marks c)) ≡ passed weight alone)
 
 -- demand 3, whole
 abbrev pub Demand3 : Type 0

@@ -9,3 +9,4 @@ pub mod Trials
 pub mod RefusalTrials
 pub mod AnswerTrials
 pub mod SignedTrials
+pub mod OnlyTrials

@@ -1,6 +1,7 @@
 -- Trials of the refusals: each number at its boundary on both sides, neighbours in their order, the place, and what is left as it was.
 -- Assumes nothing.
 use Prim.Native.Nat.{ℕ}
+use mathlib.Core.Bool.{true}
 use mathlib.Core.List.{List, [], _∷_, _++_}
 use mathlib.Core.Option.{Option, none, some}
 use mathlib.Core.Path.{_≡_}
@@ -8,6 +9,7 @@ use lib.IntN.{pos}
 use lib.ListN.{replicate}
 use Rattle.star.specs.Call.{Call, callOf}
 use Rattle.star.specs.Cst.{refused, passed}
+use Rattle.star.specs.Mst1.{unbuilt, treeBuilt}
 use Rattle.star.specs.Trials.{Result, checked, built, filled, checks, builds, fills, small, because, column, yard, bare}
 
 -- n = 2 and one marked row of weight 5 between a and b
@@ -35,8 +37,8 @@ sevens k = replicate k 7
 abbrev no : (number place : ℕ) → Result
 no number place = checked (refused (because number place))
 
-abbrev unbuilt : (number place : ℕ) → List ℕ → Result
-unbuilt number place marks = built (refused (because number place)) marks
+abbrev kept : (number place : ℕ) → List ℕ → Result
+kept number place marks = built (unbuilt (because number place)) marks
 
 abbrev unfilled : (number place : ℕ) → List ℕ → Result
 unfilled number place R = filled (some (because number place)) R
@@ -93,27 +95,27 @@ expected =
     no 1 0  -- 1: n is 0
     ∷ no 1 0  -- n is above 255
     ∷ no 9 0  -- 255 is taken: no mark is there
-    ∷ unbuilt 11 0 []
+    ∷ kept 11 0 []
     ∷ no 1 0  -- 1 before 2
     ∷ no 2 0  -- 2: m is above 1,024, before 3
     ∷ no 3 0  -- 1,024 is not
-    ∷ unbuilt 2 0 (3 ∷ [])  -- the marks stay
+    ∷ kept 2 0 (3 ∷ [])  -- the marks stay
     ∷ no 3 0  -- 3: the right column is one byte short, or long, before 4 in row 5 and in row 1
     ∷ no 3 0
     ∷ no 3 0  -- the weight column is one byte short, or long
     ∷ no 3 0
     ∷ no 3 0  -- the mark column is one byte short, or long
     ∷ no 3 0
-    ∷ unbuilt 3 0 (8 ∷ 8 ∷ [])
+    ∷ kept 3 0 (8 ∷ 8 ∷ [])
     ∷ unfilled 3 0 (sevens 3)
-    ∷ checked (passed (pos 5))  -- 4: both ends are vertices, and n is one of them
+    ∷ checked (passed (pos 5) true)  -- 4: both ends are vertices, and n is one of them
     ∷ no 4 1  -- the left end is 0, or n + 1
     ∷ no 4 1
     ∷ no 4 1  -- the right end is 0, or n + 1
     ∷ no 4 1
     ∷ no 4 1  -- both ends are equal
     ∷ no 4 2  -- the uppermost such row, before 6
-    ∷ unbuilt 4 2 (7 ∷ 7 ∷ 7 ∷ [])
+    ∷ kept 4 2 (7 ∷ 7 ∷ 7 ∷ [])
     ∷ unfilled 4 2 (sevens 2)
     ∷ no 6 2  -- 6: the uppermost byte other than 0 and 1, before 9
     ∷ unfilled 6 5 (sevens 3)  -- before 7 and 8
@@ -129,8 +131,8 @@ expected =
     ∷ unfilled 10 4 (sevens 64)
     ∷ no 10 4  -- two vertices that are not joined to vertex 1
     ∷ unfilled 10 1 (sevens 80)  -- three that are not joined to vertex 5
-    ∷ unbuilt 11 0 (9 ∷ [])  -- 11: no spanning tree, and the marks stay
-    ∷ built (passed (pos 5)) (1 ∷ [])  -- MST1 does not read what its mark column held
+    ∷ kept 11 0 (9 ∷ [])  -- 11: no spanning tree, and the marks stay
+    ∷ built (treeBuilt (pos 5)) (1 ∷ [])  -- MST1 does not read what its mark column held
     ∷ []
 
 -- the theorem: each trial gives what it should
