@@ -21,6 +21,19 @@ add() {
 "$build/door_test" 200000 | tee "$work/door"
 add "$work/door"
 
+# The same tests over doors with a fault each fail, and over doors with none do not.
+for fault in none always-only never-only only-swapped only-and-lighter only-and-refused only-and-built other-rows-swapped other-rows-lacking other-next-row \
+    paths-from-one paths-last-column paths-past-the-matrix paths-refusal-as-done; do
+    FAULT=$fault "$build/door_test_faulty" 2000 >"$work/faulty" 2>&1
+    if [ $? = 0 ] && [ "$fault" != none ] || ! [[ $(tail -n 1 "$work/faulty") =~ failed$ ]]; then
+        echo "the tests of the doors do not find the fault $fault"
+        failed=$((failed + 1))
+    elif [ "$fault" = none ] && ! grep -q ' 0 failed$' "$work/faulty"; then
+        echo "the tests of the doors fail over doors without a fault"
+        failed=$((failed + 1))
+    else passed=$((passed + 1)); fi
+done
+
 # The import, on texts whose answers a plain reader gives: the door, in a thread of 1 MiB, and the program, run under the kit's loader as rt does.
 python3 -B tests/stp/generate.py "$work/texts"
 "$build/import_test" "$work/texts" | tee "$work/import"
