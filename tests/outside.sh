@@ -56,7 +56,8 @@ if command -v valgrind >/dev/null; then
     memory "$build/door_test" 150
     memory "$build/import_test" "$work/texts" 20
     for words in 'draw console/examples/t2.txt' 'build tests/console/build-refused11.txt' 'check tests/console/check-refused4.txt' \
-        'build tests/console/build-stp-edges.txt' 'build tests/console/build-stp-price-above.txt' 'draw console/examples/grant.txt' 'table console/examples/street.stp'; do
+        'build tests/console/build-stp-edges.txt' 'build tests/console/build-stp-price-above.txt' 'draw console/examples/grant.txt' 'table console/examples/street.stp' \
+        'explain console/examples/t2.txt' 'explain tests/console/explain-rings.txt' 'page console/examples/yard.txt' 'page tests/console/explain-ring.txt'; do
         valgrind -q --error-exitcode=9 --leak-check=full --errors-for-leak-kinds=definite "$build/star" $words >"$work/valgrind" 2>&1
         if [ $? != 9 ]; then passed=$((passed + 1)); else
             echo "valgrind found a fault in star $words"
@@ -71,6 +72,8 @@ bash tests/console.sh "$star" | tee "$work/console"
 add "$work/console"
 python3 -B tests/picture.py "$star" | tee "$work/picture"
 add "$work/picture"
+python3 -B tests/page.py "$star" | tee "$work/page"
+add "$work/page"
 bash tests/library.sh | tee "$work/library"
 add "$work/library"
 
