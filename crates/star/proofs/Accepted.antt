@@ -3,7 +3,7 @@
 use Prim.Native.Nat.{ℕ, zero, suc, _+_, _*_, _-_, _≤_, _<_}
 use mathlib.Core.Bool.{Bool, true, false, not, _&&_, _||_, and-eq-true-iff, and-false, or-true}
 use mathlib.Core.List.{List, [], _∷_, _++_}
-use mathlib.Core.Logic.{_↔_, _≢_, _⊎_, inl, inr, ⊎-elim}
+use mathlib.Core.Logic.{_↔_, _≢_, _⊎_, inl, inr}
 use mathlib.Core.Option.{Option, none, some}
 use mathlib.Core.Path.{_≡_, refl, sym, ap, _∙_}
 use borrow.Author.Tests.{ltb-true, ltb-false, le-ltb, eqb-false, eqb-true, eq-eqb, ne-eqb, not-false}
@@ -96,7 +96,7 @@ causeAt-none k zero e = refl
 causeAt-none k (suc i) e = cc
 
 -- the same pair of ends, in words and back
-pair-same : (a b x y : ℕ) → samePair a b x y ≡ true → ((a ≡ x) × (b ≡ y)) ⊎ ((a ≡ y) × (b ≡ x))
+pub pair-same : (a b x y : ℕ) → samePair a b x y ≡ true → ((a ≡ x) × (b ≡ y)) ⊎ ((a ≡ y) × (b ≡ x))
 pair-same a b x y e = go (eqb a x && eqb b y) refl e
   where
     equal : (p q r s : ℕ) → (eqb p q && eqb r s) ≡ true → (p ≡ q) × (r ≡ s)
@@ -108,7 +108,7 @@ pair-same a b x y e = go (eqb a x && eqb b y) refl e
     go true h k = inl (equal a x b y h)
     go false h k = inr (equal a y b x k)
 
-same-pair : (a b x y : ℕ) → ((a ≡ x) × (b ≡ y)) ⊎ ((a ≡ y) × (b ≡ x)) → samePair a b x y ≡ true
+pub same-pair : (a b x y : ℕ) → ((a ≡ x) × (b ≡ y)) ⊎ ((a ≡ y) × (b ≡ x)) → samePair a b x y ≡ true
 same-pair a b x y (inl (h, k)) = rw (h, k, eq-eqb x x refl, eq-eqb y y refl)
 same-pair a b x y (inr (h, k)) = rw (h, k, eq-eqb x x refl, eq-eqb y y refl) (or-true (eqb y x && eqb x y))
 
