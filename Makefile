@@ -53,6 +53,13 @@ $(BUILD)/door_test: $(ARCHIVE) tests/door_test.c tests/plain.c tests/plain.h inc
 	@mkdir -p $(BUILD)
 	$(CC) -std=c99 $(CFLAGS) -Iinclude -Itests -o $@ tests/door_test.c tests/plain.c $(ARCHIVE)
 
+# The same over doors with a fault each, which it has to find.
+FAULTY := $(foreach door,cst other mst1 paths,-Dstar_$(door)=faulty_$(door))
+$(BUILD)/door_test_faulty: $(ARCHIVE) tests/door_test.c tests/faulty.c tests/plain.c tests/plain.h include/star.h
+	@mkdir -p $(BUILD)
+	$(CC) -std=c99 $(CFLAGS) -Iinclude -c -o $(BUILD)/faulty.o tests/faulty.c
+	$(CC) -std=c99 $(CFLAGS) -Iinclude -Itests $(FAULTY) -o $@ tests/door_test.c tests/plain.c $(BUILD)/faulty.o $(ARCHIVE)
+
 $(BUILD)/import_test: $(ARCHIVE) tests/import_test.c include/star.h
 	@mkdir -p $(BUILD)
 	$(CC) -std=c99 $(CFLAGS) -Iinclude -o $@ tests/import_test.c $(ARCHIVE)
@@ -72,7 +79,7 @@ test:
 
 # What stands outside the proofs: the doors against the plain implementation, the import against the plain reader (python3), both under a
 # memory checker, and the console.
-outside: $(BUILD)/star $(BUILD)/door_test $(BUILD)/import_test $(READSTP)
+outside: $(BUILD)/star $(BUILD)/door_test $(BUILD)/door_test_faulty $(BUILD)/import_test $(READSTP)
 	bash tests/outside.sh $(BUILD) $(READSTP)
 
 bench: $(BUILD)/bench

@@ -4,11 +4,7 @@
 #include "picture.h"
 #include "refusal.h"
 #include "status.h"
-
-static void say_trench(struct message *to, const struct table *t, unsigned i) {
-    char price[FIGURES];
-    say(to, "trench %u (%u-%u, price %s)", i, t->left[i - 1], t->right[i - 1], table_price(price, t, i));
-}
+#include "verdict.h"
 
 /* A refusal, where the result would be no place for it. */
 static int refused(const struct table *t, struct star_answer a) {
@@ -18,43 +14,15 @@ static int refused(const struct table *t, struct star_answer a) {
     return EXIT_REFUSED;
 }
 
-int command_check(struct table *t, struct output *o) {
+int command_check(struct table *t, const struct options *with, struct output *o) {
     struct star_answer a = table_cst(t);
     struct message words = {{0}, 0};
-    char amount[FIGURES];
     FILE *to = output_open(o);
+    (void)with;
     if (!to) return EXIT_UNWRITTEN;
-    amount_figures(amount, a.amount);
-    if (a.kind == STAR_PASSED) {
-        say(&words, "Passed: the marked trenches reach every junction, and no set that does is cheaper. Total %s.", amount);
-    } else if (a.kind == STAR_LIGHTER) {
-        say(&words, "A cheaper set exists, for %s less:\n  take out ", amount);
-        say_trench(&words, t, a.out);
-        say(&words, "\n  put in   ");
-        say_trench(&words, t, a.in);
-    } else {
-        refusal_words(&words, t, a);
-    }
+    verdict_words(&words, t, a);
     fprintf(to, "%s\n", words.text);
     return a.kind == STAR_PASSED ? EXIT_PASSED : a.kind == STAR_LIGHTER ? EXIT_LIGHTER : EXIT_REFUSED;
-}
-
-int command_build(struct table *t, struct output *o) {
-    struct star_answer a = table_mst1(t);
-    struct message words = {{0}, 0};
-    char figures[FIGURES];
-    size_t i;
-    FILE *to = output_open(o);
-    if (!to) return EXIT_UNWRITTEN;
-    if (a.kind != STAR_PASSED) {
-        refusal_words(&words, t, a);
-        fprintf(to, "%s\n", words.text);
-        return EXIT_REFUSED;
-    }
-    for (i = 1; i <= t->m; i++)
-        if (t->mark[i - 1] == 1) fprintf(to, "trench %zu: %u-%u, price %s\n", i, t->left[i - 1], t->right[i - 1], table_price(figures, t, i));
-    fprintf(to, "Total %s\n", amount_figures(figures, a.amount));
-    return EXIT_PASSED;
 }
 
 static int write_table(const struct table *t, struct output *o) {
@@ -64,13 +32,45 @@ static int write_table(const struct table *t, struct output *o) {
     return EXIT_PASSED;
 }
 
-int command_build_table(struct table *t, struct output *o) {
-    struct star_answer a = table_mst1(t);
-    return a.kind == STAR_PASSED ? write_table(t, o) : refused(t, a);
+/* What the marks cost before they were replaced. */
+static void say_saving(struct message *to, struct star_answer before, int64_t marked, int64_t total) {
+    char figures[2][FIGURES];
+    say(to, "The marked trenches cost %s", amount_figures(figures[0], marked));
+    if (before.kind == STAR_REFUSED) say(to, ", and are no network: %s", star_refusal_text(before.number));
+    else if (marked == total) say(to, " too");
+    else say(to, ": these save %s", amount_figures(figures[1], marked - total));
+    say(to, ".");
 }
 
-int command_table(struct table *t, struct output *o) {
+int command_build(struct table *t, const struct options *with, struct output *o) {
+    struct star_answer before = table_cst(t), a;
+    int64_t marked = table_total(t);
+    size_t marks = table_marks(t), i;
+    struct message words = {{0}, 0};
+    char figures[FIGURES];
+    FILE *to;
+    a = table_mst1(t);
+    if (with->table) return a.kind == STAR_PASSED ? write_table(t, o) : refused(t, a);
+    to = output_open(o);
+    if (!to) return EXIT_UNWRITTEN;
+    if (a.kind != STAR_PASSED) {
+        refusal_words(&words, t, a);
+        fprintf(to, "%s\n", words.text);
+        return EXIT_REFUSED;
+    }
+    for (i = 1; i <= t->m; i++)
+        if (t->mark[i - 1] == 1) fprintf(to, "trench %zu: %u-%u, price %s\n", i, t->left[i - 1], t->right[i - 1], table_price(figures, t, i));
+    fprintf(to, "Total %s\n", amount_figures(figures, a.amount));
+    if (marks > 0 && (before.kind != STAR_REFUSED || refusal_of_plan(before))) {
+        say_saving(&words, before, marked, a.amount);
+        fprintf(to, "%s\n", words.text);
+    }
+    return EXIT_PASSED;
+}
+
+int command_table(struct table *t, const struct options *with, struct output *o) {
     struct star_answer a = table_cst(t);
+    (void)with;
     return a.kind != STAR_REFUSED || refusal_of_plan(a) ? write_table(t, o) : refused(t, a);
 }
 
@@ -107,6 +107,12 @@ static int picture(struct table *t, struct output *o, void (*paint)(FILE *, cons
     return status;
 }
 
-int command_draw(struct table *t, struct output *o) { return picture(t, o, picture_svg); }
+int command_draw(struct table *t, const struct options *with, struct output *o) {
+    (void)with;
+    return picture(t, o, picture_svg);
+}
 
-int command_dot(struct table *t, struct output *o) { return picture(t, o, picture_dot); }
+int command_dot(struct table *t, const struct options *with, struct output *o) {
+    (void)with;
+    return picture(t, o, picture_dot);
+}

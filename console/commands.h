@@ -5,11 +5,22 @@
 #include "output.h"
 #include "table.h"
 
-int command_check(struct table *t, struct output *o);       /* judges the marked trenches */
-int command_build(struct table *t, struct output *o);       /* lists the cheapest trenches that reach every junction */
-int command_build_table(struct table *t, struct output *o); /* writes the table with these trenches marked */
-int command_draw(struct table *t, struct output *o);        /* writes a picture as SVG */
-int command_dot(struct table *t, struct output *o);         /* writes a picture for Graphviz */
-int command_table(struct table *t, struct output *o);       /* writes the table */
+/* What is asked for beside the command. */
+struct options {
+    int table;     /* build: the table with the chosen trenches marked */
+    int all;       /* explain: every trench that is left out */
+    size_t trench; /* explain: this one; 0 for none */
+};
+
+int command_check(struct table *t, const struct options *with, struct output *o);   /* judges the marked trenches */
+int command_build(struct table *t, const struct options *with, struct output *o);   /* lists the cheapest trenches that reach every junction */
+int command_explain(struct table *t, const struct options *with, struct output *o); /* says why, trench by trench */
+int command_draw(struct table *t, const struct options *with, struct output *o);    /* writes a picture as SVG */
+int command_dot(struct table *t, const struct options *with, struct output *o);     /* writes a picture for Graphviz */
+int command_page(struct table *t, const struct options *with, struct output *o);    /* writes a page of pictures that explain */
+int command_table(struct table *t, const struct options *with, struct output *o);   /* writes the table */
+
+/* Why there are 255 junctions at most. */
+void explain_limit(struct message *to);
 
 #endif

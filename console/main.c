@@ -1,4 +1,4 @@
-/* A planner's console over the door: checks a marked network, builds a least one, draws it. This file reads the command line. */
+/* A planner's console over the door: checks a marked network, builds a least one, explains and draws it. This file reads the command line. */
 #include <stdio.h>
 #include <string.h>
 
@@ -11,6 +11,8 @@ static const char HELP[] =
     "usage: star check [FILE]          judge the marked trenches\n"
     "       star build [FILE]          list the cheapest trenches that reach every junction\n"
     "       star build --table [FILE]  write the table with these trenches marked\n"
+    "       star explain FILE [TRENCH] say why: each trench left out, or the one named, against its detour; a ring; the limit of 255\n"
+    "       star page [FILE]           write a page (HTML) that shows the same in pictures\n"
     "       star draw [FILE]           write a picture (SVG) of the network, with what check says of it\n"
     "       star dot [FILE]            write the same for Graphviz (DOT)\n"
     "       star table [FILE]          write the trenches as a table; those of an STP file are not marked\n"
@@ -18,6 +20,7 @@ static const char HELP[] =
     "       star --version             the version\n"
     "\n"
     "-o FILE writes to FILE in place of standard output. Standard input is read where no FILE, or -, is given.\n"
+    "explain tells of the first ten trenches that matter; with --all of every one.\n"
     "\n"
     "FILE has a line a trench: two junctions, a price and a mark, parted by blanks; the mark is 1 for a\n"
     "trench of the plan and 0 for any other, and build needs none. Trenches are counted from 1 in the\n"
@@ -30,27 +33,25 @@ static const char HELP[] =
     "section Graph, its trenches the E lines. It has at most 65536 bytes. It marks no trench, so there is\n"
     "nothing to check: build chooses trenches, and table writes a table in which they can be marked.\n"
     "\n"
-    "Exit status: 0 passed, built, drawn or written; 1 a cheaper set exists (check); 2 the table or the plan was\n"
+    "Exit status: 0 passed, built, explained, drawn or written; 1 a cheaper set exists (check); 2 the table or the plan was\n"
     "refused; 3 the input could not be read; 4 wrong usage; 5 the output could not be written.\n";
 
 struct command {
     const char *name;
-    int (*run)(struct table *t, struct output *o);
-    int (*run_table)(struct table *t, struct output *o); /* with --table; NULL where it has no meaning */
+    int (*run)(struct table *t, const struct options *with, struct output *o);
+    const char *takes; /* what it takes beside a file: t --table, a --all, n the number of a trench */
+    int plan;          /* whether it needs marks, which an STP file has not */
 };
 
 static const struct command COMMANDS[] = {
-    {"check", command_check, NULL},
-    {"build", command_build, command_build_table},
-    {"draw", command_draw, NULL},
-    {"dot", command_dot, NULL},
-    {"table", command_table, NULL},
+    {"check", command_check, "", 1}, {"build", command_build, "t", 0}, {"explain", command_explain, "an", 1}, {"draw", command_draw, "", 0},
+    {"dot", command_dot, "", 0},     {"page", command_page, "", 0},    {"table", command_table, "", 0},
 };
 
 struct request {
     const struct command *command;
-    int (*run)(struct table *t, struct output *o);
     const char *file;
+    struct options with;
     struct output out;
     int help;
 };
@@ -67,18 +68,32 @@ static const struct command *find(const char *name) {
     return NULL;
 }
 
+static int takes(const struct request *r, char what) { return strchr(r->command->takes, what) != NULL; }
+
+/* The words that are no options: a file, and the number of a trench where the command takes one. */
+static int operand(struct request *r, const char *word, int before) {
+    struct span number = {word, strlen(word)};
+    uint32_t trench;
+    if (before == 0) r->file = word;
+    else if (before > 1 || !takes(r, 'n')) return misused("one file is read, and there is also", word);
+    else if (!text_number(number, &trench) || trench == 0) return misused("a trench is named by its number, from 1 on, and not by", word);
+    else r->with.trench = trench;
+    return 0;
+}
+
 /* Reads the words after the command; 0 if they are right. */
 static int options(struct request *r, char **words) {
-    int files_only = 0, files = 0;
+    int files_only = 0, count = 0, status;
     for (; *words; words++) {
         const char *word = *words;
         int option = !files_only && word[0] == '-' && word[1] != '\0';
         if (!option) {
-            if (files++ > 0) return misused("one file is read, and there is also", word);
-            r->file = word;
+            status = operand(r, word, count++);
+            if (status != 0) return status;
         } else if (strcmp(word, "--") == 0) files_only = 1;
         else if (strcmp(word, "-h") == 0 || strcmp(word, "--help") == 0) r->help = 1;
-        else if (strcmp(word, "--table") == 0 && r->command->run_table) r->run = r->command->run_table;
+        else if (strcmp(word, "--table") == 0 && takes(r, 't')) r->with.table = 1;
+        else if (strcmp(word, "--all") == 0 && takes(r, 'a')) r->with.all = 1;
         else if (strncmp(word, "-o", 2) == 0) {
             r->out.file = word[2] ? word + 2 : *++words;
             if (!r->out.file) return misused("no file follows", "-o");
@@ -93,18 +108,18 @@ static int run(struct request *r) {
     struct input in;
     struct message fault = {{0}, 0};
     int status = input_open(&in, r->file, &fault);
-    if (status == 0 && in.stp && r->run == command_check) {
+    if (status == 0 && in.stp && r->command->plan) {
         say_place(&fault, in.file, 0);
-        say(&fault, "an STP file marks no trench, so there is no plan to check. 'star build' chooses the cheapest trenches;\n"
-                    "'star table' writes a table in which the trenches of the plan can be marked.");
+        say(&fault, "an STP file marks no trench, so there is no plan to %s. 'star build' chooses the cheapest trenches;\n"
+                    "'star table' writes a table in which the trenches of the plan can be marked.", r->command->name);
         status = EXIT_UNREADABLE;
     }
     if (status == 0) status = input_table(&in, &t, &fault);
     if (status == 0) {
-        status = r->run(&t, &r->out);
+        status = r->command->run(&t, &r->with, &r->out);
     } else {
         /* build's refusals are its result, those of a text too */
-        FILE *to = status == EXIT_REFUSED && r->run == command_build ? output_open(&r->out) : stderr;
+        FILE *to = status == EXIT_REFUSED && r->command->run == command_build && !r->with.table ? output_open(&r->out) : stderr;
         if (to) fprintf(to, "%s\n", fault.text);
         else status = EXIT_UNWRITTEN;
     }
@@ -121,7 +136,7 @@ static int tell(struct request *r, const char *text) {
 }
 
 int main(int count, char **words) {
-    struct request r = {NULL, NULL, NULL, {NULL, NULL}, 0};
+    struct request r = {NULL, NULL, {0, 0, 0}, {NULL, NULL}, 0};
     struct message version = {{0}, 0};
     int status;
     if (count < 2) {
@@ -130,7 +145,6 @@ int main(int count, char **words) {
     }
     r.command = find(words[1]);
     if (r.command) {
-        r.run = r.command->run;
         status = options(&r, words + 2);
         if (status != 0) return status;
         status = r.help ? tell(&r, HELP) : run(&r);

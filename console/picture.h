@@ -23,6 +23,12 @@ extern const struct style STYLES[LOOKS];
 /* How trench i, counted from 1, is drawn. */
 enum look picture_look(const struct picture *p, size_t i);
 
+/* The label of trench i, its number and its price; gives the letters of it. */
+size_t picture_label(char *text, size_t room, const struct table *t, size_t i);
+
+/* Letters as SVG and HTML have them, where some mean something else. */
+void picture_letters(FILE *to, const char *text, size_t len);
+
 void picture_svg(FILE *to, const struct picture *p);
 void picture_dot(FILE *to, const struct picture *p);
 

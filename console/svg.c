@@ -6,8 +6,7 @@
 
 enum { LINE = 18, LETTER = 8, SAMPLE = 26 };
 
-/* The letters that mean something else in SVG. */
-static void letters(FILE *to, const char *text, size_t len) {
+void picture_letters(FILE *to, const char *text, size_t len) {
     for (; len > 0; text++, len--)
         if (*text == '&') fputs("&amp;", to);
         else if (*text == '<') fputs("&lt;", to);
@@ -30,7 +29,7 @@ static double verdict(FILE *to, const char *text, double width, double y) {
         size_t len = line_length(text, (size_t)(width - 24) / LETTER);
         if (to) {
             fprintf(to, "<text class=\"verdict\" x=\"12\" y=\"%.0f\">", y);
-            letters(to, text, len);
+            picture_letters(to, text, len);
             fprintf(to, "</text>\n");
         }
         y += LINE;
@@ -54,9 +53,9 @@ static void key(FILE *to, const struct picture *p, double y) {
         }
 }
 
-static void label_text(char *text, size_t room, const struct table *t, size_t i) {
+size_t picture_label(char *text, size_t room, const struct table *t, size_t i) {
     char price[FIGURES];
-    snprintf(text, room, "%zu: %s", i, table_price(price, t, i));
+    return (size_t)snprintf(text, room, "%zu: %s", i, table_price(price, t, i));
 }
 
 /* Places the labels, those of the exchange first and those of trenches that are not marked last; gives the number left out. */
@@ -68,8 +67,7 @@ static size_t place_labels(struct layout *l, const struct picture *p) {
     for (look = LOOKS - 1; look >= 0; look--)
         for (i = 1; i <= p->t->m; i++)
             if ((int)picture_look(p, i) == look) {
-                label_text(text, sizeof text, p->t, i);
-                layout_label(l, p->t, i, strlen(text));
+                layout_label(l, p->t, i, picture_label(text, sizeof text, p->t, i));
                 left_out += !l->label[i - 1].shown;
             }
     return left_out;
@@ -95,7 +93,7 @@ static void labels(FILE *to, const struct picture *p, const struct layout *l) {
     for (i = 1; i <= p->t->m; i++) {
         const struct label *own = &l->label[i - 1];
         if (!own->shown) continue;
-        label_text(text, sizeof text, p->t, i);
+        picture_label(text, sizeof text, p->t, i);
         fprintf(to, "<rect class=\"ground\" x=\"%.1f\" y=\"%.1f\" width=\"%.1f\" height=\"%d\"/>", own->at.x - own->width / 2, own->at.y - LABEL_HEIGHT / 2.0, own->width,
                 LABEL_HEIGHT);
         fprintf(to, "<text class=\"label %s-label\" x=\"%.1f\" y=\"%.1f\">%s</text>\n", STYLES[picture_look(p, i)].name, own->at.x, own->at.y + LABEL_FONT * 0.36, text);
@@ -105,7 +103,7 @@ static void labels(FILE *to, const struct picture *p, const struct layout *l) {
 static void head(FILE *to, const char *title, double width, double height, double dot) {
     int k;
     fprintf(to, "<svg xmlns=\"http://www.w3.org/2000/svg\" width=\"%.0f\" height=\"%.0f\" viewBox=\"0 0 %.0f %.0f\">\n<title>", width, height, width, height);
-    letters(to, title, strlen(title));
+    picture_letters(to, title, strlen(title));
     fprintf(to, "</title>\n<style>path{fill:none;stroke-linecap:round}");
     for (k = 0; k < LOOKS; k++)
         fprintf(to, ".%s{stroke:%s;stroke-width:%s}.%s-label{fill:%s}", STYLES[k].name, STYLES[k].colour, STYLES[k].width, STYLES[k].name,

@@ -97,6 +97,20 @@ struct star_answer table_cst(const struct table *t) {
     return star_read_answer(answer);
 }
 
+struct star_answer table_other(const struct table *t) {
+    uint8_t answer[STAR_ANSWER_BYTES];
+    size_t m = kept(t);
+    star_other(t->n, t->left, m, t->right, m, t->weight, PRICE_BYTES * m, t->mark, m, answer, sizeof answer);
+    return star_read_answer(answer);
+}
+
+struct star_answer table_paths(const struct table *t, uint32_t from, uint64_t *matrix, size_t words) {
+    uint8_t answer[STAR_ANSWER_BYTES];
+    size_t m = kept(t);
+    star_paths(t->n, t->left, m, t->right, m, t->weight, PRICE_BYTES * m, t->mark, m, from, matrix, words, answer, sizeof answer);
+    return star_read_answer(answer);
+}
+
 struct star_answer table_mst1(struct table *t) {
     uint8_t answer[STAR_ANSWER_BYTES];
     size_t m = kept(t);
@@ -108,6 +122,15 @@ size_t table_marks(const struct table *t) {
     size_t i, marks = 0;
     for (i = 0; i < kept(t); i++) marks += t->mark[i] == 1;
     return marks;
+}
+
+int64_t table_cost(const struct table *t, size_t i) { return star_get_price(t->weight, i - 1); }
+
+int64_t table_total(const struct table *t) {
+    int64_t total = 0;
+    size_t i;
+    for (i = 1; i <= kept(t); i++) total += t->mark[i - 1] == 1 ? table_cost(t, i) : 0;
+    return total;
 }
 
 const char *table_price(char figures[FIGURES], const struct table *t, size_t i) { return price_figures(figures, t->weight + PRICE_BYTES * (i - 1)); }

@@ -32,12 +32,16 @@ void table_write(FILE *to, const struct table *t);
 
 /* The doors, over the trenches that are kept. */
 struct star_answer table_cst(const struct table *t);
+struct star_answer table_other(const struct table *t);
 struct star_answer table_mst1(struct table *t);
+struct star_answer table_paths(const struct table *t, uint32_t from, uint64_t *matrix, size_t words);
 
-/* The number of marked trenches. */
+/* The number of marked trenches, and the sum of their prices. */
 size_t table_marks(const struct table *t);
+int64_t table_total(const struct table *t);
 
-/* The price of trench i, counted from 1, written to figures. */
+/* The price of trench i, counted from 1; and the same written to figures. */
+int64_t table_cost(const struct table *t, size_t i);
 const char *table_price(char figures[FIGURES], const struct table *t, size_t i);
 
 #endif

@@ -33,7 +33,7 @@ int text_number(struct span word, uint32_t *value);
 
 /* A message that is put together; what does not fit is left out. */
 struct message {
-    char text[600];
+    char text[1200];
     size_t len;
 };
 

@@ -3,7 +3,7 @@
 
 const char *star_version(void) { return STAR_VERSION; }
 
-/* A line a refusal, at its number. 7 and 8 no door gives today. */
+/* A line a refusal, at its number. */
 static const char *const TEXTS[] = {
     [0] = "not refused",
     [STAR_BAD_JUNCTION_COUNT] = "the number of junctions is 0 or above 255",
@@ -11,13 +11,14 @@ static const char *const TEXTS[] = {
     [STAR_BAD_LENGTHS] = "the columns have not the lengths that belong together",
     [STAR_BAD_END] = "a row has an end that is 0 or above the number of junctions, or two equal ends",
     [STAR_BAD_MARK] = "a mark is neither 0 nor 1",
-    [7] = "the source is 0 or above the number of junctions",
-    [8] = "the path matrix has fewer than 16 words for each junction",
+    [STAR_BAD_SOURCE] = "the source is 0 or above the number of junctions",
+    [STAR_SHORT_MATRIX] = "the path matrix has fewer than 16 words for each junction",
     [STAR_BAD_MARK_COUNT] = "the marked rows are not one fewer than the junctions",
     [STAR_NOT_JOINED] = "the marked rows do not join every junction to junction 1",
     [STAR_NO_NETWORK] = "no set of rows joins every junction",
     [STAR_BAD_TEXT] = "the text is longer than 65536 bytes or breaks the layout of STP files",
     [STAR_BAD_EDGE_COUNT] = "the E lines are not as many as the line Edges says",
+    [STAR_REPEATED_ROW] = "a row joins the same two junctions as an earlier row",
 };
 
 const char *star_refusal_text(unsigned number) { return number < sizeof TEXTS / sizeof TEXTS[0] && TEXTS[number] ? TEXTS[number] : "a refusal without a text"; }

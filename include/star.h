@@ -1,4 +1,4 @@
-/* The console's door to the verified tree checker, tree builder and reader of STP texts.
+/* The console's door to the verified tree checker, tree builder, path finder and reader of STP texts.
  *
  * A table has n junctions, numbered 1 to n, and m rows, counted from 1. A row joins two junctions at a price:
  *   left, right   one byte a row, the two junctions
@@ -6,22 +6,24 @@
  *                 -2,147,483,648 to 2,147,483,647, below 0 where a grant exceeds the cost. Any four bytes are a price;
  *                 star_put_price packs one, and star_get_price reads it
  *   mark          one byte a row, 1 for a marked row and 0 for any other: the claim
- * m is the length of the left column.
+ * m is the length of the left column. Two rows never join the same two junctions: such a table is refused.
  *
- * star_cst    judges the claim and writes nothing but the answer.
+ * star_cst    judges the claim and writes nothing but the answer; a pass says whether the claim is the only cheapest network.
+ * star_other  answers as star_cst; where another network costs the same, it names an exchange of two rows that gives one.
  * star_mst1   builds a least network and marks its rows; it does not read the marks it was lent.
+ * star_paths  finds the rows between one junction and each other, along a claim that is a tree.
  * star_import reads a SteinLib STP text into columns of 1,024 rows; it has no marks.
  *
  * Each returns 1 with the verdict in the sixteen bytes of the answer, or 0 if the lent answer has
  * not sixteen bytes; then nothing is written anywhere. Every other input is taken, whatever its
  * bytes and lengths: a fault is told as a refusal with its number and place, and a refused call
- * leaves the marks, and the columns lent to star_import, as they were.
+ * leaves the marks, the matrix lent to star_paths, and the columns lent to star_import, as they were.
  *
  * The caller owes that each pointer has as many readable bytes behind it as its length says (writable
- * ones behind answer, behind mark in star_mst1, and behind the three columns in star_import), and that
- * a column that is written overlaps no other. An empty column may be lent as a null pointer with
- * length 0. The calling thread has stack left, 128 KiB for star_cst and star_mst1 and 1 MiB for
- * star_import, whatever is lent. Nothing else is asked.
+ * ones behind answer, behind mark in star_mst1, behind matrix in star_paths, and behind the three columns
+ * in star_import), and that a column that is written overlaps no other. The length of a matrix counts words
+ * of eight bytes. An empty column may be lent as a null pointer with length 0. The calling thread has stack
+ * left, 1 MiB for star_import and 128 KiB for each of the others, whatever is lent. Nothing else is asked.
  */
 #ifndef STAR_H
 #define STAR_H
@@ -35,9 +37,9 @@ extern "C" {
 
 /* The version of this header. star_version gives that of the library that is linked. */
 #define STAR_VERSION_MAJOR 0
-#define STAR_VERSION_MINOR 4
+#define STAR_VERSION_MINOR 6
 #define STAR_VERSION_PATCH 0
-#define STAR_VERSION "0.4.0"
+#define STAR_VERSION "0.6.0"
 
 const char *star_version(void);
 
@@ -48,29 +50,37 @@ enum { STAR_MAX_JUNCTIONS = 255, STAR_MAX_ROWS = 1024, STAR_ANSWER_BYTES = 16 };
 #define STAR_MIN_PRICE INT32_MIN
 #define STAR_MAX_PRICE INT32_MAX
 
+/* The words of a path matrix for each junction. */
+enum { STAR_COLUMN_WORDS = 16 };
+
 /* The longest text that is read. */
 enum { STAR_MAX_TEXT = 65536 };
 
 /* Byte 0 of an answer. */
 enum star_kind {
     STAR_REFUSED = 0,
-    STAR_PASSED = 1, /* star_cst: no cheaper set exists; star_mst1: the network is built; star_import: the text is read */
+    STAR_PASSED = 1, /* star_cst, star_other: no cheaper set exists; star_mst1: the network is built; star_paths: the matrix is filled;
+                        star_import: the text is read */
     STAR_LIGHTER = 2 /* a cheaper set exists: the exchange of two rows is one */
 };
 
-/* Byte 1 of a refused answer, and what its place is. 5 is not used. */
+/* Byte 1 of a refused answer, and what its place is. 5 and 14 are not used. */
 enum star_refusal {
     STAR_BAD_JUNCTION_COUNT = 1, /* n is 0 or above 255 */
     STAR_TOO_MANY_ROWS = 2,      /* m is above 1,024 */
     STAR_BAD_LENGTHS = 3,        /* right or mark is not m bytes, or weight not 4 m; star_import: not 1,024, 1,024 and 4,096 bytes */
     STAR_BAD_END = 4,            /* place: the uppermost row with an end that is 0 or above n, or with equal ends */
-    STAR_BAD_MARK = 6,           /* place: the uppermost row marked with another byte than 0 and 1 (star_cst) */
-    STAR_BAD_MARK_COUNT = 9,     /* the marks are not n - 1 (star_cst) */
-    STAR_NOT_JOINED = 10,        /* place: the smallest junction that marked rows do not join to 1 (star_cst) */
+    STAR_BAD_MARK = 6,           /* place: the uppermost row marked with another byte than 0 and 1 (all but star_mst1) */
+    STAR_BAD_SOURCE = 7,         /* s is 0 or above n (star_paths) */
+    STAR_SHORT_MATRIX = 8,       /* the matrix has fewer than 16 n words (star_paths) */
+    STAR_BAD_MARK_COUNT = 9,     /* the marks are not n - 1 (all but star_mst1) */
+    STAR_NOT_JOINED = 10,        /* place: the smallest junction that marked rows do not join to 1, or to s (star_paths) */
     STAR_NO_NETWORK = 11,        /* no set of rows joins every junction (star_mst1) */
     STAR_BAD_TEXT = 12,          /* place: the first byte, counted from 0, of the first word that cannot stand; the text's length if it ends
                                     too early; 65,536 if it is longer (star_import) */
-    STAR_BAD_EDGE_COUNT = 13     /* the E lines are not as many as the line Edges says (star_import) */
+    STAR_BAD_EDGE_COUNT = 13,    /* the E lines are not as many as the line Edges says (star_import) */
+    STAR_REPEATED_ROW = 15       /* place: the uppermost row that joins the same two junctions as an earlier one, in either direction; told
+                                    after 4 and before 6 */
 };
 
 /* A refusal in words, such as "the marks are not n - 1"; never a null pointer, whatever the number. */
@@ -80,14 +90,31 @@ uint32_t star_cst(uint32_t n, const uint8_t *left, size_t left_len, const uint8_
                   const uint8_t *weight, size_t weight_len, const uint8_t *mark, size_t mark_len, uint8_t *answer,
                   size_t answer_len);
 
+/* As star_cst; and where the claim passes and is not the only cheapest network, out and in are two rows whose exchange gives another of the
+ * same total. */
+uint32_t star_other(uint32_t n, const uint8_t *left, size_t left_len, const uint8_t *right, size_t right_len,
+                    const uint8_t *weight, size_t weight_len, const uint8_t *mark, size_t mark_len, uint8_t *answer,
+                    size_t answer_len);
+
 uint32_t star_mst1(uint32_t n, const uint8_t *left, size_t left_len, const uint8_t *right, size_t right_len,
                    const uint8_t *weight, size_t weight_len, uint8_t *mark, size_t mark_len, uint8_t *answer,
                    size_t answer_len);
 
+/* Fills the path matrix of a claim that is a tree: sixteen words for each junction, in which the rows on the path from s to it are 1. The words
+ * from 16 n on keep their content. Where nothing is refused the answer's kind is STAR_PASSED and all else is 0. */
+uint32_t star_paths(uint32_t n, const uint8_t *left, size_t left_len, const uint8_t *right, size_t right_len,
+                    const uint8_t *weight, size_t weight_len, const uint8_t *mark, size_t mark_len, uint32_t s,
+                    uint64_t *matrix, size_t words, uint8_t *answer, size_t answer_len);
+
+/* Whether a row, counted from 1, is on the path to a junction, by a matrix that star_paths has filled. */
+static inline int star_on_path(const uint64_t *matrix, uint32_t junction, size_t row) {
+    return (int)(matrix[STAR_COLUMN_WORDS * ((size_t)junction - 1) + (row - 1) / 64] >> ((row - 1) % 64) & 1);
+}
+
 /* Reads an STP text: a first line that opens with 33D32945; sections, of which one is named Graph, with its lines Nodes N, Edges M,
  * E LEFT RIGHT PRICE for each row, END; and EOF. Sections of other names are skipped. left, right and weight are lent for 1,024 rows:
  * 1,024, 1,024 and 4,096 bytes. The m rows of the text are written at the top, and rows past m keep their content. A PRICE may open
- * with -; one outside -2,147,483,648 to 2,147,483,647 is a word that cannot stand. A refusal is 12, else 13, 1, 2, 3 or 4. The first m
+ * with -; one outside -2,147,483,648 to 2,147,483,647 is a word that cannot stand. A refusal is 12, else 13, 1, 2, 3, 4 or 15. The first m
  * rows (4 m bytes of weight) are what star_cst and star_mst1 take. */
 uint32_t star_import(const uint8_t *text, size_t text_len, uint8_t *left, size_t left_len, uint8_t *right, size_t right_len,
                      uint8_t *weight, size_t weight_len, uint8_t *answer, size_t answer_len);
@@ -105,12 +132,13 @@ static inline int32_t star_get_price(const uint8_t *weight, size_t index) {
     return bits <= INT32_MAX ? (int32_t)bits : -1 - (int32_t)~bits;
 }
 
-/* The sixteen bytes of star_cst and star_mst1 as fields; those that a kind lacks are 0. */
+/* The sixteen bytes of every door but star_import as fields; those that a kind lacks are 0. */
 struct star_answer {
     unsigned kind;   /* byte 0: enum star_kind */
     unsigned number; /* byte 1: enum star_refusal, 0 unless refused */
-    unsigned out;    /* bytes 2 and 3: lighter: the row to take out; refused: the place */
-    unsigned in;     /* bytes 4 and 5: lighter: the row to put in */
+    unsigned out;    /* bytes 2 and 3: lighter: the row to take out; refused: the place; star_other, passed and not the only one: a row to take out */
+    unsigned in;     /* bytes 4 and 5: lighter: the row to put in; star_other: as out */
+    unsigned only;   /* byte 6: 1 where star_cst or star_other passes the claim and no other network has its total; 0 in every other answer */
     int64_t amount;  /* bytes 8 to 15, two's complement: passed: the total; lighter: the saving, above 0 and at most 4,294,967,295 */
 };
 
@@ -122,6 +150,7 @@ static inline struct star_answer star_read_answer(const uint8_t bytes[16]) {
     a.number = bytes[1];
     a.out = (unsigned)bytes[2] | (unsigned)bytes[3] << 8;
     a.in = (unsigned)bytes[4] | (unsigned)bytes[5] << 8;
+    a.only = bytes[6];
     for (i = 7; i >= 0; i--) bits = bits << 8 | bytes[8 + i];
     a.amount = bits <= INT64_MAX ? (int64_t)bits : -1 - (int64_t)~bits;
     return a;

@@ -53,8 +53,44 @@ try street-table 0 'Total 249' '' build "$work/street.txt"
 { cat $street; head -c 65536 /dev/zero | tr '\0' ' '; } >"$work/long.stp"
 try long 2 'Refused \(12\): .*long.stp: .*at most 65536' '' build "$work/long.stp"
 
+# What a plan's check says beside the verdict.
+try only 0 '^It is the only cheapest network\.$' '' check console/examples/t1.txt
+try not-only 0 '^Another network costs the same: take out trench 3 \(3-4, price 5\), put in trench 1 \(1-2, price 5\)\.$' '' check $yard
+try total-beside 1 "^The plan's total is 13, and 12 after this exchange\\. It is the first one found, not the one that saves most" '' check $dear
+try build-saves 0 '^The marked trenches cost 13: these save 1\.$' '' build $dear
+try build-saves-nothing 0 '^The marked trenches cost 12 too\.$' '' build $yard
+try build-no-plan 0 '^The marked trenches cost 14, and are no network: the marked rows do not join every junction' '1 2 5 1\n2 3 3 1\n3 4 5 0\n1 4 4 0\n1 3 6 1\n' build
+try build-unmarked 0 '^Total 8$' '1 2 5\n2 3 3\n' build
+! grep -q 'marked trenches' "$work/out"
+verdict build-unmarked-alone $?
+
+# explain: one trench, left out or of the plan, or none; all of them; a number that is none. The stored cases have the rest.
+try explain-one 0 'sum 9, does not count; dearest 5 \(trench 3\); 6 > 5: ' '' explain $yard 5
+! grep -q '^trench 1' "$work/out"
+verdict explain-one-alone $?
+try explain-marked 0 'trench 3 .*on the detour of trenches 1, 5' '' explain $yard 3
+try explain-marked-equal 0 'the cheapest of them costs 5 \(trench 1\); 5 = 5: ' '' explain $yard 3
+try explain-marked-dear 0 '5 > 4: the exchange is cheaper' '' explain $dear 1
+try explain-bridge 0 'on no detour' '1 2 5 1\n2 3 4 1\n' explain - 2
+try explain-all 0 '^trench 30 ' '' explain tests/console/explain-bounded.txt --all
+! grep -q 'more are left out' "$work/out"
+verdict explain-all-whole $?
+try explain-city 0 '^760 more are left out: 0 that save, 0 that cost as much' '' explain console/examples/city.txt
+[ "$(wc -l <"$work/out")" -lt 40 ]
+verdict explain-city-short $?
+try explain-none 4 'there is no trench 6; the table has 5' '' explain $yard 6
+try explain-zero 4 "a trench is named by its number, from 1 on, and not by '0'" '' explain $yard 0
+try explain-word 4 "a trench is named by its number, from 1 on, and not by 'x'" '' explain $yard x
+try explain-files 4 "one file is read, and there is also '3'" '' explain $yard 2 3
+try explain-stp 3 'no plan to explain' '' explain $street
+try explain-option 4 "unknown option '--all'" '' check --all $yard
+
+# The detours are those that a search over marked trenches finds, and so are a ring and what is cut off.
+python3 -B tests/detours.py "${star[@]}" >"$work/all"
+verdict detours $?
+
 # Output that cannot be written is told, with a status of its own.
-for words in "check $yard" "build $yard" "build --table $yard" "draw $yard" "dot $yard" "table $yard" "--help" "check --help" "--version"; do
+for words in "check $yard" "build $yard" "build --table $yard" "explain $yard" "page $yard" "draw $yard" "dot $yard" "table $yard" "--help" "check --help" "--version"; do
     "${star[@]}" $words >/dev/full 2>"$work/all"
     [ $? = 5 ] && grep -q 'standard output: it could not be written: No space left' "$work/all"
     verdict "full: $words" $?
@@ -77,6 +113,7 @@ rows() { for ((i = 0; i < $1; i++)); do printf '1 2 3 0\\n'; done; }
 for picture in draw dot; do
     try "$picture-256" 2 'Refused \(1\)' 'junctions 256\n1 2 5 1\n' $picture
     try "$picture-empty" 2 'Refused \(1\)' '' $picture
+    try "$picture-repeat" 2 'Refused \(15\)' '1 2 5 1\n2 1 5 0\n' $picture
     try "$picture-rows" 2 'Refused \(2\).*1025' "$(rows 1025)" $picture
     try "$picture-mark" 2 'Refused \(6\)' '1 2 5 7\n' $picture
     [ ! -s "$work/out" ]
@@ -114,6 +151,12 @@ try end-257 2 'Refused \(4\): .* ends at junction 257;' 'junctions 4\n257 2 5 1\
 try end-258 2 'Refused \(4\): .* ends at junction 258;' 'junctions 4\n1 258 5 1\n' check
 try end-left 2 'trench 1 ends at junction 0;' '0 2 5 1\n' check
 try end-equal 2 'Refused \(4\): standard input:4: trench 2 joins junction 2 to itself' "${top}1 2 5 1\n2 2 3 1\n" check
+try repeat 2 'Refused \(15\): standard input:6: trench 4 joins the same junctions as trench 1\.$' "${top}1 2 5 1\n2 3 3 1\n1 3 4 0\n2 1 4 0\n" check
+try repeat-first 2 'trench 2 joins the same junctions as trench 1\.' '1 2 5 1\n1 2 5 1\n2 1 5 1\n' check
+try repeat-after-end 2 'Refused \(4\): .* trench 3 joins junction 3 to itself' '1 2 5 1\n2 1 5 1\n3 3 5 1\n' check
+try repeat-before-mark 2 'Refused \(15\)' '1 2 5 7\n2 1 5 1\n' check
+for words in build 'build --table' table explain; do try "repeat: $words" 2 'Refused \(15\): standard input:2: trench 2 joins the same junctions as trench 1' '1 2 5 1\n2 1 5 1\n' $words; done
+try repeat-stp 2 'Refused \(15\): standard input:8: trench 3 joins the same junctions as trench 2\.$' '33D32945\nSECTION Graph\nNodes 3\nEdges 3\nE 1 2 5\nE 2 3 5\n\nE 3 2 1\nEND\nEOF\n' build
 try digits 2 'the largest junction is 9{40}\.\.; from 1 to 255' "$(printf '9%.0s' {1..700}) 2 5 1\n" check
 try one-mark 2 ': 1 trench is marked; a network of 4 junctions has exactly 3' '1 2 5 1\n2 3 3 0\n3 4 1 0\n' check
 try edges 2 'Refused \(13\): standard input:4: the line Edges says 3, and 2 E lines stand' '33D32945\nSECTION Graph\nNodes 3\nEdges 3\nE 1 2 5\nE 2 3 5\nEND\nEOF\n' build

@@ -1,7 +1,8 @@
 /* Compares the doors with the plain implementation on many tables: valid and damaged ones, each refusal alone and several at once, boundary
- * lengths, ties, parallel rows, claims that are near the least tree, the largest table. Every other table has prices below 0, many of them the
- * least and the largest price. Guard bytes stand around every lent column. Totals and savings are added up once more, in 64 bits with a sign.
- * The largest table is tried in a thread with the stack that the header names.
+ * lengths, ties, repeated rows in one of sixteen, claims that are near the least tree, the largest table. Every other table has prices below 0, many of them the
+ * least and the largest price. Guard bytes stand around every lent column. Totals and savings are added up once more, in 64 bits with a sign;
+ * an exchange of equal prices is made, and what it gives is checked; on small tables every spanning tree is listed, to count those that cost
+ * the same. The largest table is tried in a thread with the stack that the header names.
  * usage: door_test [TABLES]   prints one line 'N passed, M failed' */
 #define _POSIX_C_SOURCE 200809L
 #include <pthread.h>
@@ -12,7 +13,7 @@
 #include "plain.h"
 #include "star.h"
 
-enum { GUARD = 32, ROOM = 1032, FILL = 0xA5, STACK = 128 << 10 };
+enum { GUARD = 32, ROOM = 1032, WORDS = STAR_COLUMN_WORDS * STAR_MAX_JUNCTIONS + 40, FILL = 0xA5, STACK = 128 << 10 };
 
 /* Prices from one number to another. */
 struct range {
@@ -67,9 +68,23 @@ static void set_price(size_t i, int32_t w) { star_put_price(at(&weight), i, w); 
 
 static int32_t price(size_t i) { return star_get_price(at(&weight), i); }
 
-/* A table of n vertices and m rows: a connected one where it can be. */
-static uint32_t fresh(uint32_t n, size_t m, struct range prices, int connected) {
+/* The pairs of n vertices. */
+static size_t pairs_of(uint32_t n) { return (size_t)n * (n - 1) / 2; }
+
+/* Whether a pair, in either direction, is met for the first time since `round` was counted up. */
+static uint32_t met[256][256], met_round;
+
+static int first_met(uint32_t a, uint32_t b) {
+    uint32_t *of = a < b ? &met[a][b] : &met[b][a];
+    if (*of == met_round) return 0;
+    *of = met_round;
+    return 1;
+}
+
+/* A table of n vertices and m rows: a connected one where it can be; with repeated rows only if they are asked for. */
+static uint32_t table_of(uint32_t n, size_t m, struct range prices, int connected, int repeats) {
     size_t i;
+    met_round++;
     make(&left, m);
     make(&right, m);
     make(&weight, 4 * m);
@@ -78,7 +93,7 @@ static uint32_t fresh(uint32_t n, size_t m, struct range prices, int connected) 
     for (i = 0; i < m; i++) {
         uint32_t a = 1 + any(n), b = 1 + any(n);
         if (connected && i + 1 < n) a = (uint32_t)i + 2, b = 1 + any((uint32_t)i + 1);
-        while (n > 1 && a == b) b = 1 + any(n);
+        while (n > 1 && (a == b || (!repeats && !first_met(a, b)))) a = 1 + any(n), b = 1 + any(n);
         if (any(2)) {
             uint32_t t = a;
             a = b;
@@ -99,6 +114,9 @@ static uint32_t fresh(uint32_t n, size_t m, struct range prices, int connected) 
     }
     return n;
 }
+
+/* The same, with repeated rows in one table of sixteen, and where there are fewer pairs than rows. */
+static uint32_t fresh(uint32_t n, size_t m, struct range prices, int connected) { return table_of(n, m, prices, connected, m > pairs_of(n) || any(16) == 0); }
 
 /* A claim: the least tree, the least tree with one row exchanged, some spanning tree, or as it came. */
 static void claim(uint32_t n, size_t m) {
@@ -142,9 +160,14 @@ static void reguard(struct column *c) { memset(c->bytes + GUARD + c->len, FILL, 
 /* Calls a door; an empty column is lent as a null pointer. */
 static uint8_t *lend(struct column *c) { return c->len ? at(c) : NULL; }
 
-static uint32_t lent(uint32_t n, int build) {
-    return build ? star_mst1(n, lend(&left), left.len, lend(&right), right.len, lend(&weight), weight.len, lend(&mark), mark.len, lend(&answer), answer.len)
-                 : star_cst(n, lend(&left), left.len, lend(&right), right.len, lend(&weight), weight.len, lend(&mark), mark.len, lend(&answer), answer.len);
+enum door { CST, OTHER, MST1, DOORS };
+
+static const char *const NAMES[DOORS] = {"star_cst", "star_other", "star_mst1"};
+
+static uint32_t lent(uint32_t n, enum door d) {
+    if (d == MST1)
+        return star_mst1(n, lend(&left), left.len, lend(&right), right.len, lend(&weight), weight.len, lend(&mark), mark.len, lend(&answer), answer.len);
+    return (d == CST ? star_cst : star_other)(n, lend(&left), left.len, lend(&right), right.len, lend(&weight), weight.len, lend(&mark), mark.len, lend(&answer), answer.len);
 }
 
 /* The sum of the marked rows' prices. */
@@ -163,18 +186,60 @@ static int amount_holds(void) {
     return a.amount == 0;
 }
 
-static int agree(uint32_t n, int build) {
+/* Where star_other names an exchange of a claim that passed: a marked row goes out, an unmarked one of its price comes in, and star_cst passes
+   what that gives with the same total and the answer that it is not the only one. Where it names none: no other row is told. */
+static int other_holds(uint32_t n) {
+    static struct column claim, said;
+    struct star_answer a = star_read_answer(at(&answer)), b;
+    int ok;
+    if (a.kind != STAR_PASSED) return a.only == 0;
+    if (a.only) return a.only == 1 && !a.out && !a.in;
+    if (a.out < 1 || a.out > mark.len || a.in < 1 || a.in > mark.len) return 0;
+    ok = at(&mark)[a.out - 1] == 1 && at(&mark)[a.in - 1] == 0 && price(a.out - 1) == price(a.in - 1);
+    claim = mark;
+    said = answer;
+    at(&mark)[a.out - 1] = 0;
+    at(&mark)[a.in - 1] = 1;
+    ok = ok && lent(n, CST) == 1;
+    b = star_read_answer(at(&answer));
+    mark = claim;
+    answer = said;
+    return ok && b.kind == STAR_PASSED && b.amount == a.amount && !b.only;
+}
+
+static int agree(uint32_t n, enum door d) {
+    static uint32_t (*const PLAIN[DOORS])(const struct call *, uint8_t *, size_t) = {plain_cst, plain_other, plain_mst1};
     static struct column mine, marks;
     struct column l = left, r = right, w = weight;
     struct call c = {n, at(&left), at(&right), at(&weight), at(&marks), left.len, right.len, weight.len, mark.len};
     uint32_t said, plain;
     mine = answer;
     marks = mark;
-    plain = (build ? plain_mst1 : plain_cst)(&c, at(&mine), mine.len);
-    said = lent(n, build);
+    plain = PLAIN[d](&c, at(&mine), mine.len);
+    said = lent(n, d);
     return said == plain && !memcmp(answer.bytes, mine.bytes, sizeof mine.bytes) && !memcmp(mark.bytes, marks.bytes, sizeof marks.bytes)
         && guarded(&answer) && guarded(&mark) && !memcmp(left.bytes, l.bytes, sizeof l.bytes) && !memcmp(right.bytes, r.bytes, sizeof r.bytes)
-        && !memcmp(weight.bytes, w.bytes, sizeof w.bytes) && (!said || amount_holds());
+        && !memcmp(weight.bytes, w.bytes, sizeof w.bytes) && (!said || amount_holds()) && (!said || d != OTHER || other_holds(n));
+}
+
+/* The matrix that star_paths is lent, with guard words around it, and the one that parent pointers give. */
+static uint64_t matrix[GUARD + WORDS + GUARD], paths[GUARD + WORDS + GUARD];
+
+/* star_paths from s, on a matrix of so many words: the answer, and every word of the matrix, its guards included. */
+static int paths_agree(uint32_t n, uint32_t s, size_t words) {
+    static struct column mine;
+    struct column l = left, r = right, w = weight, marks = mark;
+    struct call c = {n, at(&left), at(&right), at(&weight), at(&mark), left.len, right.len, weight.len, mark.len};
+    uint32_t said, plain;
+    size_t i;
+    for (i = 0; i < sizeof matrix / sizeof matrix[0]; i++) matrix[i] = paths[i] = draw() << 20 ^ draw();
+    mine = answer;
+    plain = plain_paths(&c, s, paths + GUARD, words, at(&mine), mine.len);
+    said = star_paths(n, lend(&left), left.len, lend(&right), right.len, lend(&weight), weight.len, lend(&mark), mark.len, s, words ? matrix + GUARD : NULL, words,
+                      lend(&answer), answer.len);
+    return said == plain && !memcmp(answer.bytes, mine.bytes, sizeof mine.bytes) && !memcmp(matrix, paths, sizeof matrix) && guarded(&answer)
+        && !memcmp(left.bytes, l.bytes, sizeof l.bytes) && !memcmp(right.bytes, r.bytes, sizeof r.bytes) && !memcmp(weight.bytes, w.bytes, sizeof w.bytes)
+        && !memcmp(mark.bytes, marks.bytes, sizeof marks.bytes);
 }
 
 static unsigned long passed, failed;
@@ -187,15 +252,30 @@ static void tell(int ok, const char *what, uint32_t n) {
     if (failed++ < 10) fprintf(stderr, "%s differs: n %u, lengths %zu %zu %zu %zu, answer %zu, seed state %llx\n", what, n, left.len, right.len, weight.len, mark.len, answer.len, (unsigned long long)state);
 }
 
-static void both(uint32_t n) {
+/* Passes that were the only cheapest network, and passes that were not. */
+static unsigned long only, not_only;
+
+/* The paths from a junction, mostly one that there is, on a matrix that is mostly large enough. */
+static void follow(uint32_t n) {
+    uint32_t s = any(20) ? 1 + any(n) : any(2) ? 0 : n + 1 + any(9);
+    size_t need = STAR_COLUMN_WORDS * (size_t)(n > STAR_MAX_JUNCTIONS ? STAR_MAX_JUNCTIONS : n), words = any(20) ? need + any(3) * any(20) : need ? need - 1 - any(2) * any((uint32_t)need) : 0;
+    tell(paths_agree(n, s, words), "star_paths", n);
+}
+
+/* Every door; star_mst1 last, since it writes the marks. */
+static void all(uint32_t n) {
+    enum door d;
     reguard(&left);
     reguard(&right);
     reguard(&weight);
     reguard(&mark);
     reguard(&answer);
-    tell(agree(n, 0), "star_cst", n);
-    memset(at(&answer), FILL, answer.len);
-    tell(agree(n, 1), "star_mst1", n);
+    for (d = CST; d < DOORS; d++) {
+        if (d == MST1) follow(n);
+        memset(at(&answer), FILL, answer.len);
+        tell(agree(n, d), NAMES[d], n);
+        if (d == CST && answer.len == 16 && at(&answer)[0] == STAR_PASSED) at(&answer)[6] ? only++ : not_only++;
+    }
 }
 
 /* Tables made, those with a price below 0, and those with the least and with the largest price. */
@@ -234,6 +314,7 @@ static void one(unsigned long k) {
     else if (k % 100 < 2) n = 1 + any(255), m = any(1025);
     else n = 1 + any(10), m = n == 1 ? any(40) == 0 : any(20);
     if (below && n == 1) n = 2;
+    if (n > 1 && m > pairs_of(n) && any(16)) m = pairs_of(n);
     if (below && m == 0) m = 1;
     n = fresh(n, m, prices, any(8) != 0);
     if (below) sign_prices(m);
@@ -241,7 +322,7 @@ static void one(unsigned long k) {
     count_prices(m);
     if (any(3) == 0)
         for (i = 0; i <= (int)any(3); i++) n = damage(n, m);
-    both(n);
+    all(n);
 }
 
 /* The limits, each taken and one more refused, with lengths at and past them. */
@@ -251,11 +332,11 @@ static void limits(void) {
     for (i = 0; i < sizeof lengths / sizeof lengths[0]; i++)
         for (j = 0; j < 20; j++) {
             struct range prices = {j % 3 ? -2 : 0, 4};
-            uint32_t n = fresh(j % 2 ? 255 : 2 + any(60), lengths[i], prices, 1);
+            uint32_t n = fresh(j % 2 ? 255 : j % 8 ? 46 + any(60) : 2 + any(60), lengths[i], prices, 1);
             claim(n, lengths[i]);
             if (j % 4 == 3) n = 256;
             if (j % 4 == 2) n = 0;
-            both(n);
+            all(n);
         }
 }
 
@@ -279,24 +360,24 @@ static void nulls(void) {
     static const struct {
         const char *empty; /* the columns that are lent as null pointers */
         uint32_t n, returns;
-        unsigned kind[2], number[2]; /* of star_cst and of star_mst1 */
+        unsigned kind, number, builds; /* of star_cst and star_other; the refusal of star_mst1 */
         int64_t amount;
     } call[] = {
-        {"", 4, 1, {STAR_PASSED, STAR_PASSED}, {0, 0}, 12},
-        {"l", 4, 1, {STAR_REFUSED, STAR_REFUSED}, {STAR_BAD_LENGTHS, STAR_BAD_LENGTHS}, 0},
-        {"r", 4, 1, {STAR_REFUSED, STAR_REFUSED}, {STAR_BAD_LENGTHS, STAR_BAD_LENGTHS}, 0},
-        {"w", 4, 1, {STAR_REFUSED, STAR_REFUSED}, {STAR_BAD_LENGTHS, STAR_BAD_LENGTHS}, 0},
-        {"m", 4, 1, {STAR_REFUSED, STAR_REFUSED}, {STAR_BAD_LENGTHS, STAR_BAD_LENGTHS}, 0},
-        {"a", 4, 0, {0, 0}, {0, 0}, 0},
-        {"lrwm", 0, 1, {STAR_REFUSED, STAR_REFUSED}, {STAR_BAD_JUNCTION_COUNT, STAR_BAD_JUNCTION_COUNT}, 0},
-        {"lrwm", 1, 1, {STAR_PASSED, STAR_PASSED}, {0, 0}, 0},
-        {"lrwm", 2, 1, {STAR_REFUSED, STAR_REFUSED}, {STAR_BAD_MARK_COUNT, STAR_NO_NETWORK}, 0},
-        {"lrwma", 1, 0, {0, 0}, {0, 0}, 0},
+        {"", 4, 1, STAR_PASSED, 0, 0, 12},
+        {"l", 4, 1, STAR_REFUSED, STAR_BAD_LENGTHS, STAR_BAD_LENGTHS, 0},
+        {"r", 4, 1, STAR_REFUSED, STAR_BAD_LENGTHS, STAR_BAD_LENGTHS, 0},
+        {"w", 4, 1, STAR_REFUSED, STAR_BAD_LENGTHS, STAR_BAD_LENGTHS, 0},
+        {"m", 4, 1, STAR_REFUSED, STAR_BAD_LENGTHS, STAR_BAD_LENGTHS, 0},
+        {"a", 4, 0, 0, 0, 0, 0},
+        {"lrwm", 0, 1, STAR_REFUSED, STAR_BAD_JUNCTION_COUNT, STAR_BAD_JUNCTION_COUNT, 0},
+        {"lrwm", 1, 1, STAR_PASSED, 0, 0, 0},
+        {"lrwm", 2, 1, STAR_REFUSED, STAR_BAD_MARK_COUNT, STAR_NO_NETWORK, 0},
+        {"lrwma", 1, 0, 0, 0, 0, 0},
     };
     size_t i;
-    int build;
+    enum door d;
     for (i = 0; i < sizeof call / sizeof call[0]; i++)
-        for (build = 0; build < 2; build++) {
+        for (d = CST; d < DOORS; d++) {
             struct star_answer said;
             const char *e = call[i].empty;
             int ok;
@@ -306,30 +387,37 @@ static void nulls(void) {
             if (strchr(e, 'w')) make(&weight, 0);
             if (strchr(e, 'm')) make(&mark, 0);
             if (strchr(e, 'a')) make(&answer, 0);
-            tell(agree(call[i].n, build), build ? "star_mst1 with null pointers" : "star_cst with null pointers", call[i].n);
+            tell(agree(call[i].n, d), "a door with null pointers", call[i].n);
+            tell(paths_agree(call[i].n, 1, d == CST ? 0 : WORDS), "star_paths with null pointers", call[i].n);
             memset(at(&answer), FILL, answer.len);
-            ok = lent(call[i].n, build) == call[i].returns;
+            ok = lent(call[i].n, d) == call[i].returns;
             said = star_read_answer(at(&answer));
-            if (call[i].returns) ok = ok && said.kind == call[i].kind[build] && said.number == call[i].number[build] && said.amount == call[i].amount && !said.out && !said.in;
-            tell(ok, build ? "star_mst1's answer to null pointers" : "star_cst's answer to null pointers", call[i].n);
+            if (call[i].returns)
+                ok = ok && said.kind == call[i].kind && said.number == (d == MST1 ? call[i].builds : call[i].number) && said.amount == call[i].amount
+                  && (d == OTHER || (!said.out && !said.in)) && said.only == (d != MST1 && said.kind == STAR_PASSED && call[i].n == 1);
+            tell(ok, "a door's answer to null pointers", call[i].n);
         }
 }
 
-/* Both doors in a thread of 128 KiB, on the largest table: the tree that is built passes. */
+/* The doors in a thread of 128 KiB, on the largest table: the tree that is built passes, and its paths are found. */
 static void *on_small_stack(void *said) {
-    ((uint32_t *)said)[0] = lent(255, 1);
-    ((uint32_t *)said)[1] = lent(255, 0);
+    uint32_t *returned = said;
+    returned[0] = lent(255, MST1);
+    returned[1] = star_paths(255, at(&left), left.len, at(&right), right.len, at(&weight), weight.len, at(&mark), mark.len, 255, matrix, WORDS, at(&answer), answer.len)
+               && at(&answer)[0] == STAR_PASSED;
+    returned[2] = lent(255, OTHER);
+    returned[3] = lent(255, CST);
     return NULL;
 }
 
 static void small_stack(void) {
     pthread_attr_t attr;
     pthread_t thread;
-    uint32_t said[2] = {0, 0};
+    uint32_t said[4] = {0, 0, 0, 0};
     struct range prices = {-500, 499};
-    fresh(255, 1024, prices, 1);
+    table_of(255, 1024, prices, 1, 0);
     tell(!pthread_attr_init(&attr) && !pthread_attr_setstacksize(&attr, STACK) && !pthread_create(&thread, &attr, on_small_stack, said) && !pthread_join(thread, NULL)
-             && said[0] == 1 && said[1] == 1 && star_read_answer(at(&answer)).kind == STAR_PASSED,
+             && said[0] == 1 && said[1] == 1 && said[2] == 1 && said[3] == 1 && star_read_answer(at(&answer)).kind == STAR_PASSED,
          "a thread of 128 KiB", 255);
 }
 
@@ -355,31 +443,44 @@ static void packed(void) {
     }
 }
 
-/* Tables whose answers are known to the byte: the yard with prices below 0, a triangle of them, and the two limits of a price. */
+/* Tables whose answers are known to the byte: the yard with prices below 0, a triangle of them, two cheapest networks and one, the two limits of
+   a price, and repeated rows: the place is the later one, a bad end goes before, and a bad mark after. */
 static void known(void) {
     static const struct {
         uint32_t n;
         size_t m;
         uint8_t left[5], right[5];
         int32_t price[5];
-        uint8_t claim[5], checked[16], tree[5], built[16];
+        uint8_t claim[5], checked[16], named[2], tree[5], built[16]; /* named: out and in of star_other */
     } call[] = {
         {4, 5, {1, 2, 3, 1, 1}, {2, 3, 4, 4, 3}, {5, -3, 5, -4, STAR_MIN_PRICE},
-         {1, 1, 0, 1, 0}, {2, 0, 1, 0, 5, 0, 0, 0, 5, 0, 0, 128}, {0, 1, 0, 1, 1}, {1, 0, 0, 0, 0, 0, 0, 0, 249, 255, 255, 127, 255, 255, 255, 255}},
+         {1, 1, 0, 1, 0}, {2, 0, 1, 0, 5, 0, 0, 0, 5, 0, 0, 128, 0, 0, 0, 0}, {1, 5}, {0, 1, 0, 1, 1}, {1, 0, 0, 0, 0, 0, 0, 0, 249, 255, 255, 127, 255, 255, 255, 255}},
         {4, 5, {1, 2, 3, 1, 1}, {2, 3, 4, 4, 3}, {5, -3, 5, -4, STAR_MIN_PRICE},
-         {0, 1, 0, 1, 1}, {1, 0, 0, 0, 0, 0, 0, 0, 249, 255, 255, 127, 255, 255, 255, 255}, {0, 1, 0, 1, 1}, {1, 0, 0, 0, 0, 0, 0, 0, 249, 255, 255, 127, 255, 255, 255, 255}},
+         {0, 1, 0, 1, 1}, {1, 0, 0, 0, 0, 0, 1, 0, 249, 255, 255, 127, 255, 255, 255, 255}, {0, 0}, {0, 1, 0, 1, 1}, {1, 0, 0, 0, 0, 0, 0, 0, 249, 255, 255, 127, 255, 255, 255, 255}},
+        {4, 5, {1, 2, 3, 1, 1}, {2, 3, 4, 4, 3}, {5, 3, 5, 4, 6},
+         {1, 1, 0, 1, 0}, {1, 0, 0, 0, 0, 0, 0, 0, 12, 0, 0, 0, 0, 0, 0, 0}, {1, 3}, {1, 1, 0, 1, 0}, {1, 0, 0, 0, 0, 0, 0, 0, 12, 0, 0, 0, 0, 0, 0, 0}},
+        {4, 5, {1, 2, 3, 1, 1}, {2, 3, 4, 4, 3}, {5, 3, 5, 4, 6},
+         {0, 1, 1, 1, 0}, {1, 0, 0, 0, 0, 0, 0, 0, 12, 0, 0, 0, 0, 0, 0, 0}, {3, 1}, {1, 1, 0, 1, 0}, {1, 0, 0, 0, 0, 0, 0, 0, 12, 0, 0, 0, 0, 0, 0, 0}},
+        {4, 4, {1, 2, 2, 3}, {2, 3, 4, 4}, {9, 1, 1, 1},
+         {1, 1, 1, 0}, {1, 0, 0, 0, 0, 0, 0, 0, 11, 0, 0, 0, 0, 0, 0, 0}, {2, 4}, {1, 1, 1, 0}, {1, 0, 0, 0, 0, 0, 0, 0, 11, 0, 0, 0, 0, 0, 0, 0}},
+        {3, 3, {1, 2, 1}, {2, 3, 3}, {2, 2, 3},
+         {1, 1, 0}, {1, 0, 0, 0, 0, 0, 1, 0, 4, 0, 0, 0, 0, 0, 0, 0}, {0, 0}, {1, 1, 0}, {1, 0, 0, 0, 0, 0, 0, 0, 4, 0, 0, 0, 0, 0, 0, 0}},
         {3, 3, {1, 2, 1}, {2, 3, 3}, {-1, -1, -1},
-         {1, 1, 1}, {0, 9}, {1, 1, 0}, {1, 0, 0, 0, 0, 0, 0, 0, 254, 255, 255, 255, 255, 255, 255, 255}},
+         {1, 1, 1}, {0, 9}, {0, 0}, {1, 1, 0}, {1, 0, 0, 0, 0, 0, 0, 0, 254, 255, 255, 255, 255, 255, 255, 255}},
         {3, 3, {1, 2, 1}, {2, 3, 3}, {-1, -1, -1},
-         {0, 1, 1}, {1, 0, 0, 0, 0, 0, 0, 0, 254, 255, 255, 255, 255, 255, 255, 255}, {1, 1, 0}, {1, 0, 0, 0, 0, 0, 0, 0, 254, 255, 255, 255, 255, 255, 255, 255}},
-        {2, 2, {1, 1}, {2, 2}, {STAR_MAX_PRICE, STAR_MIN_PRICE},
-         {1, 0}, {2, 0, 1, 0, 2, 0, 0, 0, 255, 255, 255, 255, 0, 0, 0, 0}, {0, 1}, {1, 0, 0, 0, 0, 0, 0, 0, 0, 0, 0, 128, 255, 255, 255, 255}},
-        {2, 2, {1, 1}, {2, 2}, {STAR_MAX_PRICE, STAR_MIN_PRICE},
-         {0, 1}, {1, 0, 0, 0, 0, 0, 0, 0, 0, 0, 0, 128, 255, 255, 255, 255}, {0, 1}, {1, 0, 0, 0, 0, 0, 0, 0, 0, 0, 0, 128, 255, 255, 255, 255}},
+         {0, 1, 1}, {1, 0, 0, 0, 0, 0, 0, 0, 254, 255, 255, 255, 255, 255, 255, 255}, {2, 1}, {1, 1, 0}, {1, 0, 0, 0, 0, 0, 0, 0, 254, 255, 255, 255, 255, 255, 255, 255}},
+        {3, 3, {1, 2, 1}, {2, 3, 3}, {STAR_MAX_PRICE, STAR_MIN_PRICE, STAR_MIN_PRICE},
+         {1, 1, 0}, {2, 0, 1, 0, 3, 0, 0, 0, 255, 255, 255, 255, 0, 0, 0, 0}, {1, 3}, {0, 1, 1}, {1, 0, 0, 0, 0, 0, 0, 0, 0, 0, 0, 0, 255, 255, 255, 255}},
+        {2, 2, {1, 2}, {2, 1}, {5, 3}, {1, 0}, {0, 15, 2}, {2, 0}, {1, 0}, {0, 15, 2}},
+        {3, 3, {1, 2, 1}, {2, 1, 2}, {5, 3, 1}, {7, 0, 0}, {0, 15, 2}, {2, 0}, {7, 0, 0}, {0, 15, 2}},
+        {3, 3, {1, 2, 3}, {2, 1, 3}, {5, 3, 1}, {1, 1, 0}, {0, 4, 3}, {3, 0}, {1, 1, 0}, {0, 4, 3}},
+        {12, 2, {1, 12}, {12, 3}, {5, 3}, {1, 1}, {0, 9}, {0, 0}, {1, 1}, {0, 11}},
         {2, 1, {1}, {2}, {STAR_MIN_PRICE},
-         {1}, {1, 0, 0, 0, 0, 0, 0, 0, 0, 0, 0, 128, 255, 255, 255, 255}, {1}, {1, 0, 0, 0, 0, 0, 0, 0, 0, 0, 0, 128, 255, 255, 255, 255}},
+         {1}, {1, 0, 0, 0, 0, 0, 1, 0, 0, 0, 0, 128, 255, 255, 255, 255}, {0, 0}, {1}, {1, 0, 0, 0, 0, 0, 0, 0, 0, 0, 0, 128, 255, 255, 255, 255}},
         {2, 1, {1}, {2}, {STAR_MAX_PRICE},
-         {1}, {1, 0, 0, 0, 0, 0, 0, 0, 255, 255, 255, 127, 0, 0, 0, 0}, {1}, {1, 0, 0, 0, 0, 0, 0, 0, 255, 255, 255, 127, 0, 0, 0, 0}},
+         {1}, {1, 0, 0, 0, 0, 0, 1, 0, 255, 255, 255, 127, 0, 0, 0, 0}, {0, 0}, {1}, {1, 0, 0, 0, 0, 0, 0, 0, 255, 255, 255, 127, 0, 0, 0, 0}},
+        {1, 0, {0}, {0}, {0},
+         {0}, {1, 0, 0, 0, 0, 0, 1, 0, 0, 0, 0, 0, 0, 0, 0, 0}, {0, 0}, {0}, {1, 0, 0, 0, 0, 0, 0, 0, 0, 0, 0, 0, 0, 0, 0, 0}},
     };
     size_t i, k;
     for (i = 0; i < sizeof call / sizeof call[0]; i++) {
@@ -393,10 +494,11 @@ static void known(void) {
         memcpy(at(&right), call[i].right, m);
         memcpy(at(&mark), call[i].claim, m);
         for (k = 0; k < m; k++) set_price(k, call[i].price[k]);
-        both(call[i].n);
+        all(call[i].n);
         memcpy(at(&mark), call[i].claim, m);
-        tell(lent(call[i].n, 0) == 1 && !memcmp(at(&answer), call[i].checked, 16), "star_cst's known answer", call[i].n);
-        tell(lent(call[i].n, 1) == 1 && !memcmp(at(&answer), call[i].built, 16) && !memcmp(at(&mark), call[i].tree, m), "star_mst1's known answer", call[i].n);
+        tell(lent(call[i].n, CST) == 1 && !memcmp(at(&answer), call[i].checked, 16), "star_cst's known answer", call[i].n);
+        tell(lent(call[i].n, OTHER) == 1 && at(&answer)[2] == call[i].named[0] && at(&answer)[4] == call[i].named[1], "star_other's known exchange", call[i].n);
+        tell(lent(call[i].n, MST1) == 1 && !memcmp(at(&answer), call[i].built, 16) && !memcmp(at(&mark), call[i].tree, m), "star_mst1's known answer", call[i].n);
     }
 }
 
@@ -408,8 +510,63 @@ static void totals(void) {
         struct range one_price = {prices[i], prices[i]};
         fresh(255, 254, one_price, 1);
         for (k = 0; k < 254; k++) at(&left)[k] = (uint8_t)(k + 1), at(&right)[k] = (uint8_t)(k + 2), at(&mark)[k] = 1;
-        both(255);
+        all(255);
         tell(star_read_answer(at(&answer)).amount == 254 * (int64_t)prices[i], "the total at a limit", 255);
+    }
+}
+
+/* Joins the parts of two vertices; 0 if they are one part. */
+static int join(unsigned *part, unsigned n, unsigned a, unsigned b) {
+    unsigned from = part[a], to = part[b], v;
+    if (from == to) return 0;
+    for (v = 1; v <= n; v++)
+        if (part[v] == from) part[v] = to;
+    return 1;
+}
+
+/* How many spanning trees have less than a total, and how many have it, by trying every set of rows. */
+struct trees {
+    unsigned long less, equal;
+};
+
+static struct trees trees_of(unsigned n, size_t m, int64_t total) {
+    struct trees t = {0, 0};
+    unsigned long rows;
+    for (rows = 0; rows < 1ul << m; rows++) {
+        unsigned part[STAR_MAX_JUNCTIONS + 1], joined = 1, v;
+        int64_t sum = 0;
+        size_t i;
+        for (v = 1; v <= n; v++) part[v] = v;
+        for (i = 0; i < m; i++)
+            if (rows >> i & 1) {
+                if (!join(part, n, at(&left)[i], at(&right)[i])) break;
+                joined++;
+                sum += price(i);
+            }
+        if (i < m || joined < n) continue;
+        t.less += sum < total;
+        t.equal += sum == total;
+    }
+    return t;
+}
+
+/* Small tables with every spanning tree listed: none is cheaper than one that passes, and byte 6 says whether no other costs the same. */
+static void listed(unsigned long tables) {
+    static const struct range few[] = {{0, 2}, {-1, 1}, {0, 9}, {-50, 50}};
+    unsigned long k;
+    for (k = 0; k < tables; k++) {
+        uint32_t n = 1 + any(6);
+        size_t m = n == 1 ? 0 : n - 1 + any(n < 4 ? 4 : 6);
+        if (m > pairs_of(n)) m = pairs_of(n);
+        struct star_answer a;
+        struct trees t;
+        n = table_of(n, m, few[any(4)], 1, 0);
+        lent(n, MST1);
+        lent(n, CST);
+        a = star_read_answer(at(&answer));
+        if (a.kind != STAR_PASSED) continue;
+        t = trees_of(n, m, a.amount);
+        tell(t.less == 0 && a.only == (t.equal == 1), "a pass, all trees listed", n);
     }
 }
 
@@ -421,9 +578,12 @@ int main(int count, char **words) {
     limits();
     nulls();
     small_stack();
+    listed(tables / 50 + 20);
     for (k = 0; k < tables; k++) one(k);
     tell(2 * below_0 + 1 >= made, "the share of tables with a price below 0", 0);
+    tell(40 * only >= tables && 40 * not_only >= tables, "the share of passes with one cheapest network, and with more", 0);
     printf("%lu tables: %lu with a price below 0, %lu with the least price, %lu with the largest\n", made, below_0, least, largest);
+    printf("%lu passes of the only cheapest network, %lu of one among others\n", only, not_only);
     printf("%lu passed, %lu failed\n", passed, failed);
     return failed != 0;
 }

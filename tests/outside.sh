@@ -21,6 +21,19 @@ add() {
 "$build/door_test" 200000 | tee "$work/door"
 add "$work/door"
 
+# The same tests over doors with a fault each fail, and over doors with none do not.
+for fault in none always-only never-only only-swapped only-and-lighter only-and-refused only-and-built repeat-at-an-end repeat-above other-rows-swapped other-rows-lacking other-next-row \
+    paths-from-one paths-last-column paths-past-the-matrix paths-refusal-as-done; do
+    FAULT=$fault "$build/door_test_faulty" 2000 >"$work/faulty" 2>&1
+    if [ $? = 0 ] && [ "$fault" != none ] || ! [[ $(tail -n 1 "$work/faulty") =~ failed$ ]]; then
+        echo "the tests of the doors do not find the fault $fault"
+        failed=$((failed + 1))
+    elif [ "$fault" = none ] && ! grep -q ' 0 failed$' "$work/faulty"; then
+        echo "the tests of the doors fail over doors without a fault"
+        failed=$((failed + 1))
+    else passed=$((passed + 1)); fi
+done
+
 # The import, on texts whose answers a plain reader gives: the door, in a thread of 1 MiB, and the program, run under the kit's loader as rt does.
 python3 -B tests/stp/generate.py "$work/texts"
 "$build/import_test" "$work/texts" | tee "$work/import"
@@ -43,7 +56,8 @@ if command -v valgrind >/dev/null; then
     memory "$build/door_test" 150
     memory "$build/import_test" "$work/texts" 20
     for words in 'draw console/examples/t2.txt' 'build tests/console/build-refused11.txt' 'check tests/console/check-refused4.txt' \
-        'build tests/console/build-stp-edges.txt' 'build tests/console/build-stp-price-above.txt' 'draw console/examples/grant.txt' 'table console/examples/street.stp'; do
+        'build tests/console/build-stp-edges.txt' 'build tests/console/build-stp-price-above.txt' 'draw console/examples/grant.txt' 'table console/examples/street.stp' \
+        'explain console/examples/t2.txt' 'explain tests/console/explain-rings.txt' 'page console/examples/yard.txt' 'page tests/console/explain-ring.txt'; do
         valgrind -q --error-exitcode=9 --leak-check=full --errors-for-leak-kinds=definite "$build/star" $words >"$work/valgrind" 2>&1
         if [ $? != 9 ]; then passed=$((passed + 1)); else
             echo "valgrind found a fault in star $words"
@@ -58,6 +72,8 @@ bash tests/console.sh "$star" | tee "$work/console"
 add "$work/console"
 python3 -B tests/picture.py "$star" | tee "$work/picture"
 add "$work/picture"
+python3 -B tests/page.py "$star" | tee "$work/page"
+add "$work/page"
 bash tests/library.sh | tee "$work/library"
 add "$work/library"
 

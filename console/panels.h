@@ -1,0 +1,18 @@
+/* The four panels of a page, one for each error that planners bring. */
+#ifndef CONSOLE_PANELS_H
+#define CONSOLE_PANELS_H
+
+#include "views.h"
+
+/* A sentence that is an answer of the proved core in words. */
+void panel_core(FILE *to, const char *text);
+
+/* Each over a drawing whose table has what the panel shows. */
+void panel_ring(FILE *to, const struct drawing *g);                      /* marks that are no network */
+void panel_detours(FILE *to, const struct drawing *g);                   /* a network, and trenches that are left out */
+void panel_equal(FILE *to, const struct drawing *g, const struct table *other); /* two cheapest networks of one total */
+
+/* A table's number of junctions beside the limit. */
+void panel_limit(FILE *to, uint32_t n);
+
+#endif

@@ -1,0 +1,72 @@
+"""Tests of explain: on random plans, the detours, their sums and dearest trenches, rings, and junctions cut off, against a search of its own.
+usage: detours.py STAR"""
+import random, re, subprocess, sys
+
+STAR = sys.argv[1:]
+random.seed(11)
+
+
+def explain(rows, n, *words):
+    text = "junctions %d\n" % n + "".join("%d %d %d %d\n" % row for row in rows)
+    return subprocess.run(STAR + ["explain", "-", *words], input=text, capture_output=True, text=True).stdout
+
+
+def way(rows, a, b, without=None):
+    """The marked trenches from a to b, by a search; None if there are none."""
+    found, rest = {a: []}, [a]
+    while rest:
+        u = rest.pop(0)
+        for i, (x, y, w, mark) in enumerate(rows):
+            if mark and i != without and u in (x, y):
+                v = x + y - u
+                if v not in found:
+                    found[v] = found[u] + [i + 1]
+                    rest.append(v)
+    return found.get(b)
+
+
+def joined(rows, n):
+    return all(way(rows, 1, v) is not None for v in range(1, n + 1))
+
+
+faults = 0
+for number in range(60):
+    n = random.randrange(2, 13)
+    pairs = [(u, v) if random.random() < 0.5 else (v, u) for u in range(1, n + 1) for v in range(u + 1, n + 1)]
+    random.shuffle(pairs)
+    pairs = pairs[:max(n - 1, random.randrange(2 * n))]
+    prices = random.choice(([0, 1, 2], range(-50, 50)))
+    rows = [(u, v, random.choice(prices), 0) for u, v in pairs]
+    for k in random.sample(range(len(rows)), min(n - 1, len(rows))):
+        rows[k] = rows[k][:3] + (1,)
+    if random.random() < 0.6:  # a tree: trenches as they come, those that close a ring left out
+        rows = [row[:3] + (0,) for row in rows]
+        for k, (u, v, w, mark) in enumerate(rows):
+            if way(rows, u, v) is None:
+                rows[k] = (u, v, w, 1)
+    said = explain(rows, n, "--all")
+    marks = sum(row[3] for row in rows)
+    if joined(rows, n) and marks == n - 1:
+        for i, (u, v, w, mark) in enumerate(rows):
+            if mark:
+                continue
+            path = way(rows, u, v)
+            dearest = max(rows[k - 1][2] for k in path)
+            sign = "<" if w < dearest else "=" if w == dearest else ">"
+            line = re.search(r"^trench %d \(.*\n.*$" % (i + 1), said, re.M)
+            wanted = "Its detour: trench%s %s (" % ("es" if len(path) > 1 else "", ", ".join(map(str, path)))
+            faults += not (line and wanted in line.group(0) and "sum %d, does not count; dearest %d (trench %d); %d %s %d: " % (
+                sum(rows[k - 1][2] for k in path), dearest, min(k for k in path if rows[k - 1][2] == dearest), w, sign, dearest) in line.group(0))
+    else:
+        cut = [v for v in range(1, n + 1) if way(rows, 1, v) is None]
+        wanted = "Cut off from junction 1: junction%s %s." % ("s" if len(cut) > 1 else "", ", ".join(map(str, cut))) if cut else ""
+        faults += wanted not in said or (not cut) != ("Cut off" not in said)
+        ring = re.search(r"A ring: trenches ([0-9, ]+) \(([0-9-]+)\)", said)
+        rings = any(row[3] and way(rows, row[0], row[1], i) is not None for i, row in enumerate(rows))
+        faults += rings != bool(ring)
+        if ring:
+            trenches, stops = [int(w) for w in ring.group(1).split(", ")], [int(w) for w in ring.group(2).split("-")]
+            faults += not (len(set(trenches)) == len(trenches) and stops[0] == stops[-1] and len(set(stops)) == len(trenches) == len(stops) - 1
+                           and all(rows[i - 1][3] and {rows[i - 1][0], rows[i - 1][1]} == {stops[k], stops[k + 1]} for k, i in enumerate(trenches)))
+print("%d faults" % faults)
+sys.exit(faults > 0)
