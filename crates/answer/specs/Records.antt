@@ -6,4 +6,4 @@ use Rattle.star.specs.Door.{Fields}
 
 -- the record's fields
 unfoldable pub fieldsOf : Record → Fields
-fieldsOf x = record { kind = x .kind; number = x .number; out = x .out; into = x .into; amount = fromBits 64 (x .amount) }
+fieldsOf x = record { kind = x .kind; number = x .number; out = x .out; into = x .into; only = x .only; amount = fromBits 64 (x .amount) }

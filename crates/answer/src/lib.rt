@@ -3,7 +3,7 @@ ghost use mathlib.Core.Path.{_≡_};
 ghost use Rattle.star.specs.Door.{fieldBytes, answerAfter};
 ghost use Rattle.answer.specs.Records.{fieldsOf};
 
-// What bytes 6 and 7 hold.
+// What byte 7 holds.
 const UNUSED: u8 = 0;
 
 // The fields of an answer, named after CST's; each door says what it puts where. A field that a kind lacks is 0.
@@ -16,6 +16,8 @@ pub struct Record {
     pub out: u32,
     // bytes 4 and 5: the row that comes in; of a text that is taken, m
     pub into: u32,
+    // byte 6: of a claim that passes, 1 where no other tree weighs the same
+    pub only: u32,
     // bytes 8 to 15: the 64 bits of the weight or the saving, in two's complement; of a text that is refused, the place
     pub amount: u64,
 }
@@ -28,6 +30,7 @@ pub fn bytes_of(x: Record) -> [u8; 16]
     let number = x.number;
     let out = x.out;
     let into = x.into;
+    let only = x.only;
     let a0 = x.amount;
     let a1 = a0 / 256;
     let a2 = a1 / 256;
@@ -43,7 +46,7 @@ pub fn bytes_of(x: Record) -> [u8; 16]
         (out / 256 % 256) as u8,
         (into % 256) as u8,
         (into / 256 % 256) as u8,
-        UNUSED,
+        (only % 256) as u8,
         UNUSED,
         (a0 % 256) as u8,
         (a1 % 256) as u8,

@@ -1,11 +1,11 @@
 -- Demand 3 holds: over every accepted table, what CST answers on a claim and what MST1 builds are what they should be.
 -- Assumes nothing.
 use Prim.Native.Nat.{ℕ, zero, suc, _+_, _*_, _≤_, _<_}
-use mathlib.Core.Bool.{Bool, true, false, not, _||_}
+use mathlib.Core.Bool.{Bool, true, false, not, _&&_, _||_, and-assoc, or-true, or-false, and-eq-true-iff}
 use mathlib.Core.List.{List, [], _∷_}
 use mathlib.Core.Logic.{_↔_, _⊎_, inl, inr, ⊎-elim}
 use mathlib.Core.Option.{Option, none, some}
-use mathlib.Core.Path.{_≡_, refl, sym, ap, _∙_, subst, subst₃}
+use mathlib.Core.Path.{_≡_, refl, sym, ap, _∙_, fun-ext, subst, subst₃}
 use borrow.Author.Tests.{ltb-true, ltb-false, le-ltb, eqb-true, eqb-false, eq-eqb, not-true, not-false}
 use lib.Dec.{eqb, ltb}
 use lib.IntN.{ℤ, pos, natAbs, _-ℤ_}
@@ -20,42 +20,51 @@ use Rattle.graph.specs.Graph.{Graph, Sound, Inside, Walk, joined}
 use Rattle.graph.specs.Least.{Least}
 use Rattle.graph.specs.Tree.{SpanningTree, exchange}
 use Rattle.refusal.specs.declared.Refusal.{Refusal}
-use Rattle.rowset.proofs.Laws.{uppermost-none, uppermost-some, uppermost-zero, in-upTo, upTo-in}
+use Rattle.rowset.proofs.Laws.{both-subset, uppermost-none, uppermost-some, uppermost-zero}
+use Rattle.rowset.proofs.Members.{both-in}
 use Rattle.rowset.proofs.Integers.{integers, plus, minus, difference, pos-parts}
 use Rattle.rowset.proofs.Signed.{difference-small}
 use Rattle.rowset.specs.Bytes.{inRow}
 use Rattle.rowset.specs.Integers.{total}
-use Rattle.rowset.specs.Sets.{upTo, uppermost, count}
+use Rattle.rowset.specs.Sets.{both, put, takeOut, uppermost, count}
 use Rattle.graph.proofs.Builder.{built-spanning, built-least, not-built}
 use Rattle.graph.proofs.Exchange.{exchange-weight}
+use Rattle.graph.proofs.Path.{and-never}
 use Rattle.graph.proofs.Least.{Lighter, good-least, least-good}
-use Rattle.star.proofs.Accepted.{none-head, none-tail, none-both, none-nil, refusal-append, cause-none, none-cause, causeAt-none, none-causeAt, some-cons, some-cause, some-causeAt, Taken, taken, sound}
+use Rattle.star.proofs.Accepted.{none-head, none-tail, none-both, none-nil, refusal-append, cause-none, none-cause, causeAt-none, none-causeAt, some-cons, some-cause, some-causeAt, Taken, taken, used-row, row-used, sound}
 use Rattle.demand3.proofs.Checker.{none-good, good-none, found-lighter}
-use Rattle.star.proofs.Claims.{byte-outside, marked-row, marked-claimOf, claimOf-length, claimOf-bytes, marked-exchanged, exchanged-bytes}
+use Rattle.star.proofs.Claims.{marked-claimOf, claimOf-length, claimOf-bytes, marked-exchanged, exchanged-bytes}
 use Rattle.star.specs.Accepted.{Row}
-use Rattle.star.specs.Call.{Call, rowsOf, graphOf, weightOf, marked, claimWeight, withClaim, claimOf, exchanged}
-use Rattle.star.specs.Cst.{Answer, refused, passed, lighter, rowIn, rowOut, judged, verdict, cst}
+use Rattle.star.specs.Call.{Call, rowsOf, used, graphOf, weightOf, marked, claimed, claimWeight, withClaim, claimOf, exchanged}
+use Rattle.star.specs.Cst.{Answer, refused, passed, lighter, rowIn, rowOut, only, judged, verdict, cst}
 use Rattle.demand3.specs.Demand3.{ClaimTree, LeastClaim, WorthExchange, ZeroOrOne, RightCount, Fault, bad-byte, bad-count, cut-off, Holds, Demand3}
-use Rattle.star.specs.Mst1.{chosenRows, treeRows, built, mst1, builtMarks, mst1Marks}
-use Rattle.star.specs.Refusals.{cause, causeAt, badVertices, tooManyRows, badLengths, badRow, badEnds, badClaim, badCount, unjoined, noTree, isNone, tableCauses, cstCauses, mst1Causes, refusal, orElse, Accepted}
+use Rattle.star.specs.Mst1.{BuildAnswer, unbuilt, treeBuilt, chosenRows, treeRows, built, mst1, builtMarks, mst1Marks}
+use Rattle.star.specs.Refusals.{cause, causeAt, badVertices, tooManyRows, badLengths, badRow, badEnds, repeats, repeatedRow, wrongByte, badClaim, badCount, unjoined, noTree, isNone, tableCauses, cstCauses, mst1Causes, refusal, orElse, Accepted}
 
--- position 0 holds no byte
-byte-none : (l : List ℕ) → inRow 1 l 0 ≡ 0
-unfolding inRow
-byte-none l = refl
+-- the exchange within a set that has the row that comes in
+both-exchange : (p q : ℕ → Bool) (e f : ℕ) → p f ≡ true → both p (exchange q e f) ≡ exchange (both p q) e f
+unfolding both exchange put takeOut
+both-exchange p q e f h = fun-ext (λ i. at i (eqb i f) refl)
+  where
+    at : (i : ℕ) (t : Bool) → eqb i f ≡ t → (p i && (q i && not (eqb i e) || t)) ≡ (p i && q i && not (eqb i e) || t)
+    at i true u = rw (eqb-true i f u, h, or-true (q f && not (eqb f e)))
+    at i false u = rw (or-false (q i && not (eqb i e)), or-false (p i && q i && not (eqb i e)), and-assoc (p i) (q i) (not (eqb i e)))
 
 -- a refusal is not none, and the answers are told apart
 pub apart : (r : Refusal) → _≡_ {A = Option Refusal} (some r) none → ⊥
 apart r e = let z : _≡_ {A = ℕ} 0 1 = cc in omega arith
 
-pub refused-passed : {x : Answer} {r : Refusal} {weight : ℤ} → x ≡ refused r → x ≡ passed weight → ⊥
+pub refused-passed : {x : Answer} {r : Refusal} {weight : ℤ} {alone : Bool} → x ≡ refused r → x ≡ passed weight alone → ⊥
 refused-passed e h = let z : _≡_ {A = ℕ} 0 1 = cc in omega arith
 
 pub refused-lighter : {x : Answer} {r : Refusal} {out into saving : ℕ} → x ≡ refused r → x ≡ lighter out into saving → ⊥
 refused-lighter e h = let z : _≡_ {A = ℕ} 0 1 = cc in omega arith
 
-pub passed-lighter : {x : Answer} {weight : ℤ} {out into saving : ℕ} → x ≡ passed weight → x ≡ lighter out into saving → ⊥
+pub passed-lighter : {x : Answer} {weight : ℤ} {alone : Bool} {out into saving : ℕ} → x ≡ passed weight alone → x ≡ lighter out into saving → ⊥
 passed-lighter e h = let z : _≡_ {A = ℕ} 0 1 = cc in omega arith
+
+pub unbuilt-built : {x : BuildAnswer} {r : Refusal} {weight : ℤ} → x ≡ unbuilt r → x ≡ treeBuilt weight → ⊥
+unbuilt-built e h = let z : _≡_ {A = ℕ} 0 1 = cc in omega arith
 
 length-exchanged : (l : List ℕ) (out into : ℕ) → length (exchanged l out into) ≡ length l
 unfolding exchanged
@@ -65,9 +74,9 @@ none-some : {j : ℕ} → _≡_ {A = ℕ} (suc j) 0 → ⊥
 none-some e = omega arith
 
 -- the rows that the claim marks are rows of the table
-marked-inside : (c : Call) → length (c .mark) ≡ rowsOf c → Inside (graphOf c) (marked (c .mark))
-unfolding graphOf
-marked-inside c e i h = in-upTo (rowsOf c) i (marked-row (c .mark) i h .0) (subst (λ n. i ≤ n) e (marked-row (c .mark) i h .1))
+claimed-inside : (c : Call) → Inside (graphOf c) (claimed c)
+unfolding graphOf claimed
+claimed-inside c i h = both-in (used c) (marked (c .mark)) i h .0
 
 -- the causes that CST seeks after the table's own
 claim-causes : (c : Call) → Accepted c → refusal (cstCauses c) ≡ refusal (badClaim c ∷ badCount c ∷ unjoined c 1 ∷ [])
@@ -80,16 +89,16 @@ module _ (c : Call) (a : Accepted c) where
 
   -- a claim that is not refused is a spanning tree
   tree-of : refusal (cstCauses c) ≡ none → ClaimTree c
-  unfolding graphOf badClaim badCount unjoined
+  unfolding graphOf badClaim wrongByte badCount unjoined
   tree-of e =
       record {
         bytes = t .mark-length;
         zero-or-one = small;
         spanning =
             record {
-              inside = marked-inside c (t .mark-length);
+              inside = claimed-inside c;
               marks = eqb-true _ _ (not-false _ (cause-none _ 9 0 (none-head _ _ e₂)));
-              reached = unjoined-none (graphOf c) ok (marked (c .mark)) (marked-inside c (t .mark-length)) 1 (omega arith) (t .some-vertex) (causeAt-none 10 _ (none-head _ _ (none-tail _ _ e₂)));
+              reached = unjoined-none (graphOf c) ok (claimed c) (claimed-inside c) 1 (omega arith) (t .some-vertex) (causeAt-none 10 _ (none-head _ _ (none-tail _ _ e₂)));
             };
       }
     where
@@ -102,37 +111,36 @@ module _ (c : Call) (a : Accepted c) where
       e₂ : refusal (badCount c ∷ unjoined c 1 ∷ []) ≡ none
       e₂ = none-tail _ _ e₁
 
-      small : (i : ℕ) → inRow 1 (c .mark) i ≤ 1
-      small zero = omega (arith, byte-none (c .mark))
-      small (suc j) =
-          elim (decLe (suc j) (rowsOf c)) [
-            | yes h ↦ ltb-false 1 _ (uppermost-none (rowsOf c) (λ i. ltb 1 (inRow 1 (c .mark) i)) (causeAt-none 6 _ (none-head _ _ e₁)) (suc j) (omega arith) h)
-            | no h ↦ omega (arith, byte-outside (c .mark) (suc j) (omega (arith, t .mark-length)))
-          ]
+      small : ZeroOrOne c
+      small i r =
+          ltb-false 1 _
+          (rw (row-used c i r) at (uppermost-none (rowsOf c) (wrongByte (used c) (c .mark)) (causeAt-none 6 _ (none-head _ _ e₁)) i (r .0) (r .1)))
 
   -- and a spanning tree is not refused
   not-refused : ClaimTree c → refusal (cstCauses c) ≡ none
-  unfolding graphOf badClaim badCount unjoined
+  unfolding graphOf badClaim wrongByte badCount unjoined
   not-refused t =
       claim-causes c a
       ∙ none-both (badClaim c) _ (none-causeAt 6 bytes)
       (none-both (badCount c) _ (none-cause _ 9 0 marks) (none-both (unjoined c 1) _ (none-causeAt 10 joins) none-nil))
     where
-      bytes : uppermost (rowsOf c) (λ i. ltb 1 (inRow 1 (c .mark) i)) ≡ 0
-      bytes = uppermost-zero (rowsOf c) (λ i. ltb 1 (inRow 1 (c .mark) i)) (λ i l u. le-ltb 1 _ (t .zero-or-one i))
+      bytes : uppermost (rowsOf c) (wrongByte (used c) (c .mark)) ≡ 0
+      bytes =
+          uppermost-zero (rowsOf c) (wrongByte (used c) (c .mark))
+          (λ i l u. and-never (used c i) _ (λ e. le-ltb 1 _ (t .zero-or-one i (used-row c i e))))
 
-      marks : not (eqb (suc (count (rowsOf c) (marked (c .mark)))) (c .n)) ≡ false
+      marks : not (eqb (suc (count (rowsOf c) (claimed c))) (c .n)) ≡ false
       marks = ap not (eq-eqb _ _ (t .spanning .marks))
 
-      joins : uppermost (c .n) (λ v. not (joined (graphOf c) (marked (c .mark)) 1 v)) ≡ 0
+      joins : uppermost (c .n) (λ v. not (joined (graphOf c) (claimed c) 1 v)) ≡ 0
       joins =
-          uppermost-zero (c .n) (λ v. not (joined (graphOf c) (marked (c .mark)) 1 v))
-          (λ v l u. ap not (walk-joined (graphOf c) ok (marked (c .mark)) (t .spanning .inside) 1 (omega arith) (taken c a .some-vertex) v (t .spanning .reached v l u)))
+          uppermost-zero (c .n) (λ v. not (joined (graphOf c) (claimed c) 1 v))
+          (λ v l u. ap not (walk-joined (graphOf c) ok (claimed c) (t .spanning .inside) 1 (omega arith) (taken c a .some-vertex) v (t .spanning .reached v l u)))
 
   -- the three forms of CST's answer
   data Judged : Type 0 where
     declined : (r : Refusal) → cst c ≡ refused r → (ClaimTree c → ⊥) → Judged
-    approved : ClaimTree c → rowIn c ≡ 0 → cst c ≡ passed (claimWeight c) → Judged
+    approved : ClaimTree c → rowIn c ≡ 0 → cst c ≡ passed (claimWeight c) (only c) → Judged
     faulted : ClaimTree c → (j : ℕ) → rowIn c ≡ suc j → cst c ≡ judged c (suc j) (rowOut c) → Judged
 
   judgement : Judged
@@ -148,26 +156,28 @@ module _ (c : Call) (a : Accepted c) where
       go (some r) e = declined r (ap (verdict c) e) (λ t. apart r (sym e ∙ not-refused t))
 
   -- a claim is least among claims exactly where its rows are least among sets of rows
-  least-claim : ClaimTree c → Least (graphOf c) (weightOf c) (marked (c .mark)) → LeastClaim c
-  unfolding graphOf weightOf claimWeight
-  least-claim t l = record { tree = t; least = λ other o. l .least (marked other) (o .spanning) }
+  least-claim : ClaimTree c → Least (graphOf c) (weightOf c) (claimed c) → LeastClaim c
+  unfolding used graphOf weightOf claimWeight
+  least-claim t l = record { tree = t; least = λ other o. l .least (claimed (withClaim c other)) (o .spanning) }
 
   -- the claim that marks the rows of a spanning tree
-  claim-rows : (S : ℕ → Bool) → SpanningTree (graphOf c) S → marked (claimOf (rowsOf c) S) ≡ S
-  unfolding graphOf
-  claim-rows S t = marked-claimOf (rowsOf c) S (λ i e. upTo-in (rowsOf c) i (t .inside i e))
+  claim-rows : (S : ℕ → Bool) → SpanningTree (graphOf c) S → claimed (withClaim c (claimOf (rowsOf c) S)) ≡ S
+  unfolding used graphOf claimed
+  claim-rows S t =
+      ap (both (used c)) (marked-claimOf (rowsOf c) S (λ i e. let (l, h, x) = used-row c i (t .inside i e) in (l, h)))
+      ∙ both-subset (used c) S (t .inside)
 
   claim-tree : (S : ℕ → Bool) → SpanningTree (graphOf c) S → ClaimTree (withClaim c (claimOf (rowsOf c) S))
-  unfolding graphOf
+  unfolding used graphOf
   claim-tree S t =
       record {
         bytes = claimOf-length (rowsOf c) S;
-        zero-or-one = claimOf-bytes (rowsOf c) S;
+        zero-or-one = λ i r. claimOf-bytes (rowsOf c) S i;
         spanning = subst (λ (Q : ℕ → Bool). SpanningTree (graphOf c) Q) (sym (claim-rows S t)) t;
       }
 
-  pub claim-least : LeastClaim c → Least (graphOf c) (weightOf c) (marked (c .mark))
-  unfolding graphOf weightOf claimWeight
+  pub claim-least : LeastClaim c → Least (graphOf c) (weightOf c) (claimed c)
+  unfolding used graphOf weightOf claimWeight
   claim-least l =
       record {
         tree = l .tree .spanning;
@@ -177,45 +187,50 @@ module _ (c : Call) (a : Accepted c) where
             (l .least _ (claim-tree S t));
       }
 
-  -- the exchange of two rows as an exchange of bytes: which rows it marks, and that it is a spanning tree where the rows are
-  pub exchanged-rows : ClaimTree c → (out into : ℕ) → marked (c .mark) out ≡ true → Row c into → marked (exchanged (c .mark) out into) ≡ exchange (marked (c .mark)) out into
-  exchanged-rows t out into m r =
-      let (lo, ho) = marked-row (c .mark) out m in
-      marked-exchanged (c .mark) out into lo ho (r .0) (rw (t .bytes) (r .1))
+  -- a marked row of the claim is a row in use whose byte is 1, and an unmarked row in use is one whose byte is not
+  pub out-row : (out : ℕ) → claimed c out ≡ true → Row c out × (marked (c .mark) out ≡ true)
+  unfolding claimed
+  out-row out m = let (u, k) = both-in (used c) (marked (c .mark)) out m in (used-row c out u, k)
 
-  pub exchanged-tree : ClaimTree c → (out into : ℕ) → marked (c .mark) out ≡ true → Row c into → SpanningTree (graphOf c) (exchange (marked (c .mark)) out into) → ClaimTree (withClaim c (exchanged (c .mark) out into))
-  unfolding graphOf
-  exchanged-tree t out into m r s =
-      let (lo, ho) = marked-row (c .mark) out m in
+  pub unmarked-byte : (into : ℕ) → used c into ≡ true → claimed c into ≡ false → marked (c .mark) into ≡ false
+  unfolding claimed both
+  unmarked-byte into u k = rw u at k
+
+  -- the exchange of two rows as an exchange of bytes: which rows it marks, and that it is a spanning tree where the rows are
+  pub exchanged-rows : ClaimTree c → (out into : ℕ) → Row c out → Row c into → claimed (withClaim c (exchanged (c .mark) out into)) ≡ exchange (claimed c) out into
+  unfolding used claimed
+  exchanged-rows t out into o r =
+      ap (both (used c)) (marked-exchanged (c .mark) out into (o .0) (rw (t .bytes) (o .1)) (r .0) (rw (t .bytes) (r .1)))
+      ∙ both-exchange (used c) (marked (c .mark)) out into (row-used c into r)
+
+  pub exchanged-tree : ClaimTree c → (out into : ℕ) → Row c out → Row c into → SpanningTree (graphOf c) (exchange (claimed c) out into) → ClaimTree (withClaim c (exchanged (c .mark) out into))
+  unfolding used graphOf
+  exchanged-tree t out into o r s =
       record {
         bytes = length-exchanged (c .mark) out into ∙ t .bytes;
-        zero-or-one = exchanged-bytes (c .mark) out into lo ho (r .0) (rw (t .bytes) (r .1)) (t .zero-or-one);
-        spanning = subst (λ (Q : ℕ → Bool). SpanningTree (graphOf c) Q) (sym (exchanged-rows t out into m r)) s;
+        zero-or-one = λ i h. exchanged-bytes (c .mark) out into (o .0) (rw (t .bytes) (o .1)) (r .0) (rw (t .bytes) (r .1)) i (t .zero-or-one i h);
+        spanning = subst (λ (Q : ℕ → Bool). SpanningTree (graphOf c) Q) (sym (exchanged-rows t out into o r)) s;
       }
 
-  -- a marked row is a row of the table
-  pub out-row : ClaimTree c → (out : ℕ) → marked (c .mark) out ≡ true → Row c out
-  out-row t out m = let (l, h) = marked-row (c .mark) out m in (l, rw (t .bytes) at h)
-
   -- what a lighter exchange of rows says of the claim's bytes
-  worth : ClaimTree c → (out into : ℕ) → Lighter (graphOf c) (weightOf c) (marked (c .mark)) out into → WorthExchange c out into (natAbs (weightOf c out -ℤ weightOf c into))
-  unfolding graphOf weightOf claimWeight
+  worth : ClaimTree c → (out into : ℕ) → Lighter (graphOf c) (weightOf c) (claimed c) out into → WorthExchange c out into (natAbs (weightOf c out -ℤ weightOf c into))
+  unfolding used graphOf weightOf claimWeight
   worth t out into l =
       record {
         claim-tree = t;
-        out-row = out-row t out (l .out-marked);
+        out-row = o;
         in-row = i;
-        out-marked = l .out-marked;
-        in-unmarked = l .in-unmarked;
-        tree = exchanged-tree t out into (l .out-marked) i (l .tree);
+        out-marked = out-row out (l .out-marked) .1;
+        in-unmarked = unmarked-byte into (l .in-row) (l .in-unmarked);
+        tree = exchanged-tree t out into o i (l .tree);
         weight =
-            rw (exchanged-rows t out into (l .out-marked) i) (omega (
+            rw (exchanged-rows t out into o i) (omega (
               arith,
               integers,
-              exchange-weight (graphOf c) ok (marked (c .mark)) (t .spanning) w out into (l .out-marked) (l .in-row) (l .in-unmarked),
-              plus (total (rowsOf c) w (exchange (marked (c .mark)) out into)) (w out),
-              plus (total (rowsOf c) w (marked (c .mark))) (w into),
-              plus (total (rowsOf c) w (exchange (marked (c .mark)) out into)) (pos (natAbs (w out -ℤ w into))),
+              exchange-weight (graphOf c) ok (claimed c) (t .spanning) w out into (l .out-marked) (l .in-row) (l .in-unmarked),
+              plus (total (rowsOf c) w (exchange (claimed c) out into)) (w out),
+              plus (total (rowsOf c) w (claimed c)) (w into),
+              plus (total (rowsOf c) w (exchange (claimed c) out into)) (pos (natAbs (w out -ℤ w into))),
               difference (w out) (w into) less,
               minus (w out) (w into),
             ));
@@ -229,13 +244,16 @@ module _ (c : Call) (a : Accepted c) where
       less : w into ≤ℤ w out
       less = omega (arith, integers, l .saves)
 
+      o : Row c out
+      o = out-row out (l .out-marked) .0
+
       i : Row c into
-      i = upTo-in (rowsOf c) into (l .in-row)
+      i = used-row c into (l .in-row)
 
   -- the two forms of MST1's answer
   data Grown : Type 0 where
-    unbuilt : tree (graphOf c) (weightOf c) ≡ none → mst1 c ≡ refused (record { number = 11; place = 0 }) → Grown
-    grown : (f : Fragment) → tree (graphOf c) (weightOf c) ≡ some f → mst1 c ≡ passed (total (rowsOf c) (weightOf c) (f .chosen)) → mst1Marks c ≡ claimOf (rowsOf c) (f .chosen) → Grown
+    ungrown : tree (graphOf c) (weightOf c) ≡ none → mst1 c ≡ unbuilt (record { number = 11; place = 0 }) → Grown
+    grown : (f : Fragment) → tree (graphOf c) (weightOf c) ≡ some f → mst1 c ≡ treeBuilt (total (rowsOf c) (weightOf c) (f .chosen)) → mst1Marks c ≡ claimOf (rowsOf c) (f .chosen) → Grown
 
   growth : Grown
   unfolding mst1 mst1Marks built builtMarks mst1Causes noTree refusal orElse cause isNone treeRows chosenRows
@@ -245,28 +263,28 @@ module _ (c : Call) (a : Accepted c) where
       after o e = refusal-append (tableCauses c) (noTree c ∷ []) a ∙ ap (λ x. refusal (cause (isNone x) 11 0 ∷ [])) e
 
       go : (o : Option Fragment) → tree (graphOf c) (weightOf c) ≡ o → Grown
-      go none e = unbuilt e (ap (built c) (after none e))
+      go none e = ungrown e (ap (built c) (after none e))
       go (some f) e =
           grown f e
-          (ap (built c) (after (some f) e) ∙ ap (λ x. passed (total (rowsOf c) (weightOf c) (chosenRows x))) e)
+          (ap (built c) (after (some f) e) ∙ ap (λ x. treeBuilt (total (rowsOf c) (weightOf c) (chosenRows x))) e)
           (ap (builtMarks c) (after (some f) e) ∙ ap (λ x. claimOf (rowsOf c) (chosenRows x)) e)
 
   -- the verdict on a least tree
-  least-passed : LeastClaim c → cst c ≡ passed (claimWeight c)
+  least-passed : LeastClaim c → cst c ≡ passed (claimWeight c) (only c)
   unfolding judged
   least-passed l =
       elim judgement [
         | declined r x n ↦ absurd (n (l .tree))
         | approved t z x ↦ x
-        | faulted t j z x ↦ absurd (none-some (sym z ∙ good-none c ok (t .spanning) (least-good (graphOf c) ok (weightOf c) (marked (c .mark)) (t .spanning) (claim-least l))))
+        | faulted t j z x ↦ absurd (none-some (sym z ∙ good-none c ok (t .spanning) (least-good (graphOf c) ok (weightOf c) (claimed c) (t .spanning) (claim-least l))))
       ]
 
-  passed-least : (weight : ℤ) → cst c ≡ passed weight → LeastClaim c × (weight ≡ claimWeight c)
+  pub passed-least : (weight : ℤ) (alone : Bool) → cst c ≡ passed weight alone → LeastClaim c × (weight ≡ claimWeight c) × (alone ≡ only c)
   unfolding judged
-  passed-least weight e =
+  passed-least weight alone e =
       elim judgement [
         | declined r x n ↦ absurd (refused-passed x e)
-        | approved t z x ↦ (least-claim t (good-least (graphOf c) ok (weightOf c) (marked (c .mark)) (t .spanning) (none-good c ok (t .spanning) z)), cc)
+        | approved t z x ↦ (least-claim t (good-least (graphOf c) ok (weightOf c) (claimed c) (t .spanning) (none-good c ok (t .spanning) z)), cc, cc)
         | faulted t j z x ↦ absurd (passed-lighter e x)
       ]
 
@@ -276,12 +294,12 @@ module _ (c : Call) (a : Accepted c) where
   comes-lighter t n =
       elim judgement [
         | declined r x k ↦ absurd (k t)
-        | approved t z x ↦ absurd (n (passed-least _ x .0))
+        | approved t z x ↦ absurd (n (passed-least _ _ x .0))
         | faulted t j z x ↦ (_, _, _, x)
       ]
 
-  found : (t : ClaimTree c) (j : ℕ) → rowIn c ≡ suc j → Lighter (graphOf c) (weightOf c) (marked (c .mark)) (rowOut c) (suc j)
-  found t j z = subst (λ (i : ℕ). Lighter (graphOf c) (weightOf c) (marked (c .mark)) (rowOut c) i) z (found-lighter c ok (t .spanning) j z)
+  found : (t : ClaimTree c) (j : ℕ) → rowIn c ≡ suc j → Lighter (graphOf c) (weightOf c) (claimed c) (rowOut c) (suc j)
+  found t j z = subst (λ (i : ℕ). Lighter (graphOf c) (weightOf c) (claimed c) (rowOut c) i) z (found-lighter c ok (t .spanning) j z)
 
   -- and an exchange that comes back is worth it
   lighter-worth : (out into saving : ℕ) → cst c ≡ lighter out into saving → WorthExchange c out into saving
@@ -308,7 +326,7 @@ module _ (c : Call) (a : Accepted c) where
 
   -- and says why the claim is no spanning tree
   fault-of : (r : Refusal) → cst c ≡ refused r → Fault c r
-  unfolding graphOf badClaim badCount unjoined
+  unfolding graphOf badClaim wrongByte badCount unjoined
   fault-of r e = ⊎-elim byte (λ h. ⊎-elim (marks (h .0)) (λ k. ⊎-elim (apart₁ (h .0) (k .0)) (λ z. absurd (nothing (z .1))) (some-cons _ _ r (k .1))) (some-cons _ _ r (h .1))) (some-cons _ _ r causes)
     where
       t : Taken c
@@ -321,16 +339,21 @@ module _ (c : Call) (a : Accepted c) where
       nothing h = apart r (sym h ∙ none-nil)
 
       bytes : ℕ → Bool
-      bytes i = ltb 1 (inRow 1 (c .mark) i)
+      bytes = wrongByte (used c) (c .mark)
+
+      -- at a row in use the byte alone decides
+      told : (i : ℕ) → Row c i → bytes i ≡ false → inRow 1 (c .mark) i ≤ 1
+      told i r e = ltb-false 1 _ (rw (row-used c i r) at e)
 
       byte : badClaim c ≡ some r → Fault c r
       byte h =
           let (j, u, q) = some-causeAt 6 _ r h in
           let (bad, low, above) = uppermost-some (rowsOf c) j bytes u in
-          subst (Fault c) q (bad-byte (suc j) (omega arith, low) (ltb-true 1 _ bad) (λ k row less. ltb-false 1 _ (above k (row .0) (omega arith))))
+          let (here, large) = and-eq-true-iff (used c (suc j)) _ .0 bad in
+          subst (Fault c) q (bad-byte (suc j) (used-row c (suc j) here) (ltb-true 1 _ large) (λ k row less. told k row (above k (row .0) (omega arith))))
 
       clean : badClaim c ≡ none → ZeroOrOne c
-      clean h i row = ltb-false 1 _ (uppermost-none (rowsOf c) bytes (causeAt-none 6 _ h) i (row .0) (row .1))
+      clean h i row = told i row (uppermost-none (rowsOf c) bytes (causeAt-none 6 _ h) i (row .0) (row .1))
 
       marks : badClaim c ≡ none → badCount c ≡ some r → Fault c r
       marks h k =
@@ -340,7 +363,7 @@ module _ (c : Call) (a : Accepted c) where
       apart₁ : badClaim c ≡ none → badCount c ≡ none → unjoined c 1 ≡ some r → Fault c r
       apart₁ h k z =
           let (j, u, q) = some-causeAt 10 _ r z in
-          let (none₁, low, others) = unjoined-place (graphOf c) ok (marked (c .mark)) (marked-inside c (t .mark-length)) 1 (omega arith) (t .some-vertex) j u in
+          let (none₁, low, others) = unjoined-place (graphOf c) ok (claimed c) (claimed-inside c) 1 (omega arith) (t .some-vertex) j u in
           subst (Fault c) q
           (cut-off (clean h) (eqb-true _ _ (not-false _ (cause-none _ 9 0 k))) (suc j) (omega arith, low) none₁ (λ v vertex less. others v (vertex .0) (omega arith)))
 
@@ -356,54 +379,54 @@ module _ (c : Call) (a : Accepted c) where
   refused-no-tree r e t = apart r (sym (refused-cause r e) ∙ not-refused t)
 
   -- the builder leaves the marks as they were where it refuses
-  marks-kept : (r : Refusal) → mst1 c ≡ refused r → mst1Marks c ≡ c .mark
+  marks-kept : (r : Refusal) → mst1 c ≡ unbuilt r → mst1Marks c ≡ c .mark
   unfolding mst1 mst1Marks built builtMarks
   marks-kept r e = go (refusal (mst1Causes c)) refl
     where
       go : (o : Option Refusal) → refusal (mst1Causes c) ≡ o → mst1Marks c ≡ c .mark
-      go none h = absurd (refused-passed e (ap (built c) h))
+      go none h = absurd (unbuilt-built e (ap (built c) h))
       go (some q) h = ap (builtMarks c) h
 
   -- the builder refuses exactly where there is no spanning tree
-  no-tree : mst1 c ≡ refused (record { number = 11; place = 0 }) → (other : List ℕ) → ClaimTree (withClaim c other) → ⊥
-  unfolding graphOf
+  no-tree : mst1 c ≡ unbuilt (record { number = 11; place = 0 }) → (other : List ℕ) → ClaimTree (withClaim c other) → ⊥
+  unfolding used graphOf
   no-tree e other t =
       elim growth [
-        | unbuilt z x ↦ not-built (graphOf c) ok (weightOf c) z (marked other) (t .spanning)
-        | grown f z x k ↦ refused-passed e x
+        | ungrown z x ↦ not-built (graphOf c) ok (weightOf c) z (claimed (withClaim c other)) (t .spanning)
+        | grown f z x k ↦ unbuilt-built e x
       ]
 
-  refuses-no-tree : ((other : List ℕ) → ClaimTree (withClaim c other) → ⊥) → mst1 c ≡ refused (record { number = 11; place = 0 })
+  refuses-no-tree : ((other : List ℕ) → ClaimTree (withClaim c other) → ⊥) → mst1 c ≡ unbuilt (record { number = 11; place = 0 })
   refuses-no-tree n =
       elim growth [
-        | unbuilt z x ↦ x
+        | ungrown z x ↦ x
         | grown f z x k ↦ absurd (n _ (claim-tree (f .chosen) (built-spanning (graphOf c) ok (weightOf c) f z)))
       ]
 
-  refuses-eleven : (r : Refusal) → mst1 c ≡ refused r → r ≡ record { number = 11; place = 0 }
-  refuses-eleven r e = elim growth [ unbuilt z x ↦ cc | grown f z x k ↦ absurd (refused-passed e x) ]
+  refuses-eleven : (r : Refusal) → mst1 c ≡ unbuilt r → r ≡ record { number = 11; place = 0 }
+  refuses-eleven r e = elim growth [ ungrown z x ↦ cc | grown f z x k ↦ absurd (unbuilt-built e x) ]
 
-  builds-tree : (other : List ℕ) → ClaimTree (withClaim c other) → (weight : ℤ) × (mst1 c ≡ passed weight)
-  builds-tree other t = elim growth [ unbuilt z x ↦ absurd (no-tree x other t) | grown f z x k ↦ (_, x) ]
+  builds-tree : (other : List ℕ) → ClaimTree (withClaim c other) → (weight : ℤ) × (mst1 c ≡ treeBuilt weight)
+  builds-tree other t = elim growth [ ungrown z x ↦ absurd (no-tree x other t) | grown f z x k ↦ (_, x) ]
 
 -- another claim of m bytes leaves the table accepted
 accepted-claim : (c : Call) (l : List ℕ) → length l ≡ length (c .mark) → Accepted c → Accepted (withClaim c l)
-unfolding tableCauses badVertices tooManyRows badLengths badRow badEnds
+unfolding used tableCauses badVertices tooManyRows badLengths badRow badEnds repeatedRow repeats
 accepted-claim c l e a = rw e a
 
 -- a least tree that was grown is passed as a claim, with its weight
-grown-passed : (c : Call) (a : Accepted c) (f : Fragment) → tree (graphOf c) (weightOf c) ≡ some f → cst (withClaim c (claimOf (rowsOf c) (f .chosen))) ≡ passed (total (rowsOf c) (weightOf c) (f .chosen))
-unfolding graphOf weightOf claimWeight
-grown-passed c a f z = least-passed d b least ∙ ap (λ S. passed (total (rowsOf c) (weightOf c) S)) rows
+grown-passed : (c : Call) (a : Accepted c) (f : Fragment) → tree (graphOf c) (weightOf c) ≡ some f → (alone : Bool) × (cst (withClaim c (claimOf (rowsOf c) (f .chosen))) ≡ passed (total (rowsOf c) (weightOf c) (f .chosen)) alone)
+unfolding used graphOf weightOf claimWeight
+grown-passed c a f z = (only d, least-passed d b least ∙ ap (λ S. passed (total (rowsOf c) (weightOf c) S) (only d)) rows)
   where
     t : SpanningTree (graphOf c) (f .chosen)
     t = built-spanning (graphOf c) (ok c a) (weightOf c) f z
 
-    rows : marked (claimOf (rowsOf c) (f .chosen)) ≡ f .chosen
-    rows = claim-rows c a (f .chosen) t
-
     d : Call
     d = withClaim c (claimOf (rowsOf c) (f .chosen))
+
+    rows : claimed d ≡ f .chosen
+    rows = claim-rows c a (f .chosen) t
 
     b : Accepted d
     b = accepted-claim c (claimOf (rowsOf c) (f .chosen)) (claimOf-length (rowsOf c) (f .chosen) ∙ sym (taken c a .mark-length)) a
@@ -412,35 +435,29 @@ grown-passed c a f z = least-passed d b least ∙ ap (λ S. passed (total (rowsO
     least = least-claim d b (claim-tree c a (f .chosen) t) (subst (λ (S : ℕ → Bool). Least (graphOf c) (weightOf c) S) (sym rows) (built-least (graphOf c) (ok c a) (weightOf c) f z))
 
 -- the table with the marks that were built is accepted
-pub built-accepted : (c : Call) → Accepted c → (weight : ℤ) → mst1 c ≡ passed weight → Accepted (withClaim c (mst1Marks c))
+pub built-accepted : (c : Call) → Accepted c → (weight : ℤ) → mst1 c ≡ treeBuilt weight → Accepted (withClaim c (mst1Marks c))
 built-accepted c a weight e =
     elim (growth c a) [
-      | unbuilt z x ↦ absurd (refused-passed x e)
+      | ungrown z x ↦ absurd (unbuilt-built x e)
       | grown f z x k ↦ accepted-claim c (mst1Marks c) (ap length k ∙ claimOf-length (rowsOf c) (f .chosen) ∙ sym (taken c a .mark-length)) a
     ]
 
--- the builder's answer is no exchange
-pub built-lighter : (c : Call) (out into saving : ℕ) → mst1 c ≡ lighter out into saving → ⊥
-unfolding mst1 built
-built-lighter c out into saving e = go (refusal (mst1Causes c)) e
-  where
-    go : (o : Option Refusal) → built c o ≡ lighter out into saving → ⊥
-    go none h = passed-lighter refl h
-    go (some r) h = refused-lighter refl h
-
 -- what is built is passed, with the weight that was stated
-built-passed : (c : Call) → Accepted c → (weight : ℤ) → mst1 c ≡ passed weight → cst (withClaim c (mst1Marks c)) ≡ passed weight
+built-passed : (c : Call) → Accepted c → (weight : ℤ) → mst1 c ≡ treeBuilt weight → (alone : Bool) × (cst (withClaim c (mst1Marks c)) ≡ passed weight alone)
 built-passed c a weight e =
     elim (growth c a) [
-      | unbuilt z x ↦ absurd (refused-passed x e)
-      | grown f z x k ↦ ap (λ l. cst (withClaim c l)) k ∙ grown-passed c a f z ∙ sym x ∙ e
+      | ungrown z x ↦ absurd (unbuilt-built x e)
+      | grown f z x k ↦
+          let (alone, p) = grown-passed c a f z in
+          let w : total (rowsOf c) (weightOf c) (f .chosen) ≡ weight = cc in
+          (alone, ap (λ l. cst (withClaim c l)) k ∙ p ∙ ap (λ v. passed v alone) w)
     ]
 
 pub demand3 : Demand3
 demand3 c a =
     record {
-      passes = (λ p. passed-least c a (p .0) (p .1) .0, λ l. (claimWeight c, least-passed c a l));
-      weight = λ weight e. passed-least c a weight e .1;
+      passes = (λ p. passed-least c a (p .0) (p .1) (p .2) .0, λ l. (claimWeight c, only c, least-passed c a l));
+      weight = λ weight alone e. passed-least c a weight alone e .1;
       not-passed = comes-lighter c a;
       exchange = lighter-worth c a;
       declines = (λ p. refused-no-tree c a (p .0) (p .1), refused-unless c a);

@@ -1,5 +1,4 @@
 pub mod Checker
 pub mod Demand3
-pub mod Bytes
 pub mod Only
-pub mod OnlyTrials
+pub mod Bytes

@@ -2,51 +2,37 @@
 -- Assumes nothing.
 use Prim.Native.Nat.{ℕ, zero, suc, _≤_, _<_}
 use borrow.Author.Tests.{eqb-true, eqb-false, eq-eqb}
-use lib.Dec.{T, eqb}
+use lib.Dec.{eqb}
 use lib.IntN.{ℤ}
-use lib.ListN.{length, getD}
-use lib.Seq.{ext-getD}
-use lib.Signed.{leZ, _≤ℤ_}
-use mathlib.Core.Bool.{Bool, true, false, _&&_, and-eq-true-iff}
+use mathlib.Core.Bool.{Bool, true, false, and-eq-true-iff}
 use mathlib.Core.List.{List}
 use mathlib.Core.Path.{_≡_, refl, sym, _∙_, ap}
 use native.Mathlib.Omega.{arith}
 use Rattle.demand3.proofs.Checker.{between-path}
-use Rattle.demand3.proofs.Demand3.{ok, claim-least, exchanged-rows, exchanged-tree, out-row, demand3}
+use Rattle.demand3.proofs.Demand3.{ok, claim-least, exchanged-rows, exchanged-tree, out-row, unmarked-byte, passed-least}
 use Rattle.demand3.specs.Demand3.{ClaimTree, LeastClaim}
-use Rattle.demand3.specs.Only.{equals, replaces, equalIn, equalOut, only, NoOther, EqualExchange, OnlyHolds}
+use Rattle.demand3.specs.Only.{NoOther, EqualExchange, OnlyMeans, OnlyHolds}
 use Rattle.graph.proofs.Only.{unequalled-only, equal-exchange}
 use Rattle.graph.proofs.Path.{path-inside}
 use Rattle.graph.specs.Least.{Least}
 use Rattle.graph.specs.Only.{Unequalled}
 use Rattle.graph.specs.Tree.{SpanningTree, onPath, exchange}
-use Rattle.rowset.proofs.Integers.{integers}
-use Rattle.rowset.proofs.Laws.{clash, put-same, any-some, any-found, uppermost-none, uppermost-some, upTo-in}
-use Rattle.rowset.proofs.Members.{without-in, in-without}
+use Rattle.rowset.proofs.Laws.{clash, put-same, any-some, any-found, uppermost-none, uppermost-some}
+use Rattle.rowset.proofs.Searches.{sameAs-in, in-sameAs}
+use Rattle.rowset.proofs.Members.{both-in, without-in, in-without}
 use Rattle.rowset.specs.Bytes.{inRow}
 use Rattle.rowset.specs.Integers.{total}
-use Rattle.rowset.specs.Sets.{upTo, without, uppermost, takeOut}
-use Rattle.star.proofs.Claims.{inRow-byte, marked-byte}
+use Rattle.rowset.specs.Sets.{both, without, uppermost, takeOut}
+use Rattle.star.proofs.Accepted.{used-row, row-used}
 use Rattle.star.specs.Accepted.{Row}
-use Rattle.star.specs.Call.{Call, rowsOf, graphOf, weightOf, marked, claimWeight, withClaim, exchanged}
-use Rattle.star.specs.Cst.{passed, between, cst}
+use Rattle.star.specs.Call.{Call, rowsOf, used, graphOf, weightOf, marked, claimed, claimWeight, withClaim, exchanged}
+use Rattle.star.specs.Cst.{passed, between, equals, replaces, equalIn, equalOut, only, cst, rowsBeside, equalRows}
 use Rattle.star.specs.Refusals.{Accepted}
 
--- the test of at most
-leZ-true : (a b : ℤ) → leZ a b ≡ true → a ≤ℤ b
-leZ-true a b e = record { le = rw e tt }
-
-le-leZ : (a b : ℤ) → a ≤ℤ b → leZ a b ≡ true
-le-leZ a b h = go (leZ a b) (h .le)
-  where
-    go : (t : Bool) → T t → t ≡ true
-    go true p = refl
-    go false p = absurd p
-
--- claims of zeros and ones that mark the same rows are the same bytes
-same-bytes : (l k : List ℕ) → length l ≡ length k → ((i : ℕ) → inRow 1 l i ≤ 1) → ((i : ℕ) → inRow 1 k i ≤ 1) → marked l ≡ marked k → l ≡ k
-same-bytes l k e hl hk m =
-    ext-getD 0 l k e (λ j h. bit (getD l j 0) (getD k j 0) (rw inRow-byte at (hl (suc j))) (rw inRow-byte at (hk (suc j))) (sym (marked-byte l j) ∙ ap (λ (p : ℕ → Bool). p (suc j)) m ∙ marked-byte k j))
+-- bytes of zeros and ones that mark alike are the same
+same-byte : (l k : List ℕ) (i : ℕ) → inRow 1 l i ≤ 1 → inRow 1 k i ≤ 1 → marked l i ≡ marked k i → inRow 1 l i ≡ inRow 1 k i
+unfolding marked
+same-byte l k i = bit (inRow 1 l i) (inRow 1 k i)
   where
     bit : (x y : ℕ) → x ≤ 1 → y ≤ 1 → eqb x 1 ≡ eqb y 1 → x ≡ y
     bit x y hx hy q = go (eqb y 1) refl
@@ -57,7 +43,7 @@ same-bytes l k e hl hk m =
 
 module _ (c : Call) (a : Accepted c) (least : LeastClaim c) where
   abbrev S : ℕ → Bool
-  S = marked (c .mark)
+  S = claimed c
 
   rows-least : Least (graphOf c) (weightOf c) S
   rows-least = claim-least c a least
@@ -66,14 +52,13 @@ module _ (c : Call) (a : Accepted c) (least : LeastClaim c) where
   equals-in : (e f : ℕ) → graphOf c .rows f ≡ true → equals c f e ≡ true → (onPath (graphOf c) S (graphOf c .a f) (graphOf c .b f) e ≡ true) × (weightOf c e ≡ weightOf c f)
   unfolding equals
   equals-in e f r h =
-      let (p, q) = and-eq-true-iff (between c f e && leZ (weightOf c e) (weightOf c f)) _ .0 h in
-      let (path, low) = and-eq-true-iff (between c f e) _ .0 p in
-      (ap (λ x. x e) (sym (between-path c (ok c a) (least .tree .spanning) f r)) ∙ path, omega (arith, integers, leZ-true (weightOf c e) (weightOf c f) low, leZ-true (weightOf c f) (weightOf c e) q))
+      let (path, same) = sameAs-in (weightOf c) (weightOf c f) (between c f) e h in
+      (ap (λ x. x e) (sym (between-path c (ok c a) (least .tree .spanning) f r)) ∙ path, same)
 
   in-equals : (e f : ℕ) → graphOf c .rows f ≡ true → onPath (graphOf c) S (graphOf c .a f) (graphOf c .b f) e ≡ true → weightOf c e ≡ weightOf c f → equals c f e ≡ true
   unfolding equals
   in-equals e f r path same =
-      rw (ap (λ x. x e) (between-path c (ok c a) (least .tree .spanning) f r) ∙ path, le-leZ (weightOf c e) (weightOf c f) (omega (arith, integers, same)), le-leZ (weightOf c f) (weightOf c e) (omega (arith, integers, same)))
+      in-sameAs (weightOf c) (weightOf c f) (between c f) e (ap (λ x. x e) (between-path c (ok c a) (least .tree .spanning) f r) ∙ path) same
 
   -- where there is no such row, no row outside the tree has an equal on its path
   none-unequalled : equalIn c ≡ 0 → Unequalled (graphOf c) (weightOf c) S
@@ -82,44 +67,50 @@ module _ (c : Call) (a : Accepted c) (least : LeastClaim c) where
       let (lf, uf) = ok c a .position f r in
       let (le, ue) = ok c a .position e (least .tree .spanning .inside e (path-inside (graphOf c) (ok c a) S (least .tree .spanning) _ _ e path)) in
       clash
-      (rw (in-without (upTo (rowsOf c)) S f r out) (any-some (rowsOf c) e (equals c f) le ue (in-equals e f r path same)))
+      (rw (in-without (used c) S f r out) (any-some (rowsOf c) e (equals c f) le ue (in-equals e f r path same)))
       (uppermost-none (rowsOf c) (replaces c) none f lf uf)
 
   -- and where there is one, the exchange gives another tree of the same weight
   found-equal : (j : ℕ) → equalIn c ≡ suc j → EqualExchange c (equalOut c) (equalIn c)
-  unfolding equalIn equalOut replaces graphOf claimWeight weightOf
+  unfolding used equalIn equalOut replaces graphOf claimWeight weightOf
   found-equal j u =
-      let (new, some) = and-eq-true-iff (without (upTo (rowsOf c)) S (suc j)) _ .0 (uppermost-some (rowsOf c) j (replaces c) u .0) in
-      let (r, out) = without-in (upTo (rowsOf c)) S (suc j) new in
+      let (new, some) = and-eq-true-iff (without (used c) S (suc j)) _ .0 (uppermost-some (rowsOf c) j (replaces c) u .0) in
+      let (r, out) = without-in (used c) S (suc j) new in
       let (k, v) = any-found (rowsOf c) (equals c (suc j)) some in
       let (path, same) = equals-in (suc k) (suc j) r (uppermost-some (rowsOf c) k (equals c (suc j)) v .0) in
       let m = path-inside (graphOf c) (ok c a) S (least .tree .spanning) _ _ (suc k) path in
       let (t, w) = equal-exchange (graphOf c) (ok c a) (weightOf c) S rows-least (suc k) (suc j) r out path same in
-      let i : Row c (suc j) = upTo-in (rowsOf c) (suc j) r in
+      let i : Row c (suc j) = used-row c (suc j) r in
+      let (o, byte) = out-row c a (suc k) m in
       rw (u, v) (record {
-        out-row = out-row c a (least .tree) (suc k) m;
+        out-row = o;
         in-row = i;
-        out-marked = m;
-        in-unmarked = out;
-        tree = exchanged-tree c a (least .tree) (suc k) (suc j) m i t;
-        weight = rw (exchanged-rows c a (least .tree) (suc k) (suc j) m i) w;
+        out-marked = byte;
+        in-unmarked = unmarked-byte c a (suc j) r out;
+        tree = exchanged-tree c a (least .tree) (suc k) (suc j) o i t;
+        weight = rw (exchanged-rows c a (least .tree) (suc k) (suc j) o i) w;
       })
 
   -- no other tree of the same weight, as sets of rows and as claims
   none-other : equalIn c ≡ 0 → NoOther c
-  unfolding claimWeight weightOf graphOf
-  none-other none other t same =
-      same-bytes other (c .mark) (t .bytes ∙ sym (least .tree .bytes)) (t .zero-or-one) (least .tree .zero-or-one)
-      (unequalled-only (graphOf c) (ok c a) (weightOf c) S rows-least (none-unequalled none) (marked other) (t .spanning) same)
+  unfolding used both claimed claimWeight weightOf graphOf
+  none-other none other t same i r =
+      same-byte other (c .mark) i (t .zero-or-one i r) (least .tree .zero-or-one i r) (alike i r)
+    where
+      rows : claimed (withClaim c other) ≡ S
+      rows = unequalled-only (graphOf c) (ok c a) (weightOf c) S rows-least (none-unequalled none) (claimed (withClaim c other)) (t .spanning) same
+
+      alike : (i : ℕ) → Row c i → marked other i ≡ marked (c .mark) i
+      alike i r = rw (row-used c i r) at (ap (λ (p : ℕ → Bool). p i) rows)
 
   -- an equal exchange is another claim
   another : (out into : ℕ) → EqualExchange c out into → NoOther c → ⊥
-  unfolding exchange
+  unfolding used exchange marked claimed
   another out into x n =
       clash
-      (ap (λ (l : List ℕ). marked l into) (sym (n (exchanged (c .mark) out into) (x .tree) (x .weight)))
-      ∙ ap (λ (p : ℕ → Bool). p into) (exchanged-rows c a (least .tree) out into (x .out-marked) (x .in-row))
-      ∙ put-same (takeOut S out) into)
+      (ap (λ b. eqb b 1) (sym (n (exchanged (c .mark) out into) (x .tree) (x .weight) into (x .in-row)))
+      ∙ both-in (used c) (marked (exchanged (c .mark) out into)) into
+      (ap (λ (p : ℕ → Bool). p into) (exchanged-rows c a (least .tree) out into (x .out-row) (x .in-row)) ∙ put-same (takeOut S out) into) .1)
       (x .in-unmarked)
 
   pub yes-none : only c ≡ true → NoOther c
@@ -142,7 +133,11 @@ module _ (c : Call) (a : Accepted c) (least : LeastClaim c) where
       go zero e = clash (eq-eqb (equalIn c) 0 e) h
       go (suc j) e = found-equal j e
 
+-- what CST's yes and no are worth
 pub only-holds : OnlyHolds
-only-holds c a weight e =
-    let least = demand3 c a .passes .0 (weight, e) in
-    record { yes = (yes-none c a least, none-yes c a least); no = no-equal c a least }
+unfolding equalRows rowsBeside
+only-holds c a =
+    record {
+      yes = λ weight alone e. let (least, w, y) = passed-least c a weight alone e in rw y (yes-none c a least, none-yes c a least);
+      no = λ weight e. let (least, w, y) = passed-least c a weight false e in rw e (no-equal c a least (sym y));
+    }

@@ -1,24 +1,26 @@
--- From the sixteen bytes of an answer to the trees of the columns: what a call through the doors star_cst and star_mst1 returns and leaves,
+-- From the sixteen bytes of an answer to the trees of the columns: what a call through the doors star_cst, star_other and star_mst1 returns and leaves,
 -- and what the bytes mean. A C programmer who believes this statement need read nothing else. The doors' contracts state it of themselves.
+-- c is the call's columns: `callOf` for a plain table and `workOf` for a working one, whose rows are those in use. Which tables are accepted says star/Accepted.
 -- Cites definitions alone; the proof is proofs/Bytes.antt. Assumes nothing.
 use Prim.Native.Nat.{ℕ, _≤_}
 use mathlib.Core.List.{List}
-use mathlib.Core.Logic.{_↔_}
+use mathlib.Core.Logic.{_↔_, _⊎_}
 use mathlib.Core.Path.{_≡_}
 use lib.IntN.{pos}
 use lib.ListN.{length}
 use Rattle.demand3.specs.Demand3.{ClaimTree, LeastClaim, WorthExchange, Fault}
+use Rattle.demand3.specs.Only.{NoOther, EqualExchange}
 use Rattle.rowset.specs.Bytes.{little}
 use Rattle.star.specs.Accepted.{AcceptedTable}
 use Rattle.star.specs.Call.{Call, claimWeight, withClaim}
 use Rattle.star.specs.Cst.{cst}
-use Rattle.star.specs.Door.{Fields, fields, readBack, doorReturns, cstDoor, mst1Door, mst1DoorMarks}
+use Rattle.star.specs.Door.{Fields, fields, builtFields, otherFields, readBack, doorReturns, cstDoor, mst1Door, otherDoor, mst1DoorMarks}
 use Rattle.star.specs.Mst1.{mst1}
 
--- what is left of a lent answer of sixteen bytes: sixteen bytes, of which 6 and 7 are 0, and what is read back is the answer's own fields, none of them cut off
+-- what is left of a lent answer of sixteen bytes: sixteen bytes, of which the one numbered 7 is 0, and what is read back is the answer's own fields, none of them cut off
 pub record Written (after : List ℕ) (answer : Fields) : Type 0 where
   pub sixteen : length after ≡ 16
-  pub unused : little after 6 2 ≡ 0
+  pub unused : little after 7 1 ≡ 0
   pub fields : readBack after ≡ answer
 
 -- the fields x of CST's answer, over an accepted table
@@ -32,6 +34,16 @@ pub record CheckedMeans (c : Call) (x : Fields) : Type 0 where
   -- kind 0: the claim is no spanning tree, and the number and the place say why
   pub declined : (x .kind ≡ 0) ↔ (ClaimTree c → ⊥)
   pub fault : x .kind ≡ 0 → Fault c (record { number = x .number; place = x .out })
+  -- in kind 1 the byte of the only tree is 1 where no other spanning tree of the table has the same weight, and else 0; in the other kinds it is 0
+  pub only : x .kind ≡ 1 → (x .only ≡ 1) ↔ NoOther c
+  pub yes-or-no : x .kind ≡ 1 → x .only ≤ 1
+  pub no-pass : (x .kind ≡ 1 → ⊥) → x .only ≡ 0
+
+-- the fields x of the door that names an exchange, over an accepted table: as CST's, and where another tree weighs the same, the exchange of row out for row in gives one
+pub record OtherMeans (c : Call) (x : Fields) : Type 0 where
+  pub checked : CheckedMeans c x
+  pub another : x .kind ≡ 1 → x .only ≡ 0 → EqualExchange c (x .out) (x .into)
+  pub same : (x .kind ≡ 1 → x .only ≡ 0 → ⊥) → x ≡ fields (cst c)
 
 -- the fields x of MST1's answer and the mark column afterwards, over an accepted table
 pub record BuiltMeans (c : Call) (x : Fields) (marks : List ℕ) : Type 0 where
@@ -43,11 +55,14 @@ pub record BuiltMeans (c : Call) (x : Fields) (marks : List ℕ) : Type 0 where
   pub declined : (x .kind ≡ 0) ↔ ((other : List ℕ) → ClaimTree (withClaim c other) → ⊥)
   pub number : x .kind ≡ 0 → (x .number ≡ 11) × (x .out ≡ 0)
   pub kept : x .kind ≡ 0 → marks ≡ c .mark
+  -- nothing is said about other trees
+  pub only : x .only ≡ 0
 
--- a table that is not accepted: kind 0, with a number of 1 to 4
+-- a table that is not accepted: kind 0, with a number of 1 to 4, or 15
 pub record TableDeclined (x : Fields) : Type 0 where
   pub kind : x .kind ≡ 0
-  pub number : (1 ≤ x .number) × (x .number ≤ 4)
+  pub number : ((1 ≤ x .number) × (x .number ≤ 4)) ⊎ (x .number ≡ 15)
+  pub only : x .only ≡ 0
 
 -- a call of star_cst with the columns c: what it returns, and the lent answer before and after
 pub record CstCall (c : Call) (answer after : List ℕ) (returned : ℕ) : Type 0 where
@@ -59,17 +74,28 @@ pub record CstCall (c : Call) (answer after : List ℕ) (returned : ℕ) : Type 
   pub means : length answer ≡ 16 → AcceptedTable c → CheckedMeans c (readBack after)
   pub refused : length answer ≡ 16 → (AcceptedTable c → ⊥) → TableDeclined (readBack after)
 
+-- a call of star_other with the columns c
+pub record OtherCall (c : Call) (answer after : List ℕ) (returned : ℕ) : Type 0 where
+  pub declined : (length answer ≡ 16 → ⊥) → (returned ≡ 0) × (after ≡ answer)
+  pub returns : length answer ≡ 16 → returned ≡ 1
+  pub written : length answer ≡ 16 → Written after (otherFields c)
+  pub means : length answer ≡ 16 → AcceptedTable c → OtherMeans c (readBack after)
+  pub refused : length answer ≡ 16 → (AcceptedTable c → ⊥) → TableDeclined (readBack after)
+
 -- a call of star_mst1 with the columns c: what it returns, the lent answer before and after, and the mark column afterwards
 pub record Mst1Call (c : Call) (answer after marks : List ℕ) (returned : ℕ) : Type 0 where
   pub declined : (length answer ≡ 16 → ⊥) → (returned ≡ 0) × (after ≡ answer) × (marks ≡ c .mark)
   pub returns : length answer ≡ 16 → returned ≡ 1
-  pub written : length answer ≡ 16 → Written after (fields (mst1 c))
+  pub written : length answer ≡ 16 → Written after (builtFields (mst1 c))
   pub means : length answer ≡ 16 → AcceptedTable c → BuiltMeans c (readBack after) marks
   pub refused : length answer ≡ 16 → (AcceptedTable c → ⊥) → TableDeclined (readBack after) × (marks ≡ c .mark)
 
--- the theorem: of every call through the two doors, whatever the columns and the lent answer hold
+-- the theorem: of every call through the three doors, whatever the columns and the lent answer hold
 abbrev pub CstDoorMeans : Type 0
 CstDoorMeans = (c : Call) (answer : List ℕ) → CstCall c answer (cstDoor c answer) (doorReturns answer)
+
+abbrev pub OtherDoorMeans : Type 0
+OtherDoorMeans = (c : Call) (answer : List ℕ) → OtherCall c answer (otherDoor c answer) (doorReturns answer)
 
 abbrev pub Mst1DoorMeans : Type 0
 Mst1DoorMeans = (c : Call) (answer : List ℕ) → Mst1Call c answer (mst1Door c answer) (mst1DoorMarks c answer) (doorReturns answer)

@@ -1,4 +1,3 @@
 pub mod Demand3
-pub mod Bytes
 pub mod Only
-pub mod OnlyTrials
+pub mod Bytes

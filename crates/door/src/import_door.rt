@@ -18,6 +18,7 @@ pub fn of_imported(x: Imported) -> Record
             number: 0,
             out: s.n,
             into: s.m,
+            only: 0,
             amount: 0,
         },
         Imported::Refused(r) => Record {
@@ -25,6 +26,7 @@ pub fn of_imported(x: Imported) -> Record
             number: r.number,
             out: 0,
             into: 0,
+            only: 0,
             amount: r.place as u64,
         },
     }

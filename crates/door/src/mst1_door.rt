@@ -7,11 +7,11 @@ ghost use Rattle.answer.specs.Records.{fieldsOf};
 ghost use Rattle.star.specs.Call.{callOf};
 ghost use Rattle.demand3.specs.Bytes.{Mst1Call};
 ghost use Rattle.mst1.specs.Answers.{answerOf};
-ghost use Rattle.star.specs.Door.{fields, doorReturns, mst1Door, mst1DoorMarks};
+ghost use Rattle.star.specs.Door.{builtFields, doorReturns, mst1Door, mst1DoorMarks};
 
 // The fields of what MST1 built.
 pub fn of_built(b: Built) -> Record
-    ensures { λ r. ⌜ fieldsOf r ≡ fields (answerOf b) ⌝ }
+    ensures { λ r. ⌜ fieldsOf r ≡ builtFields (answerOf b) ⌝ }
 {
     match b {
         Built::Tree(weight) => Record {
@@ -19,6 +19,7 @@ pub fn of_built(b: Built) -> Record
             number: 0,
             out: 0,
             into: 0,
+            only: 0,
             amount: weight,
         },
         Built::Refused(r) => Record {
@@ -26,6 +27,7 @@ pub fn of_built(b: Built) -> Record
             number: r.number,
             out: r.place,
             into: 0,
+            only: 0,
             amount: 0,
         },
     }

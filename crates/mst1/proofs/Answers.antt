@@ -22,8 +22,7 @@ use Rattle.rowset.proofs.Integers.{total-cut}
 use Rattle.rowset.proofs.Laws.{refuted, upTo-in, in-upTo}
 use Rattle.slice.specs.Slices.{size}
 use Rattle.star.specs.Call.{Call, rowsOf, graphOf, weightOf, claimOf}
-use Rattle.star.specs.Cst.{Answer, refused, passed}
-use Rattle.star.specs.Mst1.{chosenRows, treeRows, built, builtMarks, mst1, mst1Marks}
+use Rattle.star.specs.Mst1.{BuildAnswer, unbuilt, treeBuilt, chosenRows, treeRows, built, builtMarks, mst1, mst1Marks}
 use Rattle.star.specs.Refusals.{cause, isNone, noTree, tableCauses, mst1Causes, refusal, orElse, Accepted}
 use Rattle.star.proofs.Accepted.{refusal-append, taken, sound}
 use Rattle.table.specs.Loads.{loadedRow}
@@ -50,17 +49,17 @@ rows-within m h = fun-ext (λ i. go i (upTo m i) refl)
     go i false e = and-false (upTo size i)
 
 -- MST1 gives this answer and leaves these marks
-abbrev pub Ends : Call → Answer → List ℕ → Type 0
+abbrev pub Ends : Call → BuildAnswer → List ℕ → Type 0
 Ends c answer marks = (answer ≡ mst1 c) × (marks ≡ mst1Marks c)
 
 module _ (c : Call) where
   -- a refusal leaves the marks
-  ends-refused : (r : Refusal) → refusal (mst1Causes c) ≡ some r → Ends c (refused r) (c .mark)
+  ends-refused : (r : Refusal) → refusal (mst1Causes c) ≡ some r → Ends c (unbuilt r) (c .mark)
   unfolding mst1 mst1Marks built builtMarks
   ends-refused r e = (rw e, rw e)
 
   -- a table that the checks refuse
-  pub table-refused : {o : Outcome} {r : Refusal} → refusalOf o ≡ refusal (tableCauses c) → o ≡ Refused r → Ends c (refused r) (c .mark)
+  pub table-refused : {o : Outcome} {r : Refusal} → refusalOf o ≡ refusal (tableCauses c) → o ≡ Refused r → Ends c (unbuilt r) (c .mark)
   unfolding mst1Causes refusalOf
   table-refused {r = r} e q = ends-refused r (refusal-first (tableCauses c) (noTree c ∷ []) r (sym e ∙ ap refusalOf q))
 
@@ -110,16 +109,16 @@ module _ (c : Call) where
       chosen-tree = rw (← loaded-tree) (g .rows)
 
       -- where there is no tree
-      pub tree-refused : whole ≡ false → Ends c (refused (record { number = 11; place = 0 })) (c .mark)
+      pub tree-refused : whole ≡ false → Ends c (unbuilt (record { number = 11; place = 0 })) (c .mark)
       unfolding cause
       tree-refused e = ends-refused _ (last-cause true (not-false _ (whole-tree ∙ e)))
 
       -- where there is one, it is marked and weighed
-      pub tree-built : whole ≡ true → (bits : ℕ) → fromBits 64 bits ≡ total size (λ i. signed (inRow 4 (c .weight) i)) chosen → Ends c (passed (fromBits 64 bits)) (claimOf (length (c .mark)) chosen)
+      pub tree-built : whole ≡ true → (bits : ℕ) → fromBits 64 bits ≡ total size (λ i. signed (inRow 4 (c .weight) i)) chosen → Ends c (treeBuilt (fromBits 64 bits)) (claimOf (length (c .mark)) chosen)
       unfolding mst1 mst1Marks built builtMarks cause weightOf
       tree-built e bits h =
           let t = taken c accepted in
           let none-left = last-cause false (not-true _ (whole-tree ∙ e)) in (
-            rw (none-left, h, chosen-tree) (ap passed (total-cut size (rowsOf c) (weightOf c) (treeRows c) (t .few-rows) tree-inside)),
+            rw (none-left, h, chosen-tree) (ap treeBuilt (total-cut size (rowsOf c) (weightOf c) (treeRows c) (t .few-rows) tree-inside)),
             rw (none-left, t .mark-length, chosen-tree),
           )

@@ -6,7 +6,7 @@ use Prim.Native.Nat.{ℕ, zero, suc, _+_, _≤_, _<_}
 use borrow.Author.Tests.{ltb-true, ltb-false}
 use lib.Dec.{T, ltb, leb→le, le→leb, ltb→lt, lt→ltb}
 use lib.IntN.{ℤ, pos, negsuc, negℤ, natAbs, subℕ, _+ℤ_, _-ℤ_, +ℤ-idr}
-use lib.Signed.{ltZ, ltZ-no, clashℤ, _≤ℤ_, _<ℤ_}
+use lib.Signed.{leZ, ltZ, ltZ-no, clashℤ, _≤ℤ_, _<ℤ_}
 use mathlib.Core.Bool.{Bool, true, false, cond}
 use mathlib.Core.Path.{_≡_, refl, ap}
 use native.Mathlib.Omega.{arith}
@@ -115,6 +115,12 @@ ltZ-true a b e = record { lt = rw e tt }
 
 pub ltZ-false : (a b : ℤ) → ltZ a b ≡ false → b ≤ℤ a
 ltZ-false a b e = ltZ-no (rw e tt)
+
+pub leZ-true : (a b : ℤ) → leZ a b ≡ true → a ≤ℤ b
+leZ-true a b e = record { le = rw e tt }
+
+pub le-leZ : (a b : ℤ) → a ≤ℤ b → leZ a b ≡ true
+le-leZ a b h = true-of (leZ a b) (h .le)
 
 pub lt-ltZ : (a b : ℤ) → a <ℤ b → ltZ a b ≡ true
 lt-ltZ a b h = true-of (ltZ a b) (h .lt)

@@ -4,13 +4,13 @@ use Prim.Native.Nat.{ℕ, _≤_, _<_}
 use borrow.Author.Tests.{eqb-true, eq-eqb}
 use lib.Dec.{eqb}
 use lib.IntN.{ℤ}
-use lib.Signed.{ltZ, _≤ℤ_, _<ℤ_, ≤ℤ-refl}
+use lib.Signed.{leZ, ltZ, _≤ℤ_, _<ℤ_, ≤ℤ-refl}
 use mathlib.Core.Bool.{Bool, true, false, _&&_, and-eq-true-iff}
 use mathlib.Core.Path.{_≡_, fun-ext}
 use native.Mathlib.Omega.{arith}
-use Rattle.rowset.proofs.Integers.{integers, ltZ-true, ltZ-false, lt-ltZ, le-ltZ}
+use Rattle.rowset.proofs.Integers.{integers, leZ-true, ltZ-true, ltZ-false, lt-ltZ, le-leZ, le-ltZ}
 use Rattle.rowset.proofs.Laws.{any-cut, extreme, extreme-in, extreme-first, in-extreme, extreme-exists}
-use Rattle.rowset.specs.Searches.{equalTo, greaterThan, smallest, largest, SearchesInWords}
+use Rattle.rowset.specs.Searches.{equalTo, greaterThan, sameAs, smallest, largest, SearchesInWords}
 use Rattle.rowset.specs.Sets.{any}
 
 -- ── MATCH ──
@@ -38,6 +38,17 @@ module _ (f : ℕ → ℤ) (w : ℤ) (X : ℕ → Bool) (i : ℕ) where
   pub in-greaterThan : X i ≡ true → w <ℤ f i → greaterThan f w X i ≡ true
   unfolding greaterThan
   in-greaterThan x l = rw (x, lt-ltZ w (f i) l)
+
+  pub sameAs-in : sameAs f w X i ≡ true → (X i ≡ true) × (f i ≡ w)
+  unfolding sameAs
+  sameAs-in e =
+      let (x, h) = and-eq-true-iff (X i) _ .0 e in
+      let (low, high) = and-eq-true-iff (leZ (f i) w) _ .0 h in
+      (x, omega (arith, integers, leZ-true (f i) w low, leZ-true w (f i) high))
+
+  pub in-sameAs : X i ≡ true → f i ≡ w → sameAs f w X i ≡ true
+  unfolding sameAs
+  in-sameAs x e = rw (x, le-leZ (f i) w (omega (arith, integers, e)), le-leZ w (f i) (omega (arith, integers, e)))
 
 -- ── MIN and MAX ──
 
@@ -85,6 +96,7 @@ searches-in-words m r f X i =
     record {
       of-match = λ w. (equalTo-in r w X i, λ h. in-equalTo r w X i (h .0) (h .1));
       of-great = λ w. (greaterThan-in f w X i, λ h. in-greaterThan f w X i (h .0) (h .1));
+      of-same = λ w. (sameAs-in f w X i, λ h. in-sameAs f w X i (h .0) (h .1));
       of-min = (λ e. (smallest-in m f X i e, λ k. smallest-least m f X i k e), λ h. in-smallest m f X i (h .0) (h .1));
       of-max = (λ e. (largest-in m f X i e, λ k. largest-greatest m f X i k e), λ h. in-largest m f X i (h .0) (h .1));
     }

@@ -6,7 +6,7 @@ use mathlib.Core.Logic.{_↔_}
 use mathlib.Core.Path.{_≡_}
 use lib.Dec.{eqb}
 use lib.IntN.{ℤ}
-use lib.Signed.{ltZ, _≤ℤ_, _<ℤ_}
+use lib.Signed.{leZ, ltZ, _≤ℤ_, _<ℤ_}
 use Rattle.rowset.specs.Sets.{any}
 
 -- MATCH: the selected rows that equal w
@@ -16,6 +16,10 @@ equalTo f w X i = X i && eqb (f i) w
 -- GREAT: the selected rows that are greater than w
 unfoldable pub greaterThan : (ℕ → ℤ) → ℤ → (ℕ → Bool) → ℕ → Bool
 greaterThan f w X i = X i && ltZ w (f i)
+
+-- GREAT's second slice: the selected rows that equal w
+unfoldable pub sameAs : (ℕ → ℤ) → ℤ → (ℕ → Bool) → ℕ → Bool
+sameAs f w X i = X i && (leZ (f i) w && leZ w (f i))
 
 -- MIN: the selected rows than which no selected row of 1 to m is smaller
 unfoldable pub smallest : ℕ → (ℕ → ℤ) → (ℕ → Bool) → ℕ → Bool
@@ -31,11 +35,13 @@ pub record Gives (m : ℕ) (r : ℕ → ℕ) (f : ℕ → ℤ) (X : ℕ → Bool
   pub of-match : (w : ℕ) → (equalTo r w X i ≡ true) ↔ ((X i ≡ true) × (r i ≡ w))
   -- GREAT with w: row i is selected and is greater than w
   pub of-great : (w : ℤ) → (greaterThan f w X i ≡ true) ↔ ((X i ≡ true) × (w <ℤ f i))
+  -- and its second slice: row i is selected and equals w
+  pub of-same : (w : ℤ) → (sameAs f w X i ≡ true) ↔ ((X i ≡ true) × (f i ≡ w))
   -- MIN: row i is selected, and no selected row is smaller
   pub of-min : (smallest m f X i ≡ true) ↔ ((X i ≡ true) × ((k : ℕ) → 1 ≤ k → k ≤ m → X k ≡ true → f i ≤ℤ f k))
   -- MAX: row i is selected, and no selected row is larger
   pub of-max : (largest m f X i ≡ true) ↔ ((X i ≡ true) × ((k : ℕ) → 1 ≤ k → k ≤ m → X k ≡ true → f k ≤ℤ f i))
 
--- The theorem that the four definitions mean what the document says of the searches; its proof is proofs/Searches.antt.
+-- The theorem that the definitions mean what the document says of the searches; its proof is proofs/Searches.antt.
 abbrev pub SearchesInWords : Type 0
 SearchesInWords = (m : ℕ) (r : ℕ → ℕ) (f : ℕ → ℤ) (X : ℕ → Bool) (i : ℕ) → Gives m r f X i

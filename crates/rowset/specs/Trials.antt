@@ -11,7 +11,7 @@ use Rattle.rowset.specs.Bytes.{little, inRow}
 use Rattle.rowset.specs.Columns.{width, inColumns, repeatedColumns}
 use Rattle.rowset.specs.Integers.{fromBits, toBits, integerIn, signed, total}
 use Rattle.rowset.specs.Counts.{readWithin, columnsRead}
-use Rattle.rowset.specs.Searches.{equalTo, greaterThan, smallest, largest}
+use Rattle.rowset.specs.Searches.{equalTo, greaterThan, sameAs, smallest, largest}
 use Rattle.rowset.specs.Sets.{empty, upTo, both, either, oneOf, without, put, takeOut, any, firstOf, uppermost, sum, count, odd}
 use Rattle.rowset.specs.Words.{wordAt, columnWordsFrom, matrixWords, inWords}
 
@@ -91,6 +91,9 @@ SearchesHold =
     members 8 (equalTo rows 5 five) ∷ members 8 (equalTo rows 5 (these (2 ∷ 3 ∷ []))) ∷ members 8 (equalTo rows 6 five) ∷ members 8 (equalTo rows 0 (upTo 6)) ∷ members 8 (equalTo rows 5 empty)
     -- GREAT: not the rows equal to w
     ∷ members 8 (greaterThan numbers (pos 3) five) ∷ members 8 (greaterThan numbers (pos 4) five) ∷ members 8 (greaterThan numbers (pos 5) five) ∷ members 8 (greaterThan numbers (pos 0) (upTo 6)) ∷ members 8 (greaterThan numbers (pos 3) (these (2 ∷ 4 ∷ []))) ∷ members 8 (greaterThan numbers (pos 0) empty)
+    -- its second slice: the rows equal to w alone, of those that are selected; an unloaded row; none; Θ
+    ∷ members 8 (sameAs numbers (pos 5) five) ∷ members 8 (sameAs numbers (pos 5) (these (2 ∷ 3 ∷ []))) ∷ members 8 (sameAs numbers (pos 0) (upTo 6)) ∷ members 8 (sameAs numbers (pos 6) five) ∷ members 8 (sameAs numbers (pos 5) empty)
+    ∷ members 8 (sameAs mixed (negsuc 0) five) ∷ members 8 (sameAs mixed (negsuc 2147483647) five) ∷ members 8 (sameAs mixed (pos 1) five)
     -- MIN: two rows of least number, one, all that are selected, an unloaded row, Θ
     ∷ members 8 (smallest 8 numbers five) ∷ members 8 (smallest 8 numbers (these (1 ∷ 3 ∷ 4 ∷ []))) ∷ members 8 (smallest 8 numbers (these (1 ∷ 3 ∷ []))) ∷ members 8 (smallest 8 numbers (upTo 6)) ∷ members 8 (smallest 8 numbers empty)
     -- MAX, likewise
@@ -104,6 +107,8 @@ SearchesHold =
     ≡ (
     (1 ∷ 3 ∷ []) ∷ (3 ∷ []) ∷ [] ∷ (6 ∷ []) ∷ []
     ∷ (1 ∷ 3 ∷ 4 ∷ []) ∷ (1 ∷ 3 ∷ []) ∷ [] ∷ (1 ∷ 2 ∷ 3 ∷ 4 ∷ 5 ∷ []) ∷ (4 ∷ []) ∷ []
+    ∷ (1 ∷ 3 ∷ []) ∷ (3 ∷ []) ∷ (6 ∷ []) ∷ [] ∷ []
+    ∷ (1 ∷ 5 ∷ []) ∷ (2 ∷ []) ∷ []
     ∷ (2 ∷ 5 ∷ []) ∷ (4 ∷ []) ∷ (1 ∷ 3 ∷ []) ∷ (6 ∷ []) ∷ []
     ∷ (1 ∷ 3 ∷ []) ∷ (4 ∷ []) ∷ (2 ∷ 5 ∷ []) ∷ (6 ∷ 7 ∷ []) ∷ []
     ∷ (1 ∷ 3 ∷ 4 ∷ 5 ∷ []) ∷ (3 ∷ 4 ∷ []) ∷ (4 ∷ []) ∷ (1 ∷ 3 ∷ 4 ∷ 5 ∷ [])

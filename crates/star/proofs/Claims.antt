@@ -126,14 +126,14 @@ marked-exchanged l (suc o) (suc f) lo ho li hi = fun-ext at
         rw (marked-byte (exchanged l (suc o) (suc f)) j, exchanged-byte l o f j ho hi, marked-byte l j, eqb·suc-suc j o, eqb·suc-suc j f)
         (bits (eqb j f) (eqb j o) (getD l j 0))
 
-pub exchanged-bytes : (l : List ℕ) (out into : ℕ) → 1 ≤ out → out ≤ length l → 1 ≤ into → into ≤ length l → ((i : ℕ) → inRow 1 l i ≤ 1) → (i : ℕ) → inRow 1 (exchanged l out into) i ≤ 1
+pub exchanged-bytes : (l : List ℕ) (out into : ℕ) → 1 ≤ out → out ≤ length l → 1 ≤ into → into ≤ length l → (i : ℕ) → inRow 1 l i ≤ 1 → inRow 1 (exchanged l out into) i ≤ 1
 unfolding inRow
-exchanged-bytes l zero into lo ho li hi h i = absurd (omega arith)
-exchanged-bytes l (suc o) zero lo ho li hi h i = absurd (omega arith)
-exchanged-bytes l (suc o) (suc f) lo ho li hi h zero = omega arith
-exchanged-bytes l (suc o) (suc f) lo ho li hi h (suc j) =
+exchanged-bytes l zero into lo ho li hi i h = absurd (omega arith)
+exchanged-bytes l (suc o) zero lo ho li hi i h = absurd (omega arith)
+exchanged-bytes l (suc o) (suc f) lo ho li hi zero h = omega arith
+exchanged-bytes l (suc o) (suc f) lo ho li hi (suc j) h =
     rw (inRow-byte (exchanged l (suc o) (suc f)) j, exchanged-byte l o f j ho hi)
-    (bits (eqb j f) (eqb j o) (getD l j 0) (rw (inRow-byte l j) at (h (suc j))))
+    (bits (eqb j f) (eqb j o) (getD l j 0) (rw (inRow-byte l j) at h))
   where
     bits : (p q : Bool) (x : ℕ) → x ≤ 1 → cond p 1 (cond q 0 x) ≤ 1
     bits true q x k = omega arith

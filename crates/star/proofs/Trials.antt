@@ -7,32 +7,43 @@ use Rattle.graph.specs.Graph.{crosses, withEnds, step, grow, joined}
 use Rattle.graph.specs.Tree.{onPath}
 use Rattle.rowset.specs.Bytes.{little, inRow}
 use Rattle.rowset.specs.Integers.{fromBits, toBits, total}
-use Rattle.rowset.specs.Searches.{greaterThan, smallest, largest}
+use Rattle.rowset.specs.Searches.{greaterThan, sameAs, smallest, largest}
 use Rattle.rowset.specs.Sets.{empty, upTo, both, oneOf, without, put, takeOut, any, firstOf, uppermost, sum, count}
-use Rattle.rowset.specs.Words.{wordAt, columnWordsFrom, matrixWords}
-use Rattle.star.specs.Call.{graphOf, weightOf, marked, claimWeight, claimFrom, claimOf, exchanged}
-use Rattle.star.specs.Cst.{between, heavier, improves, rowIn, rowOut, judged, verdict, cst}
+use Rattle.rowset.specs.Trials.{these}
+use Rattle.rowset.specs.Words.{wordAt, columnWordsFrom, matrixWords, inWords}
+use Rattle.star.specs.Call.{used, graphOf, weightOf, marked, claimed, claimWeight, claimFrom, claimOf, exchanged}
+use Rattle.star.specs.Cst.{between, heavier, improves, rowIn, rowOut, equals, replaces, equalIn, equalOut, only, judged, verdict, cst, rowsBeside, equalRows}
 use Rattle.star.specs.MatrixPath.{pathColumn, matrixPath, matrixOr, matrixAfter}
 use Rattle.star.specs.Mst1.{chosenRows, treeRows, built, mst1, builtMarks, mst1Marks}
-use Rattle.star.specs.Refusals.{cause, causeAt, badVertices, tooManyRows, badLengths, badEnds, badRow, badClaim, badSource, shortMatrix, badCount, unjoined, isNone, noTree, tableCauses, matrixPathCauses, cstCauses, mst1Causes, orElse, refusal}
+use Rattle.star.specs.Refusals.{cause, causeAt, badVertices, tooManyRows, badLengths, wrongRow, badEnds, badRow, repeatsAbove, repeats, repeatedRow, wrongByte, badClaim, badSource, shortMatrix, badCount, unjoined, isNone, noTree, tableCauses, matrixPathCauses, cstCauses, mst1Causes, orElse, refusal}
 use Rattle.star.specs.AnswerTrials.{AnswerTrialsHold}
-use Rattle.star.specs.Door.{fields, bytesOf, fieldBytes, readBack, wellLent, doorReturns, answerAfter, cstDoor, mst1Door, mst1DoorMarks}
+use Rattle.star.specs.Door.{fields, builtFields, fieldsBeside, otherFields, bytesOf, fieldBytes, readBack, wellLent, doorReturns, answerAfter, cstDoor, mst1Door, otherDoor, mst1DoorMarks}
+use Rattle.star.specs.OnlyTrials.{OnlyTrialsHold}
 use Rattle.star.specs.RefusalTrials.{RefusalTrialsHold}
 use Rattle.star.specs.SignedTrials.{SignedTrialsHold}
 use Rattle.star.specs.Trials.{TrialsHold}
+use Rattle.star.specs.WorkTrials.{WorkTrialsHold}
 
 pub trials-hold : TrialsHold
-unfolding xor cheapest choose first next fragment treeOf tree crosses withEnds step grow joined between heavier improves rowIn rowOut onPath little inRow greaterThan smallest largest empty upTo both oneOf without put takeOut any firstOf uppermost sum count fromBits toBits total graphOf weightOf marked claimWeight claimFrom claimOf judged verdict cst wordAt columnWordsFrom matrixWords pathColumn matrixPath matrixOr matrixAfter chosenRows treeRows built mst1 builtMarks mst1Marks cause causeAt badVertices tooManyRows badLengths badEnds badRow badClaim badSource shortMatrix badCount unjoined isNone noTree tableCauses matrixPathCauses cstCauses mst1Causes orElse refusal
+unfolding xor cheapest choose first next fragment treeOf tree crosses withEnds step grow joined between heavier improves rowIn rowOut equals replaces equalIn equalOut only onPath little inRow greaterThan sameAs smallest largest empty upTo both oneOf without put takeOut any firstOf uppermost sum count fromBits toBits total used graphOf weightOf marked claimed claimWeight claimFrom claimOf judged verdict cst wordAt columnWordsFrom matrixWords pathColumn matrixPath matrixOr matrixAfter chosenRows treeRows built mst1 builtMarks mst1Marks cause causeAt badVertices tooManyRows badLengths wrongRow badEnds badRow repeatsAbove repeats repeatedRow wrongByte badClaim badSource shortMatrix badCount unjoined isNone noTree tableCauses matrixPathCauses cstCauses mst1Causes orElse refusal
 trials-hold = refl
 
 pub refusal-trials-hold : RefusalTrialsHold
-unfolding xor cheapest choose first next fragment treeOf tree crosses withEnds step grow joined between heavier improves rowIn rowOut onPath little inRow greaterThan smallest largest empty upTo both oneOf without put takeOut any firstOf uppermost sum count fromBits toBits total graphOf weightOf marked claimWeight claimFrom claimOf judged verdict cst wordAt columnWordsFrom matrixWords pathColumn matrixPath matrixOr matrixAfter chosenRows treeRows built mst1 builtMarks mst1Marks cause causeAt badVertices tooManyRows badLengths badEnds badRow badClaim badSource shortMatrix badCount unjoined isNone noTree tableCauses matrixPathCauses cstCauses mst1Causes orElse refusal
+unfolding xor cheapest choose first next fragment treeOf tree crosses withEnds step grow joined between heavier improves rowIn rowOut equals replaces equalIn equalOut only onPath little inRow greaterThan sameAs smallest largest empty upTo both oneOf without put takeOut any firstOf uppermost sum count fromBits toBits total used graphOf weightOf marked claimed claimWeight claimFrom claimOf judged verdict cst wordAt columnWordsFrom matrixWords pathColumn matrixPath matrixOr matrixAfter chosenRows treeRows built mst1 builtMarks mst1Marks cause causeAt badVertices tooManyRows badLengths wrongRow badEnds badRow repeatsAbove repeats repeatedRow wrongByte badClaim badSource shortMatrix badCount unjoined isNone noTree tableCauses matrixPathCauses cstCauses mst1Causes orElse refusal
 refusal-trials-hold = refl
 
 pub answer-trials-hold : AnswerTrialsHold
-unfolding xor cheapest choose first next fragment treeOf tree crosses withEnds step grow joined between heavier improves rowIn rowOut onPath little inRow greaterThan smallest largest empty upTo both oneOf without put takeOut any firstOf uppermost sum count fromBits toBits total graphOf weightOf marked claimWeight claimFrom claimOf judged verdict cst wordAt columnWordsFrom matrixWords pathColumn matrixPath matrixOr matrixAfter chosenRows treeRows built mst1 builtMarks mst1Marks cause causeAt badVertices tooManyRows badLengths badEnds badRow badClaim badSource shortMatrix badCount unjoined isNone noTree tableCauses matrixPathCauses cstCauses mst1Causes orElse refusal exchanged fields bytesOf fieldBytes readBack wellLent doorReturns answerAfter cstDoor mst1Door mst1DoorMarks
-answer-trials-hold = (refl, refl, refl, refl, refl)
+unfolding xor cheapest choose first next fragment treeOf tree crosses withEnds step grow joined between heavier improves rowIn rowOut equals replaces equalIn equalOut only onPath little inRow greaterThan sameAs smallest largest empty upTo both oneOf without put takeOut any firstOf uppermost sum count fromBits toBits total used graphOf weightOf marked claimed claimWeight claimFrom claimOf judged verdict cst wordAt columnWordsFrom matrixWords pathColumn matrixPath matrixOr matrixAfter chosenRows treeRows built mst1 builtMarks mst1Marks cause causeAt badVertices tooManyRows badLengths wrongRow badEnds badRow repeatsAbove repeats repeatedRow wrongByte badClaim badSource shortMatrix badCount unjoined isNone noTree tableCauses matrixPathCauses cstCauses mst1Causes orElse refusal exchanged fields builtFields bytesOf fieldBytes readBack wellLent doorReturns answerAfter cstDoor mst1Door mst1DoorMarks
+answer-trials-hold = (refl, refl, refl, refl, refl, refl)
 
 pub signed-trials-hold : SignedTrialsHold
-unfolding xor cheapest choose first next fragment treeOf tree crosses withEnds step grow joined between heavier improves rowIn rowOut onPath little inRow greaterThan smallest largest empty upTo both oneOf without put takeOut any firstOf uppermost sum count fromBits toBits total graphOf weightOf marked claimWeight claimFrom claimOf judged verdict cst wordAt columnWordsFrom matrixWords pathColumn matrixPath matrixOr matrixAfter chosenRows treeRows built mst1 builtMarks mst1Marks cause causeAt badVertices tooManyRows badLengths badEnds badRow badClaim badSource shortMatrix badCount unjoined isNone noTree tableCauses matrixPathCauses cstCauses mst1Causes orElse refusal exchanged fields bytesOf fieldBytes readBack wellLent doorReturns answerAfter cstDoor mst1Door mst1DoorMarks
+unfolding xor cheapest choose first next fragment treeOf tree crosses withEnds step grow joined between heavier improves rowIn rowOut equals replaces equalIn equalOut only onPath little inRow greaterThan sameAs smallest largest empty upTo both oneOf without put takeOut any firstOf uppermost sum count fromBits toBits total used graphOf weightOf marked claimed claimWeight claimFrom claimOf judged verdict cst wordAt columnWordsFrom matrixWords pathColumn matrixPath matrixOr matrixAfter chosenRows treeRows built mst1 builtMarks mst1Marks cause causeAt badVertices tooManyRows badLengths wrongRow badEnds badRow repeatsAbove repeats repeatedRow wrongByte badClaim badSource shortMatrix badCount unjoined isNone noTree tableCauses matrixPathCauses cstCauses mst1Causes orElse refusal exchanged fields builtFields bytesOf fieldBytes readBack wellLent doorReturns answerAfter cstDoor mst1Door mst1DoorMarks
 signed-trials-hold = (refl, refl, (refl, refl, refl))
+
+pub only-trials-hold : OnlyTrialsHold
+unfolding xor cheapest choose first next fragment treeOf tree crosses withEnds step grow joined between heavier improves rowIn rowOut equals replaces equalIn equalOut only onPath little inRow greaterThan sameAs smallest largest empty upTo both oneOf without put takeOut any firstOf uppermost sum count fromBits toBits total used graphOf weightOf marked claimed claimWeight claimFrom claimOf judged verdict cst wordAt columnWordsFrom matrixWords pathColumn matrixPath matrixOr matrixAfter chosenRows treeRows built mst1 builtMarks mst1Marks cause causeAt badVertices tooManyRows badLengths wrongRow badEnds badRow repeatsAbove repeats repeatedRow wrongByte badClaim badSource shortMatrix badCount unjoined isNone noTree tableCauses matrixPathCauses cstCauses mst1Causes orElse refusal exchanged fields builtFields fieldsBeside otherFields bytesOf fieldBytes readBack wellLent doorReturns answerAfter cstDoor mst1Door otherDoor rowsBeside equalRows
+only-trials-hold = (refl, refl, refl)
+
+pub work-trials-hold : WorkTrialsHold
+unfolding xor cheapest choose first next fragment treeOf tree crosses withEnds step grow joined between heavier improves rowIn rowOut equals replaces equalIn equalOut only onPath little inRow greaterThan sameAs smallest largest empty upTo both oneOf without put takeOut any firstOf uppermost sum count fromBits toBits total used graphOf weightOf marked claimed claimWeight claimFrom claimOf judged verdict cst wordAt columnWordsFrom matrixWords pathColumn matrixPath matrixOr matrixAfter chosenRows treeRows built mst1 builtMarks mst1Marks cause causeAt badVertices tooManyRows badLengths wrongRow badEnds badRow repeatsAbove repeats repeatedRow wrongByte badClaim badSource shortMatrix badCount unjoined isNone noTree tableCauses matrixPathCauses cstCauses mst1Causes orElse refusal exchanged fields builtFields fieldsBeside otherFields bytesOf fieldBytes readBack wellLent doorReturns answerAfter cstDoor mst1Door otherDoor rowsBeside equalRows mst1DoorMarks these inWords
+work-trials-hold = (refl, refl, refl, refl)

@@ -1,8 +1,8 @@
 -- Trials of the answers: which row comes in and which goes out, weights of four bytes, rows in later words of the path matrix, and the bytes of the door.
 -- Assumes nothing.
 use Prim.Native.Nat.{ℕ, _*_, _-_}
+use mathlib.Core.Bool.{true}
 use mathlib.Core.List.{List, [], _∷_, _++_}
-use mathlib.Core.Option.{none}
 use mathlib.Core.Path.{_≡_}
 use lib.IntN.{pos}
 use lib.ListN.{replicate}
@@ -11,7 +11,8 @@ use Rattle.star.specs.Call.{Call, callOf, withClaim, exchanged}
 use Rattle.star.specs.Cst.{passed, lighter}
 use Rattle.star.specs.Door.{Fields, fieldBytes, readBack, doorReturns, cstDoor, mst1Door, mst1DoorMarks}
 use Rattle.star.specs.MatrixPath.{pathColumn}
-use Rattle.star.specs.Trials.{Result, checked, built, filled, checks, builds, fills, small, yard}
+use Rattle.star.specs.Mst1.{treeBuilt}
+use Rattle.star.specs.Trials.{Result, checked, built, checks, builds, small, yard}
 
 -- weights that use all four bytes: 1-2 of weight 16,909,060, 2-3 of 2,147,483,647 and 1-3 of 2,147,483,646
 abbrev pub dear : List ℕ → Call
@@ -31,7 +32,6 @@ given =
     ∷ checks (dear (1 ∷ 1 ∷ 0 ∷ []))
     ∷ checks (dear (1 ∷ 0 ∷ 1 ∷ []))
     ∷ builds (dear (0 ∷ 0 ∷ 0 ∷ []))
-    ∷ fills (long 64) 1 (replicate 48 5)  -- rows 64 and 65
     ∷ []
 
 -- what they should give
@@ -40,9 +40,8 @@ expected =
     checked (lighter 1 2 2)
     ∷ checked (lighter 5 1 1)
     ∷ checked (lighter 2 3 1)
-    ∷ checked (passed (pos 2164392706))
-    ∷ built (passed (pos 2164392706)) (1 ∷ 0 ∷ 1 ∷ [])
-    ∷ filled none (replicate 16 0 ++ ((9223372036854775808 ∷ replicate 15 0) ++ (9223372036854775808 ∷ 1 ∷ replicate 14 0)))
+    ∷ checked (passed (pos 2164392706) true)
+    ∷ built (treeBuilt (pos 2164392706)) (1 ∷ 0 ∷ 1 ∷ [])
     ∷ []
 
 -- an answer of nines, of the length given
@@ -59,7 +58,7 @@ givenBytes =
     ∷ mst1DoorMarks (yard (0 ∷ 0 ∷ 0 ∷ 0 ∷ 0 ∷ [])) (nines 16)
     ∷ mst1Door (callOf 2 [] [] [] []) (nines 16)
     ∷ cstDoor (dear (1 ∷ 0 ∷ 1 ∷ [])) (nines 16)
-    ∷ fieldBytes (record { kind = 2; number = 3; out = 258; into = 1023; amount = pos 578437695752307201 })
+    ∷ fieldBytes (record { kind = 2; number = 3; out = 258; into = 1023; only = 1; amount = pos 578437695752307201 })
     ∷ cstDoor (yard (0 ∷ 1 ∷ 1 ∷ 1 ∷ 0 ∷ [])) (nines 15)
     ∷ cstDoor (yard (0 ∷ 1 ∷ 1 ∷ 1 ∷ 0 ∷ [])) (nines 17)
     ∷ mst1Door (yard (6 ∷ 0 ∷ 0 ∷ 0 ∷ 0 ∷ [])) (nines 15)
@@ -78,8 +77,8 @@ expectedBytes =
     ∷ (1 ∷ 0 ∷ 0 ∷ 0 ∷ 0 ∷ 0 ∷ 0 ∷ 0 ∷ 12 ∷ 0 ∷ 0 ∷ 0 ∷ 0 ∷ 0 ∷ 0 ∷ 0 ∷ [])
     ∷ (1 ∷ 1 ∷ 0 ∷ 1 ∷ 0 ∷ [])
     ∷ (0 ∷ 11 ∷ 0 ∷ 0 ∷ 0 ∷ 0 ∷ 0 ∷ 0 ∷ 0 ∷ 0 ∷ 0 ∷ 0 ∷ 0 ∷ 0 ∷ 0 ∷ 0 ∷ [])
-    ∷ (1 ∷ 0 ∷ 0 ∷ 0 ∷ 0 ∷ 0 ∷ 0 ∷ 0 ∷ 2 ∷ 3 ∷ 2 ∷ 129 ∷ 0 ∷ 0 ∷ 0 ∷ 0 ∷ [])
-    ∷ (2 ∷ 3 ∷ 2 ∷ 1 ∷ 255 ∷ 3 ∷ 0 ∷ 0 ∷ 1 ∷ 2 ∷ 3 ∷ 4 ∷ 5 ∷ 6 ∷ 7 ∷ 8 ∷ [])
+    ∷ (1 ∷ 0 ∷ 0 ∷ 0 ∷ 0 ∷ 0 ∷ 1 ∷ 0 ∷ 2 ∷ 3 ∷ 2 ∷ 129 ∷ 0 ∷ 0 ∷ 0 ∷ 0 ∷ [])
+    ∷ (2 ∷ 3 ∷ 2 ∷ 1 ∷ 255 ∷ 3 ∷ 1 ∷ 0 ∷ 1 ∷ 2 ∷ 3 ∷ 4 ∷ 5 ∷ 6 ∷ 7 ∷ 8 ∷ [])
     ∷ nines 15
     ∷ nines 17
     ∷ nines 15
@@ -94,11 +93,17 @@ expectedBytes =
 abbrev pub OtherClaim : Type 0
 OtherClaim = withClaim (yard []) (1 ∷ []) ≡ yard (1 ∷ [])
 
--- bytes read back: the kind, the number, two bytes each for out and in, and eight for the amount
+-- bytes read back: the kind, the number, two bytes each for out and in, one for the only tree, and eight for the amount
 abbrev pub ReadBack : Type 0
 ReadBack =
-    readBack (2 ∷ 3 ∷ 2 ∷ 1 ∷ 255 ∷ 3 ∷ 9 ∷ 9 ∷ 1 ∷ 2 ∷ 3 ∷ 4 ∷ 5 ∷ 6 ∷ 7 ∷ 8 ∷ 9 ∷ [])
-    ≡ record { kind = 2; number = 3; out = 258; into = 1023; amount = pos 578437695752307201 }
+    readBack (2 ∷ 3 ∷ 2 ∷ 1 ∷ 255 ∷ 3 ∷ 9 ∷ 8 ∷ 1 ∷ 2 ∷ 3 ∷ 4 ∷ 5 ∷ 6 ∷ 7 ∷ 8 ∷ 9 ∷ [])
+    ≡ record { kind = 2; number = 3; out = 258; into = 1023; only = 9; amount = pos 578437695752307201 }
+
+-- rows 64 and 65 are marked: the columns of vertices 1, 2 and 3. What a column holds is said of any rows, equal ones too
+abbrev pub LaterWords : Type 0
+LaterWords =
+    matrixWords (pathColumn (long 64) 1) 3
+    ≡ replicate 16 0 ++ ((9223372036854775808 ∷ replicate 15 0) ++ (9223372036854775808 ∷ 1 ∷ replicate 14 0))
 
 -- row 961 alone is marked: the columns of vertices 1 and 2
 abbrev pub LastWord : Type 0
@@ -108,4 +113,4 @@ LastWord =
 
 -- the theorem: each trial gives what it should
 abbrev pub AnswerTrialsHold : Type 0
-AnswerTrialsHold = (given ≡ expected) × (givenBytes ≡ expectedBytes) × OtherClaim × ReadBack × LastWord
+AnswerTrialsHold = (given ≡ expected) × (givenBytes ≡ expectedBytes) × OtherClaim × ReadBack × LaterWords × LastWord

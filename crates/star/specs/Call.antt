@@ -1,6 +1,7 @@
--- What a call hands in: n and four byte columns, and the graph, weights and claim that they describe.
+-- What a call hands in: n, the number of rows, which of them are in use, and four byte columns; and the graph, weights and claim that they describe.
+-- A plain table has a row for each byte of its left column, and every row is in use. A working table has 1,024 rows, and a lent slice says which are in use.
 -- Assumes nothing.
-use Prim.Native.Nat.{ℕ, zero, suc, _-_}
+use Prim.Native.Nat.{ℕ, zero, suc, _*_, _-_}
 use mathlib.Core.Bool.{Bool, cond}
 use mathlib.Core.List.{List, [], _∷_}
 use lib.Dec.{eqb}
@@ -9,25 +10,58 @@ use lib.ListN.{length, set}
 use Rattle.graph.specs.Graph.{Graph}
 use Rattle.rowset.specs.Bytes.{inRow}
 use Rattle.rowset.specs.Integers.{signed, total}
-use Rattle.rowset.specs.Sets.{upTo}
+use Rattle.rowset.specs.Sets.{upTo, both}
+use Rattle.rowset.specs.Words.{inWords}
 
--- n, the left and right columns with one byte a row, the weight column with four, and the mark column, or claim, with one
+-- n; m, the number of rows; the rows in use, and for how many rows they were handed in;
+-- the left and right columns with one byte a row, the weight column with four, and the mark column, or claim, with one
 pub record Call : Type 0 where
   pub n : ℕ
+  pub m : ℕ
+  pub slots : ℕ
+  pub inUse : ℕ → Bool
   pub left : List ℕ
   pub right : List ℕ
   pub weight : List ℕ
   pub mark : List ℕ
 
--- the call with this n and these columns
+-- the call on a plain table with this n and these columns: a row for each byte of the left column, all in use
 abbrev pub callOf : (n : ℕ) → (left right weight mark : List ℕ) → Call
-callOf n left right weight mark = record { n = n; left = left; right = right; weight = weight; mark = mark }
+callOf n left right weight mark =
+    record {
+      n = n;
+      m = length left;
+      slots = length left;
+      inUse = upTo (length left);
+      left = left;
+      right = right;
+      weight = weight;
+      mark = mark;
+    }
 
--- m, the number of edge rows: the length of the left column
+-- the call on a working table: 1,024 rows, and the rows in use lent as words of 64 bits
+abbrev pub workOf : (n : ℕ) → (words left right weight mark : List ℕ) → Call
+workOf n words left right weight mark =
+    record {
+      n = n;
+      m = 1024;
+      slots = 64 * length words;
+      inUse = inWords words;
+      left = left;
+      right = right;
+      weight = weight;
+      mark = mark;
+    }
+
+-- m, the number of rows
 abbrev pub rowsOf : Call → ℕ
-rowsOf c = length (c .left)
+rowsOf c = c .m
 
--- the graph: row i of 1 to m joins the vertices that the left and the right column name
+-- the rows in use, of 1 to m
+unfoldable pub used : Call → ℕ → Bool
+used c = both (upTo (rowsOf c)) (c .inUse)
+
+-- the graph: each row in use joins the vertices that the left and the right column name
 unfoldable pub graphOf : Call → Graph
 graphOf c =
     record {
@@ -35,24 +69,38 @@ graphOf c =
       m = rowsOf c;
       a = inRow 1 (c .left);
       b = inRow 1 (c .right);
-      rows = upTo (rowsOf c);
+      rows = used c;
     }
 
 -- the weight of row i: the integer that its four bytes stand for, −2,147,483,648 to 2,147,483,647
 unfoldable pub weightOf : Call → ℕ → ℤ
 weightOf c i = signed (inRow 4 (c .weight) i)
 
--- the marked rows of a claim: those whose byte is 1
+-- the marked rows of a column of bytes: those whose byte is 1
 unfoldable pub marked : List ℕ → ℕ → Bool
 marked l i = eqb (inRow 1 l i) 1
 
+-- the marked rows of the claim: the rows in use whose byte is 1; bytes at other rows are not read
+unfoldable pub claimed : Call → ℕ → Bool
+claimed c = both (used c) (marked (c .mark))
+
 -- the weight of the claim: the sum of its marked rows' weights
 unfoldable pub claimWeight : Call → ℤ
-claimWeight c = total (rowsOf c) (weightOf c) (marked (c .mark))
+claimWeight c = total (rowsOf c) (weightOf c) (claimed c)
 
 -- the same table with another claim
 abbrev pub withClaim : Call → List ℕ → Call
-withClaim c l = record { n = c .n; left = c .left; right = c .right; weight = c .weight; mark = l }
+withClaim c l =
+    record {
+      n = c .n;
+      m = c .m;
+      slots = c .slots;
+      inUse = c .inUse;
+      left = c .left;
+      right = c .right;
+      weight = c .weight;
+      mark = l;
+    }
 
 -- the claim with k bytes after row i: 1 for a row of S, 0 for any other
 unfoldable pub claimFrom : (ℕ → Bool) → ℕ → ℕ → List ℕ

@@ -9,3 +9,5 @@ pub mod Trials
 pub mod RefusalTrials
 pub mod AnswerTrials
 pub mod SignedTrials
+pub mod OnlyTrials
+pub mod WorkTrials

@@ -8,12 +8,12 @@ use lib.ListN.{length, drop}
 use Rattle.graph.specs.Tree.{onPath}
 use Rattle.refusal.specs.declared.Refusal.{Refusal}
 use Rattle.rowset.specs.Words.{columnWords, matrixWords}
-use Rattle.star.specs.Call.{Call, graphOf, marked}
+use Rattle.star.specs.Call.{Call, graphOf, claimed}
 use Rattle.star.specs.Refusals.{matrixPathCauses, refusal}
 
 -- column j of the path matrix: the rows on the tree path from s to j
 unfoldable pub pathColumn : Call → ℕ → ℕ → ℕ → Bool
-pathColumn c s j = onPath (graphOf c) (marked (c .mark)) s j
+pathColumn c s j = onPath (graphOf c) (claimed c) s j
 
 -- the answer: none is done, and otherwise the refusal
 unfoldable pub matrixPath : Call → ℕ → List ℕ → Option Refusal

@@ -4,12 +4,12 @@ use Prim.Native.Nat.{ℕ}
 use mathlib.Core.Bool.{Bool}
 use mathlib.Core.List.{List}
 use mathlib.Core.Option.{Option, none, some}
+use lib.IntN.{ℤ}
 use Rattle.graph.specs.Builder.{Fragment, tree}
 use Rattle.refusal.specs.declared.Refusal.{Refusal}
 use Rattle.rowset.specs.Integers.{total}
 use Rattle.rowset.specs.Sets.{empty}
 use Rattle.star.specs.Call.{Call, rowsOf, graphOf, weightOf, claimOf}
-use Rattle.star.specs.Cst.{Answer, refused, passed}
 use Rattle.star.specs.Refusals.{mst1Causes, refusal}
 
 -- the rows of the tree that was grown
@@ -20,12 +20,16 @@ chosenRows (some f) = f .chosen
 unfoldable pub treeRows : Call → ℕ → Bool
 treeRows c = chosenRows (tree (graphOf c) (weightOf c))
 
--- MST1's answer: the refusal, or the tree's weight
-unfoldable pub built : Call → Option Refusal → Answer
-built c (some r) = refused r
-built c none = passed (total (rowsOf c) (weightOf c) (treeRows c))
+-- what MST1 answers: the refusal, or the weight of the tree that it built
+pub data BuildAnswer : Type 0 where
+  unbuilt : Refusal → BuildAnswer
+  treeBuilt : (weight : ℤ) → BuildAnswer
 
-unfoldable pub mst1 : Call → Answer
+unfoldable pub built : Call → Option Refusal → BuildAnswer
+built c (some r) = unbuilt r
+built c none = treeBuilt (total (rowsOf c) (weightOf c) (treeRows c))
+
+unfoldable pub mst1 : Call → BuildAnswer
 mst1 c = built c (refusal (mst1Causes c))
 
 -- the mark column afterwards: as it was on a refusal, else 1 for each chosen row and 0 for every other

@@ -1,6 +1,7 @@
 -- Trials of the refusals: each number at its boundary on both sides, neighbours in their order, the place, and what is left as it was.
 -- Assumes nothing.
 use Prim.Native.Nat.{ℕ}
+use mathlib.Core.Bool.{true}
 use mathlib.Core.List.{List, [], _∷_, _++_}
 use mathlib.Core.Option.{Option, none, some}
 use mathlib.Core.Path.{_≡_}
@@ -8,6 +9,7 @@ use lib.IntN.{pos}
 use lib.ListN.{replicate}
 use Rattle.star.specs.Call.{Call, callOf}
 use Rattle.star.specs.Cst.{refused, passed}
+use Rattle.star.specs.Mst1.{unbuilt, treeBuilt}
 use Rattle.star.specs.Trials.{Result, checked, built, filled, checks, builds, fills, small, because, column, yard, bare}
 
 -- n = 2 and one marked row of weight 5 between a and b
@@ -27,6 +29,18 @@ abbrev pub parts : List ℕ → Call
 parts claim =
     callOf 5 (1 ∷ 2 ∷ 1 ∷ 4 ∷ 3 ∷ []) (2 ∷ 3 ∷ 3 ∷ 5 ∷ 4 ∷ []) (small 1 ++ (small 1 ++ (small 1 ++ (small 1 ++ small 1)))) claim
 
+-- three rows of weight 1 each, of these ends
+abbrev pub three : (n : ℕ) → (left right claim : List ℕ) → Call
+three n left right claim = callOf n left right (small 1 ++ (small 1 ++ small 1)) claim
+
+-- the same pair three times: 1-2, 1-2 and 2-1
+abbrev pub thrice : List ℕ → Call
+thrice claim = three 2 (1 ∷ 1 ∷ 2 ∷ []) (2 ∷ 2 ∷ 1 ∷ []) claim
+
+-- two rows of weight 1 each between the vertices of 1 to 23
+abbrev pub two : (left right : List ℕ) → Call
+two left right = callOf 23 left right (small 1 ++ small 1) (0 ∷ 0 ∷ [])
+
 -- a matrix of the length given, of sevens
 abbrev sevens : ℕ → List ℕ
 sevens k = replicate k 7
@@ -35,8 +49,8 @@ sevens k = replicate k 7
 abbrev no : (number place : ℕ) → Result
 no number place = checked (refused (because number place))
 
-abbrev unbuilt : (number place : ℕ) → List ℕ → Result
-unbuilt number place marks = built (refused (because number place)) marks
+abbrev kept : (number place : ℕ) → List ℕ → Result
+kept number place marks = built (unbuilt (because number place)) marks
 
 abbrev unfilled : (number place : ℕ) → List ℕ → Result
 unfilled number place R = filled (some (because number place)) R
@@ -69,6 +83,20 @@ given =
     ∷ checks (callOf 3 (1 ∷ 0 ∷ 3 ∷ []) (2 ∷ 1 ∷ 3 ∷ []) (replicate 12 0) (7 ∷ 7 ∷ 7 ∷ []))  -- the uppermost such row, before 6
     ∷ builds (callOf 3 (1 ∷ 0 ∷ 3 ∷ []) (2 ∷ 1 ∷ 3 ∷ []) (replicate 12 0) (7 ∷ 7 ∷ 7 ∷ []))
     ∷ fills (callOf 3 (1 ∷ 0 ∷ 3 ∷ []) (2 ∷ 1 ∷ 3 ∷ []) (replicate 12 0) (7 ∷ 7 ∷ 7 ∷ [])) 0 (sevens 2)
+    ∷ checks (three 3 (1 ∷ 2 ∷ 3 ∷ []) (2 ∷ 1 ∷ 3 ∷ []) (1 ∷ 0 ∷ 0 ∷ []))  -- 4 in row 3 before 15 in row 2
+    ∷ checks (three 2 (1 ∷ 1 ∷ 1 ∷ []) (2 ∷ 1 ∷ 2 ∷ []) (1 ∷ 0 ∷ 0 ∷ []))  -- and 4 in row 2 before 15 in row 3
+    ∷ checks (thrice (1 ∷ 0 ∷ 0 ∷ []))  -- 15: the uppermost row that repeats an earlier one
+    ∷ builds (thrice (7 ∷ 8 ∷ 9 ∷ []))  -- the marks stay
+    ∷ checks (three 4 (1 ∷ 3 ∷ 2 ∷ []) (2 ∷ 4 ∷ 1 ∷ []) (1 ∷ 1 ∷ 1 ∷ []))  -- another row between, and the other direction, before 10
+    ∷ checks (three 4 (2 ∷ 3 ∷ 2 ∷ []) (4 ∷ 1 ∷ 4 ∷ []) (1 ∷ 0 ∷ 0 ∷ []))  -- the same direction, before 9
+    ∷ builds (three 4 (2 ∷ 3 ∷ 2 ∷ []) (4 ∷ 1 ∷ 4 ∷ []) (0 ∷ 0 ∷ 0 ∷ []))  -- before 11
+    ∷ checks (thrice (2 ∷ 0 ∷ 0 ∷ []))  -- before 6 in row 1
+    ∷ fills (thrice (1 ∷ 0 ∷ 0 ∷ [])) 3 (sevens 2)  -- before 7 and 8
+    ∷ checks (two (1 ∷ 12 ∷ []) (23 ∷ 3 ∷ []))  -- 1-23 and 12-3 are two pairs
+    ∷ checks (two (1 ∷ 2 ∷ []) (4 ∷ 3 ∷ []))  -- and so are 1-4 and 2-3, 2-6 and 3-4, 1-2 and 2-3, 1-3 and 2-3
+    ∷ checks (two (2 ∷ 3 ∷ []) (6 ∷ 4 ∷ []))
+    ∷ checks (two (1 ∷ 2 ∷ []) (2 ∷ 3 ∷ []))
+    ∷ checks (two (1 ∷ 2 ∷ []) (3 ∷ 3 ∷ []))
     ∷ checks (yard (0 ∷ 2 ∷ 0 ∷ 255 ∷ 0 ∷ []))  -- 6: the uppermost byte other than 0 and 1, before 9
     ∷ fills (yard (1 ∷ 1 ∷ 0 ∷ 1 ∷ 2 ∷ [])) 0 (sevens 3)  -- before 7 and 8
     ∷ fills (yard (1 ∷ 1 ∷ 0 ∷ 0 ∷ 0 ∷ [])) 0 (sevens 3)  -- 7: s is 0, before 8 and 9
@@ -93,28 +121,42 @@ expected =
     no 1 0  -- 1: n is 0
     ∷ no 1 0  -- n is above 255
     ∷ no 9 0  -- 255 is taken: no mark is there
-    ∷ unbuilt 11 0 []
+    ∷ kept 11 0 []
     ∷ no 1 0  -- 1 before 2
     ∷ no 2 0  -- 2: m is above 1,024, before 3
     ∷ no 3 0  -- 1,024 is not
-    ∷ unbuilt 2 0 (3 ∷ [])  -- the marks stay
+    ∷ kept 2 0 (3 ∷ [])  -- the marks stay
     ∷ no 3 0  -- 3: the right column is one byte short, or long, before 4 in row 5 and in row 1
     ∷ no 3 0
     ∷ no 3 0  -- the weight column is one byte short, or long
     ∷ no 3 0
     ∷ no 3 0  -- the mark column is one byte short, or long
     ∷ no 3 0
-    ∷ unbuilt 3 0 (8 ∷ 8 ∷ [])
+    ∷ kept 3 0 (8 ∷ 8 ∷ [])
     ∷ unfilled 3 0 (sevens 3)
-    ∷ checked (passed (pos 5))  -- 4: both ends are vertices, and n is one of them
+    ∷ checked (passed (pos 5) true)  -- 4: both ends are vertices, and n is one of them
     ∷ no 4 1  -- the left end is 0, or n + 1
     ∷ no 4 1
     ∷ no 4 1  -- the right end is 0, or n + 1
     ∷ no 4 1
     ∷ no 4 1  -- both ends are equal
     ∷ no 4 2  -- the uppermost such row, before 6
-    ∷ unbuilt 4 2 (7 ∷ 7 ∷ 7 ∷ [])
+    ∷ kept 4 2 (7 ∷ 7 ∷ 7 ∷ [])
     ∷ unfilled 4 2 (sevens 2)
+    ∷ no 4 3  -- 4 in row 3 before 15 in row 2
+    ∷ no 4 2  -- and 4 in row 2 before 15 in row 3
+    ∷ no 15 2  -- 15: the uppermost row that repeats an earlier one
+    ∷ kept 15 2 (7 ∷ 8 ∷ 9 ∷ [])  -- the marks stay
+    ∷ no 15 3  -- another row between, and the other direction, before 10
+    ∷ no 15 3  -- the same direction, before 9
+    ∷ kept 15 3 (0 ∷ 0 ∷ 0 ∷ [])  -- before 11
+    ∷ no 15 2  -- before 6 in row 1
+    ∷ unfilled 15 2 (sevens 2)  -- before 7 and 8
+    ∷ no 9 0  -- 1-23 and 12-3 are two pairs
+    ∷ no 9 0  -- and so are 1-4 and 2-3, 2-6 and 3-4, 1-2 and 2-3, 1-3 and 2-3
+    ∷ no 9 0
+    ∷ no 9 0
+    ∷ no 9 0
     ∷ no 6 2  -- 6: the uppermost byte other than 0 and 1, before 9
     ∷ unfilled 6 5 (sevens 3)  -- before 7 and 8
     ∷ unfilled 7 0 (sevens 3)  -- 7: s is 0, before 8 and 9
@@ -129,8 +171,8 @@ expected =
     ∷ unfilled 10 4 (sevens 64)
     ∷ no 10 4  -- two vertices that are not joined to vertex 1
     ∷ unfilled 10 1 (sevens 80)  -- three that are not joined to vertex 5
-    ∷ unbuilt 11 0 (9 ∷ [])  -- 11: no spanning tree, and the marks stay
-    ∷ built (passed (pos 5)) (1 ∷ [])  -- MST1 does not read what its mark column held
+    ∷ kept 11 0 (9 ∷ [])  -- 11: no spanning tree, and the marks stay
+    ∷ built (treeBuilt (pos 5)) (1 ∷ [])  -- MST1 does not read what its mark column held
     ∷ []
 
 -- the theorem: each trial gives what it should

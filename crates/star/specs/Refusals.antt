@@ -1,8 +1,8 @@
 -- Why a call is declined: each cause with its number and place, and each procedure's causes in their order. The first that applies is the refusal.
 -- A cause that a check finds without the whole call is written over what it looks at, and then taken for a call.
 -- Assumes nothing.
-use Prim.Native.Nat.{ℕ, zero, suc, _*_}
-use mathlib.Core.Bool.{Bool, true, false, not, _||_}
+use Prim.Native.Nat.{ℕ, zero, suc, _*_, _-_}
+use mathlib.Core.Bool.{Bool, true, false, not, _&&_, _||_}
 use mathlib.Core.List.{List, [], _∷_, _++_}
 use mathlib.Core.Option.{Option, none, some}
 use mathlib.Core.Path.{_≡_}
@@ -12,9 +12,9 @@ use Rattle.graph.specs.Builder.{Fragment, tree}
 use Rattle.graph.specs.Graph.{joined}
 use Rattle.refusal.specs.declared.Refusal.{Refusal}
 use Rattle.rowset.specs.Bytes.{inRow}
-use Rattle.rowset.specs.Sets.{uppermost, count}
+use Rattle.rowset.specs.Sets.{any, uppermost, count}
 use Rattle.rowset.specs.Words.{columnWords}
-use Rattle.star.specs.Call.{Call, rowsOf, graphOf, weightOf, marked}
+use Rattle.star.specs.Call.{Call, rowsOf, used, graphOf, weightOf, claimed}
 
 -- the largest n and m that are taken
 abbrev pub maxVertices : ℕ
@@ -41,30 +41,52 @@ badVertices n = cause (eqb n 0 || ltb maxVertices n) 1 0
 unfoldable pub tooManyRows : ℕ → Option Refusal
 tooManyRows m = cause (ltb maxRows m) 2 0
 
--- 3: the right or mark column is not m bytes, or the weight column not 4 · m
-abbrev pub wrongLengths : (m right weight mark : ℕ) → Option Refusal
-wrongLengths m right weight mark = cause (not (eqb right m) || not (eqb mark m) || not (eqb weight (4 * m))) 3 0
+-- 3: the rows in use are not given for m rows, the left, right or mark column is not m bytes, or the weight column not 4 · m
+abbrev pub wrongLengths : (m slots left right weight mark : ℕ) → Option Refusal
+wrongLengths m slots left right weight mark =
+    cause (not (eqb slots m) || not (eqb left m) || not (eqb right m) || not (eqb mark m) || not (eqb weight (4 * m))) 3 0
 
 unfoldable pub badLengths : Call → Option Refusal
-badLengths c = wrongLengths (rowsOf c) (length (c .right)) (length (c .weight)) (length (c .mark))
+badLengths c = wrongLengths (rowsOf c) (c .slots) (length (c .left)) (length (c .right)) (length (c .weight)) (length (c .mark))
 
 -- an end is 0 or above n, or both ends are equal
 abbrev pub wrongEnds : (n a b : ℕ) → Bool
 wrongEnds n a b = eqb a 0 || ltb n a || eqb b 0 || ltb n b || eqb a b
 
-unfoldable pub badEnds : Call → ℕ → Bool
-badEnds c i = wrongEnds (c .n) (inRow 1 (c .left) i) (inRow 1 (c .right) i)
+-- row i is one of the rows, and its ends are wrong
+unfoldable pub wrongRow : (rows : ℕ → Bool) → ℕ → (left right : List ℕ) → ℕ → Bool
+wrongRow rows n left right i = rows i && wrongEnds n (inRow 1 left i) (inRow 1 right i)
 
--- 4: sought row by row from the top
+unfoldable pub badEnds : Call → ℕ → Bool
+badEnds c = wrongRow (used c) (c .n) (c .left) (c .right)
+
+-- 4: sought among the rows in use, row by row from the top
 unfoldable pub badRow : Call → Option Refusal
 badRow c = causeAt 4 (uppermost (rowsOf c) (badEnds c))
 
--- 6: a claim byte other than 0 and 1
-abbrev pub wrongByte : (mark : List ℕ) → ℕ → Bool
-wrongByte mark i = ltb 1 (inRow 1 mark i)
+-- the ends a and b are the same pair as the ends x and y, in either direction
+abbrev pub samePair : (a b x y : ℕ) → Bool
+samePair a b x y = eqb a x && eqb b y || eqb a y && eqb b x
 
+-- row i is one of the rows, and another of them above it joins the same pair of ends
+unfoldable pub repeatsAbove : (rows : ℕ → Bool) → (left right : List ℕ) → ℕ → Bool
+repeatsAbove rows left right i =
+    rows i && any (i - 1) (λ k. rows k && samePair (inRow 1 left k) (inRow 1 right k) (inRow 1 left i) (inRow 1 right i))
+
+unfoldable pub repeats : Call → ℕ → Bool
+repeats c = repeatsAbove (used c) (c .left) (c .right)
+
+-- 15: the uppermost row in use that repeats an earlier one
+unfoldable pub repeatedRow : Call → Option Refusal
+repeatedRow c = causeAt 15 (uppermost (rowsOf c) (repeats c))
+
+-- row i is one of the rows, and its claim byte is neither 0 nor 1
+unfoldable pub wrongByte : (rows : ℕ → Bool) → (mark : List ℕ) → ℕ → Bool
+wrongByte rows mark i = rows i && ltb 1 (inRow 1 mark i)
+
+-- 6: a claim byte other than 0 and 1 at a row in use
 unfoldable pub badClaim : Call → Option Refusal
-badClaim c = causeAt 6 (uppermost (rowsOf c) (wrongByte (c .mark)))
+badClaim c = causeAt 6 (uppermost (rowsOf c) (wrongByte (used c) (c .mark)))
 
 -- 7: s is 0 or above n
 abbrev pub wrongSource : (n s : ℕ) → Option Refusal
@@ -81,18 +103,18 @@ unfoldable pub shortMatrix : Call → ℕ → Option Refusal
 shortMatrix c size = fewWords (c .n) size
 
 -- 9: the marks are not n − 1
-abbrev pub wrongCount : (n m : ℕ) → (mark : List ℕ) → Option Refusal
-wrongCount n m mark = cause (not (eqb (suc (count m (marked mark))) n)) 9 0
+abbrev pub wrongCount : (n m : ℕ) → (marks : ℕ → Bool) → Option Refusal
+wrongCount n m marks = cause (not (eqb (suc (count m marks)) n)) 9 0
 
 unfoldable pub badCount : Call → Option Refusal
-badCount c = wrongCount (c .n) (rowsOf c) (c .mark)
+badCount c = wrongCount (c .n) (rowsOf c) (claimed c)
 
 -- 10: no tree; the place is the smallest vertex that marked rows do not join to s
 abbrev pub unreached : ℕ → (reached : ℕ → Bool) → Option Refusal
 unreached n reached = causeAt 10 (uppermost n (λ v. not (reached v)))
 
 unfoldable pub unjoined : Call → ℕ → Option Refusal
-unjoined c s = unreached (c .n) (joined (graphOf c) (marked (c .mark)) s)
+unjoined c s = unreached (c .n) (joined (graphOf c) (claimed c) s)
 
 -- 11: no spanning tree exists
 unfoldable pub isNone : Option Fragment → Bool
@@ -102,9 +124,9 @@ isNone (some f) = false
 unfoldable pub noTree : Call → Option Refusal
 noTree c = cause (isNone (tree (graphOf c) (weightOf c))) 11 0
 
--- the causes that concern the rows, and those of every procedure that takes the table, in order
+-- the causes that concern the rows, and those of every procedure that takes the table, in order: a 4 in any row goes before a 15 in any row
 abbrev pub rowCauses : Call → List (Option Refusal)
-rowCauses c = badRow c ∷ []
+rowCauses c = badRow c ∷ repeatedRow c ∷ []
 
 unfoldable pub tableCauses : Call → List (Option Refusal)
 tableCauses c = badVertices (c .n) ∷ tooManyRows (rowsOf c) ∷ badLengths c ∷ rowCauses c
@@ -131,6 +153,6 @@ unfoldable pub refusal : List (Option Refusal) → Option Refusal
 refusal [] = none
 refusal (x ∷ xs) = orElse x (refusal xs)
 
--- an accepted table, with its mark column: none of causes 1 to 4 applies
+-- an accepted table, with its mark column: none of causes 1 to 4 and 15 applies
 abbrev pub Accepted : Call → Type 0
 Accepted c = refusal (tableCauses c) ≡ none

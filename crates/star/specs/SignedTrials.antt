@@ -1,12 +1,14 @@
 -- Trials of prices below zero: the builder and the checker follow the order and the sums of the integers, n − 1 rows are required as ever, and the amount's eight bytes are in two's complement.
 -- Assumes nothing.
 use Prim.Native.Nat.{ℕ, _-_}
+use mathlib.Core.Bool.{true, false}
 use mathlib.Core.List.{List, [], _∷_, _++_}
 use mathlib.Core.Path.{_≡_}
 use lib.IntN.{ℤ, pos, negℤ}
 use lib.ListN.{replicate}
 use Rattle.star.specs.Call.{Call, callOf}
 use Rattle.star.specs.Cst.{refused, passed, lighter}
+use Rattle.star.specs.Mst1.{treeBuilt}
 use Rattle.star.specs.Door.{readBack, cstDoor, mst1Door}
 use Rattle.star.specs.Trials.{Result, checked, built, checks, builds, small, because}
 
@@ -33,9 +35,9 @@ signedYard claim =
 abbrev pub triangle : List ℕ → Call
 triangle claim = callOf 3 (1 ∷ 2 ∷ 1 ∷ []) (2 ∷ 3 ∷ 3 ∷ []) (below 1 ++ (below 1 ++ below 1)) claim
 
--- the two extreme rows: 1-2 weight 2,147,483,647 and 1-2 weight −2,147,483,648
+-- the two extreme rows in a triangle: 1-2 weight 2,147,483,647, 1-3 weight −2,147,483,648 and 2-3 weight 0
 abbrev pub extremes : List ℕ → Call
-extremes claim = callOf 2 (1 ∷ 1 ∷ []) (2 ∷ 2 ∷ []) (most ++ least) claim
+extremes claim = callOf 3 (1 ∷ 1 ∷ 2 ∷ []) (2 ∷ 3 ∷ 3 ∷ []) (most ++ (least ++ small 0)) claim
 
 -- what the definitions give
 abbrev pub given : List Result
@@ -46,24 +48,24 @@ given =
     ∷ builds (triangle (0 ∷ 0 ∷ 0 ∷ []))
     ∷ checks (triangle (1 ∷ 1 ∷ 1 ∷ []))
     ∷ checks (triangle (0 ∷ 1 ∷ 1 ∷ []))
-    ∷ checks (extremes (1 ∷ 0 ∷ []))
-    ∷ checks (extremes (0 ∷ 1 ∷ []))
+    ∷ checks (extremes (1 ∷ 0 ∷ 1 ∷ []))
+    ∷ checks (extremes (0 ∷ 1 ∷ 1 ∷ []))
     ∷ builds (callOf 2 (1 ∷ []) (2 ∷ []) least (0 ∷ []))
     ∷ []
 
--- what the trials say: rows 2, 4, 5, total −2,147,483,655; lighter, out 1, in 5, saving 2,147,483,653; passed; rows 1, 2, total −2; refused 9;
--- passed, −2; lighter, out 1, in 2, saving 4,294,967,295; passed with −2,147,483,648; −2,147,483,648 is taken
+-- what the trials say: rows 2, 4, 5, total −2,147,483,655; lighter, out 1, in 5, saving 2,147,483,653; passed, the only one; rows 1, 2, total −2; refused 9;
+-- passed, −2, not the only one; lighter, out 1, in 2, saving 4,294,967,295; passed with −2,147,483,648, the only one; −2,147,483,648 is taken
 abbrev pub expected : List Result
 expected =
-    built (passed (minus 2147483655)) (0 ∷ 1 ∷ 0 ∷ 1 ∷ 1 ∷ [])
+    built (treeBuilt (minus 2147483655)) (0 ∷ 1 ∷ 0 ∷ 1 ∷ 1 ∷ [])
     ∷ checked (lighter 1 5 2147483653)
-    ∷ checked (passed (minus 2147483655))
-    ∷ built (passed (minus 2)) (1 ∷ 1 ∷ 0 ∷ [])
+    ∷ checked (passed (minus 2147483655) true)
+    ∷ built (treeBuilt (minus 2)) (1 ∷ 1 ∷ 0 ∷ [])
     ∷ checked (refused (because 9 0))
-    ∷ checked (passed (minus 2))
+    ∷ checked (passed (minus 2) false)
     ∷ checked (lighter 1 2 4294967295)
-    ∷ checked (passed (minus 2147483648))
-    ∷ built (passed (minus 2147483648)) (1 ∷ [])
+    ∷ checked (passed (minus 2147483648) true)
+    ∷ built (treeBuilt (minus 2147483648)) (1 ∷ [])
     ∷ []
 
 -- the sixteen bytes through the door: of the two claims of the extreme rows, and of the triangle's tree
@@ -72,15 +74,15 @@ sixteen = replicate 16 7
 
 abbrev pub givenBytes : List (List ℕ)
 givenBytes =
-    cstDoor (extremes (1 ∷ 0 ∷ [])) sixteen
-    ∷ cstDoor (extremes (0 ∷ 1 ∷ [])) sixteen
+    cstDoor (extremes (1 ∷ 0 ∷ 1 ∷ [])) sixteen
+    ∷ cstDoor (extremes (0 ∷ 1 ∷ 1 ∷ [])) sixteen
     ∷ mst1Door (triangle (0 ∷ 0 ∷ 0 ∷ [])) sixteen
     ∷ []
 
 abbrev pub expectedBytes : List (List ℕ)
 expectedBytes =
     (2 ∷ 0 ∷ 1 ∷ 0 ∷ 2 ∷ 0 ∷ 0 ∷ 0 ∷ 255 ∷ 255 ∷ 255 ∷ 255 ∷ 0 ∷ 0 ∷ 0 ∷ 0 ∷ [])
-    ∷ (1 ∷ 0 ∷ 0 ∷ 0 ∷ 0 ∷ 0 ∷ 0 ∷ 0 ∷ 0 ∷ 0 ∷ 0 ∷ 128 ∷ 255 ∷ 255 ∷ 255 ∷ 255 ∷ [])
+    ∷ (1 ∷ 0 ∷ 0 ∷ 0 ∷ 0 ∷ 0 ∷ 1 ∷ 0 ∷ 0 ∷ 0 ∷ 0 ∷ 128 ∷ 255 ∷ 255 ∷ 255 ∷ 255 ∷ [])
     ∷ (1 ∷ 0 ∷ 0 ∷ 0 ∷ 0 ∷ 0 ∷ 0 ∷ 0 ∷ 254 ∷ 255 ∷ 255 ∷ 255 ∷ 255 ∷ 255 ∷ 255 ∷ 255 ∷ [])
     ∷ []
 

@@ -10,8 +10,8 @@ use Rattle.steinlib.specs.Import.{ImportAnswer, untaken, taken, imported
 
 -- kind 0 is refused, with the number and, in bytes 8 to 15, the place; kind 1 is read, with n in bytes 2 and 3 and m in bytes 4 and 5
 unfoldable pub importFields : ImportAnswer → Fields
-importFields (untaken r) = record { kind = 0; number = r .number; out = 0; into = 0; amount = pos (r .place) }
-importFields (taken n m) = record { kind = 1; number = 0; out = n; into = m; amount = pos 0 }
+importFields (untaken r) = record { kind = 0; number = r .number; out = 0; into = 0; only = 0; amount = pos (r .place) }
+importFields (taken n m) = record { kind = 1; number = 0; out = n; into = m; only = 0; amount = pos 0 }
 
 unfoldable pub importDoor : List ℕ → List ℕ → List ℕ → List ℕ → List ℕ → List ℕ
 importDoor text left right weight answer = answerAfter answer (importFields (imported text (length left) (length right) (length weight)))

@@ -20,7 +20,7 @@ returns-2 : tie.Need-returns-2
 unfolding fieldsOf importFields answerOf
 returns-2 c =
     let r = c .before .before .x2 .given .0 .0 in
-    let written : ℤ → Fields = λ a. record { kind = 0; number = r .number; out = 0; into = 0; amount = a } in
+    let written : ℤ → Fields = λ a. record { kind = 0; number = r .number; out = 0; into = 0; only = 0; amount = a } in
     rw (c .before .before .x2 .given .1) (ap written (natural-bits 63 (r .place) (omega arith)))
 
 pub of-imported-spec : {M : Type 1} → statement M

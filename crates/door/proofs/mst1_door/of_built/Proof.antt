@@ -6,14 +6,14 @@ use Rattle.mst1.specs.Answers.{answerOf}
 use Rattle.door.proofs.mst1_door.of_built.Statement.{statement}
 use Rattle.door.proofs.mst1_door.of_built.Tie as tie
 use Rattle.rowset.specs.Integers.{fromBits}
-use Rattle.star.specs.Door.{fields}
+use Rattle.star.specs.Door.{builtFields}
 
 returns : tie.Need-returns
-unfolding fieldsOf fields answerOf
+unfolding fieldsOf builtFields answerOf
 returns c = rw (c .before .b .given .1) refl
 
 returns-2 : tie.Need-returns-2
-unfolding fieldsOf fields answerOf fromBits
+unfolding fieldsOf builtFields answerOf fromBits
 returns-2 c = rw (c .before .b2 .given .1) refl
 
 pub of-built-spec : {M : Type 1} → statement M

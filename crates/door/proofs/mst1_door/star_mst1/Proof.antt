@@ -7,7 +7,7 @@ use native.Mathlib.Omega.{arith}
 use Rattle.demand3.proofs.Bytes.{mst1-call}
 use Rattle.door.proofs.mst1_door.star_mst1.Statement.{statement}
 use Rattle.door.proofs.mst1_door.star_mst1.Tie as tie
-use Rattle.star.specs.Door.{fields, answerAfter, wellLent, doorReturns, mst1Door, mst1DoorMarks}
+use Rattle.star.specs.Door.{builtFields, answerAfter, wellLent, doorReturns, mst1Door, mst1DoorMarks}
 
 returns : tie.Need-returns
 unfolding doorReturns wellLent mst1Door answerAfter mst1DoorMarks
@@ -20,7 +20,7 @@ returns-2 c =
     mst1-call
     (rw (eq-eqb (length (c .before .before .before .before .before .before .before .before .before .before .before .before .before .before .before .args .answer .now)) 16 (omega arith)) (
       refl,
-      (c .before .before .write-answer .ensures ∙ ap (answerAfter _) (c .before .before .before .before .of-built .ensures ∙ ap fields (c .before .before .before .before .before .before .before .mst1 .ensures .0)), c .before .before .before .before .before .before .before .mst1 .ensures .1),
+      (c .before .before .write-answer .ensures ∙ ap (answerAfter _) (c .before .before .before .before .of-built .ensures ∙ ap builtFields (c .before .before .before .before .before .before .before .mst1 .ensures .0)), c .before .before .before .before .before .before .before .mst1 .ensures .1),
     ))
 
 pub star-mst1-spec : {M : Type 1} → statement M
