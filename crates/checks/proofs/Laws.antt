@@ -1,10 +1,10 @@
 -- Laws of the checks: the number in a row from the column's bytes; a search from the top and a count, step by step;
 -- and, for those who call them too, the first refusal of checks made one after the other.
 -- Assumes nothing.
-use Prim.Native.Nat.{ℕ, zero, suc, _+_, _*_, _≤_, _<_}
+use Prim.Native.Nat.{ℕ, zero, suc, _+_, _*_, _-_, _≤_, _<_}
 use borrow.Author.Tests.{ltb-false}
 use lib.ListN.{length, getD, List·getD-eq-default}
-use mathlib.Core.Bool.{Bool, true, false}
+use mathlib.Core.Bool.{Bool, true, false, _&&_}
 use mathlib.Core.List.{List, [], _∷_, _++_}
 use mathlib.Core.Logic.{⊎-elim}
 use mathlib.Core.Option.{Option, none, some}
@@ -16,11 +16,11 @@ use Rattle.refusal.specs.Outcomes.{refusalOf}
 use Rattle.refusal.specs.declared.Outcome.{Outcome}
 use Rattle.refusal.specs.declared.Outcome.the-variants.{Done, Refused}
 use Rattle.refusal.specs.declared.Refusal.{Refusal}
-use Rattle.rowset.specs.Bytes.{little}
-use Rattle.rowset.specs.Sets.{uppermost, sum, count}
-use Rattle.rowset.proofs.Laws.{uppermost-zero, uppermost-some, uppermost-is}
-use Rattle.star.specs.Call.{Call, rowsOf}
-use Rattle.star.specs.Refusals.{maxRows, badVertices, tooManyRows, badLengths, badClaim, rowCauses, tableCauses, orElse, refusal}
+use Rattle.rowset.specs.Bytes.{little, inRow}
+use Rattle.rowset.specs.Sets.{upTo, both, uppermost, sum, count}
+use Rattle.rowset.proofs.Laws.{in-upTo, any-ext, sum-ext, uppermost-ext, uppermost-zero, uppermost-some, uppermost-is}
+use Rattle.star.specs.Call.{Call, rowsOf, marked}
+use Rattle.star.specs.Refusals.{maxRows, badVertices, tooManyRows, badLengths, wrongRow, samePair, repeatsAbove, wrongByte, badClaim, rowCauses, tableCauses, orElse, refusal}
 use Rattle.star.proofs.Accepted.{none-head, none-tail, cause-none}
 
 -- ── The number in a row ──
@@ -112,10 +112,39 @@ pub few-rows : (n m : ℕ) → none ≡ refusal (badVertices n ∷ tooManyRows m
 unfolding tooManyRows
 few-rows n m e = ltb-false maxRows m (cause-none _ 2 0 (none-head _ _ (none-tail (badVertices n) _ (sym e))))
 
--- causes 1 to 4, and with them cause 6, by the checks that seek them
+-- causes 1 to 4 and 15, and with them cause 6, by the checks that seek them
 pub table-in-order : (c : Call) → refusal (tableCauses c) ≡ orElse (refusal (badVertices (c .n) ∷ tooManyRows (rowsOf c) ∷ [])) (orElse (badLengths c) (refusal (rowCauses c)))
 unfolding tableCauses refusal
 table-in-order c = refusal-both (badVertices (c .n) ∷ tooManyRows (rowsOf c) ∷ []) (badLengths c ∷ rowCauses c)
 
 pub claim-in-order : (c : Call) → refusal (tableCauses c ++ (badClaim c ∷ [])) ≡ orElse (refusal (tableCauses c)) (badClaim c)
 claim-in-order c = refusal-both (tableCauses c) _ ∙ ap (orElse _) (refusal-one (badClaim c))
+
+-- ── Rows in use ──
+
+-- of the rows 1 to m those of a set, as the definitions say it, and as a search or a count over 1 to m finds them
+module _ (m : ℕ) (X : ℕ → Bool) where
+  within : (i : ℕ) → 1 ≤ i → i ≤ m → both (upTo m) X i ≡ X i
+  unfolding both
+  within i l u = rw (in-upTo m i l u)
+
+  module _ (left right : List ℕ) where
+    pub ends-within : (n : ℕ) → uppermost m (wrongRow X n left right) ≡ uppermost m (wrongRow (both (upTo m) X) n left right)
+    unfolding wrongRow
+    ends-within n = uppermost-ext m _ _ (λ i l u. rw (within i l u))
+
+    pub repeats-within : uppermost m (repeatsAbove X left right) ≡ uppermost m (repeatsAbove (both (upTo m) X) left right)
+    unfolding repeatsAbove
+    repeats-within = uppermost-ext m _ _ (λ i l u. rw (within i l u, any-ext (i - 1) (joins X i) (joins (both (upTo m) X) i) (λ k a b. rw (within k a (omega arith)))))
+      where
+        joins : (ℕ → Bool) → ℕ → ℕ → Bool
+        joins rows i k = rows k && samePair (inRow 1 left k) (inRow 1 right k) (inRow 1 left i) (inRow 1 right i)
+
+  module _ (mark : List ℕ) where
+    pub bytes-within : uppermost m (wrongByte X mark) ≡ uppermost m (wrongByte (both (upTo m) X) mark)
+    unfolding wrongByte
+    bytes-within = uppermost-ext m _ _ (λ i l u. rw (within i l u))
+
+    pub marks-within : count m (both X (marked mark)) ≡ count m (both (both (upTo m) X) (marked mark))
+    unfolding count both
+    marks-within = sum-ext m _ _ _ _ (λ i l u. rw (in-upTo m i l u)) (λ i l u e. refl)

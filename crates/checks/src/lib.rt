@@ -1,16 +1,21 @@
-// The checks that every procedure makes of a table, and CST and MatrixPath of a claim: causes 1 to 4, 6 and 9, each for columns of any bytes and any lengths.
+// The checks that every procedure makes of a table of m rows, and CST and MatrixPath of a claim: causes 1 to 4, 15, 6 and 9, each for columns of any bytes and any lengths.
+// What stands in rows that are not in use is not looked at.
 // Rows are counted from 1; 0 is no row, and a byte past a column's end reads 0.
 ghost use Prim.Native.Nat.{ℕ, _≤_};
+ghost use mathlib.Core.Bool.{Bool};
 ghost use mathlib.Core.List.{List, [], _∷_, _++_};
 ghost use mathlib.Core.Path.{_≡_};
 ghost use lib.ListN.{length, getD};
 ghost use Rattle.rowset.specs.Bytes.{inRow};
-ghost use Rattle.rowset.specs.Sets.{uppermost, count};
+ghost use Rattle.rowset.specs.Sets.{both, uppermost, count};
+ghost use Rattle.slice.specs.Slices.{component};
 ghost use Rattle.refusal.specs.Outcomes.{refusalOf};
-ghost use Rattle.star.specs.Call.{marked, callOf};
-ghost use Rattle.star.specs.Refusals.{maxRows, cause, causeAt, orElse, refusal, badVertices, tooManyRows, wrongLengths, wrongEnds, wrongByte, wrongCount, badClaim, rowCauses, tableCauses};
+ghost use Rattle.star.specs.Call.{Call, marked, tableOf};
+ghost use Rattle.star.specs.Refusals.{maxRows, cause, causeAt, orElse, refusal, badVertices, tooManyRows, wrongLengths, wrongEnds, wrongRow, repeatsAbove, wrongByte, badClaim, badCount, rowCauses, tableCauses};
+ghost use Rattle.checks.specs.steps.Seen.{seenPair, withSeen};
 use refusal::Outcome;
 use refusal::Refusal;
+use slice::Slice;
 
 // The largest n and m that are taken.
 pub const MAX_VERTICES: u32 = 255;
@@ -100,12 +105,46 @@ pub fn size_check(n: u32, m: usize) -> Outcome
     first(vertices, refused_if(MAX_ROWS < m, 2))
 }
 
-// Cause 3, of the number m of rows, at most 1,024, and the other columns' lengths.
-fn lengths_check(m: usize, right: usize, weight: usize, mark: usize) -> Outcome
+// Whether the rows in use were not handed in for all m rows, at most 1,024, or a column is not as long as m rows.
+fn wrong_lengths(
+    whole: bool,
+    m: usize,
+    left: usize,
+    right: usize,
+    weight: usize,
+    mark: usize,
+) -> bool
     requires { ⌜ m ≤ maxRows ⌝ }
-    ensures { λ r. ⌜ refusalOf r ≡ wrongLengths m right weight mark ⌝ }
+    ensures { λ r. ⌜ cause r 3 0 ≡ wrongLengths whole m left right weight mark ⌝ }
 {
-    refused_if(right != m || mark != m || weight != 4 * m, 3)
+    if !whole {
+        return true;
+    }
+    if left != m {
+        return true;
+    }
+    if right != m {
+        return true;
+    }
+    if mark != m {
+        return true;
+    }
+    weight != 4 * m
+}
+
+// Cause 3.
+fn lengths_check(
+    whole: bool,
+    m: usize,
+    left: usize,
+    right: usize,
+    weight: usize,
+    mark: usize,
+) -> Outcome
+    requires { ⌜ m ≤ maxRows ⌝ }
+    ensures { λ r. ⌜ refusalOf r ≡ wrongLengths whole m left right weight mark ⌝ }
+{
+    refused_if(wrong_lengths(whole, m, left, right, weight, mark), 3)
 }
 
 // Whether an end of a row is 0 or above n, or both are equal.
@@ -115,59 +154,24 @@ fn wrong_ends(n: u32, a: u32, b: u32) -> bool
     a == 0 || n < a || b == 0 || n < b || a == b
 }
 
-// Whether the ends of row i are wrong.
-fn wrong_row(n: u32, left: &[u8], right: &[u8], i: usize) -> bool
-    ensures { λ r. ⌜ r ≡ wrongEnds n (inRow 1 (now (left .entry)) i) (inRow 1 (now (right .entry)) i) ⌝ }
+// Whether row k is one of the rows, and its ends are wrong.
+fn wrong_row(n: u32, rows: Slice, left: &[u8], right: &[u8], k: usize) -> bool
+    ensures { λ r. ⌜ r ≡ wrongRow (component rows) n (now (left .entry)) (now (right .entry)) k ⌝ }
 {
-    wrong_ends(n, row_byte(left, i) as u32, row_byte(right, i) as u32)
-}
-
-// The uppermost such row, 0 where there is none.
-fn first_bad_row(n: u32, left: &[u8], right: &[u8]) -> usize
-    ensures { λ r. ⌜ r ≡ uppermost (length (now (left .entry))) (λ i. wrongEnds n (inRow 1 (now (left .entry)) i) (inRow 1 (now (right .entry)) i)) ⌝ }
-{
-    let mut i = 1;
-    while i <= left.len() {
-        if wrong_row(n, left, right, i) {
-            return i;
-        }
-        i += 1;
+    if !slice::get(rows, k) {
+        return false;
     }
-    0
+    wrong_ends(n, row_byte(left, k) as u32, row_byte(right, k) as u32)
 }
 
-// Cause 4, of a table with at most 1,024 rows, whatever its weights and claim.
-fn rows_check(n: u32, left: &[u8], right: &[u8]) -> Outcome
-    requires { ⌜ length (now left) ≤ maxRows ⌝ }
-    ensures { λ r.
-        let table = callOf n (now (left .entry)) (now (right .entry)) in
-        ⌜ ((weight mark : List ℕ) → refusalOf r ≡ refusal (rowCauses (table weight mark))) ⌝ }
-{
-    refused_at(4, first_bad_row(n, left, right) as u32)
-}
-
-// Causes 1 to 4.
-pub fn table_check(n: u32, left: &[u8], right: &[u8], weight: &[u8], mark: &[u8]) -> Outcome
-    ensures { λ r.
-        let c = callOf n (now (left .entry)) (now (right .entry)) (now (weight .entry)) (now (mark .entry)) in
-        ⌜ refusalOf r ≡ refusal (tableCauses c) ⌝ }
-{
-    let size = size_check(n, left.len());
-    let Outcome::Done = size else {
-        return size;
-    };
-    let lengths = lengths_check(left.len(), right.len(), weight.len(), mark.len());
-    first(lengths, rows_check(n, left, right))
-}
-
-// The uppermost of the first m bytes of a claim that is other than 0 and 1, 0 where there is none.
-fn first_bad_mark(m: usize, mark: &[u8]) -> usize
+// The uppermost such row of 1 to m, 0 where there is none.
+fn first_bad_row(n: u32, m: usize, rows: Slice, left: &[u8], right: &[u8]) -> usize
     requires { ⌜ m ≤ maxRows ⌝ }
-    ensures { λ r. ⌜ r ≡ uppermost m (wrongByte (now (mark .entry))) ⌝ }
+    ensures { λ r. ⌜ r ≡ uppermost m (wrongRow (component rows) n (now (left .entry)) (now (right .entry))) ⌝ }
 {
     let mut i = 1;
     while i <= m {
-        if 1 < row_byte(mark, i) {
+        if wrong_row(n, rows, left, right, i) {
             return i;
         }
         i += 1;
@@ -175,27 +179,141 @@ fn first_bad_mark(m: usize, mark: &[u8]) -> usize
     0
 }
 
-// Causes 1 to 4 and 6.
-pub fn claim_check(n: u32, left: &[u8], right: &[u8], weight: &[u8], mark: &[u8]) -> Outcome
+// Whether row i, of ends a and b, is one of the rows and a set of pairs has its pair, which is put in.
+fn repeated(above: &mut [u64], rows: Slice, i: usize, a: u8, b: u8) -> bool
+    ensures seen { λ r. ⌜ r ≡ seenPair (component rows) (now (above .entry)) i a b ⌝ }
+    ensures after { λ r. ⌜ now (above .exit) ≡ withSeen (component rows) (now (above .entry)) i a b ⌝ }
+{
+    if !slice::get(rows, i) {
+        return false;
+    }
+    pairs::put(above, a, b)
+}
+
+// The uppermost of the rows of 1 to m that joins the same pair of ends as one of them above it, 0 where there is none. One pass from the top: the pairs of the rows above are in a set of pairs.
+fn first_repeat(m: usize, rows: Slice, left: &[u8], right: &[u8]) -> usize
+    requires { ⌜ m ≤ maxRows ⌝ }
+    ensures { λ r. ⌜ r ≡ uppermost m (repeatsAbove (component rows) (now (left .entry)) (now (right .entry))) ⌝ }
+{
+    let mut above: [u64; pairs::WORDS] = [0; pairs::WORDS];
+    let mut row = 1;
+    while row <= m {
+        if repeated(
+            &mut above,
+            rows,
+            row,
+            row_byte(left, row),
+            row_byte(right, row),
+        ) {
+            return row;
+        }
+        row += 1;
+    }
+    0
+}
+
+// Causes 4 and 15, of a table with at most 1,024 rows, whatever its weights and claim.
+fn rows_check(n: u32, m: usize, rows: Slice, left: &[u8], right: &[u8]) -> Outcome
+    requires { ⌜ m ≤ maxRows ⌝ }
     ensures { λ r.
-        let c = callOf n (now (left .entry)) (now (right .entry)) (now (weight .entry)) (now (mark .entry)) in
+        let table : Bool → List ℕ → List ℕ → Call = λ whole. tableOf n m whole (component rows) (now (left .entry)) (now (right .entry)) in
+        ⌜ ((whole : Bool) (weight mark : List ℕ) → refusalOf r ≡ refusal (rowCauses (table whole weight mark))) ⌝ }
+{
+    let ends = refused_at(4, first_bad_row(n, m, rows, left, right) as u32);
+    first(
+        ends,
+        refused_at(15, first_repeat(m, rows, left, right) as u32),
+    )
+}
+
+// Causes 1 to 4 and 15, of a table of m rows of which those of a slice are in use.
+pub fn table_check(
+    n: u32,
+    m: usize,
+    whole: bool,
+    rows: Slice,
+    left: &[u8],
+    right: &[u8],
+    weight: &[u8],
+    mark: &[u8],
+) -> Outcome
+    ensures { λ r.
+        let c = tableOf n m whole (component rows) (now (left .entry)) (now (right .entry)) (now (weight .entry)) (now (mark .entry)) in
+        ⌜ refusalOf r ≡ refusal (tableCauses c) ⌝ }
+{
+    let size = size_check(n, m);
+    let Outcome::Done = size else {
+        return size;
+    };
+    let lengths = lengths_check(whole, m, left.len(), right.len(), weight.len(), mark.len());
+    first(lengths, rows_check(n, m, rows, left, right))
+}
+
+// Whether the row at a position is one of the rows, and its claim byte is other than 0 and 1.
+fn wrong_mark(rows: Slice, mark: &[u8], at: usize) -> bool
+    ensures { λ r. ⌜ r ≡ wrongByte (component rows) (now (mark .entry)) at ⌝ }
+{
+    if !slice::get(rows, at) {
+        return false;
+    }
+    1 < row_byte(mark, at)
+}
+
+// The uppermost of the rows of 1 to m whose claim byte is other than 0 and 1, 0 where there is none.
+fn first_bad_mark(m: usize, rows: Slice, mark: &[u8]) -> usize
+    requires { ⌜ m ≤ maxRows ⌝ }
+    ensures { λ r. ⌜ r ≡ uppermost m (wrongByte (component rows) (now (mark .entry))) ⌝ }
+{
+    let mut at = 1;
+    while at <= m {
+        if wrong_mark(rows, mark, at) {
+            return at;
+        }
+        at += 1;
+    }
+    0
+}
+
+// Causes 1 to 4, 15 and 6.
+pub fn claim_check(
+    n: u32,
+    m: usize,
+    whole: bool,
+    rows: Slice,
+    left: &[u8],
+    right: &[u8],
+    weight: &[u8],
+    mark: &[u8],
+) -> Outcome
+    ensures { λ r.
+        let c = tableOf n m whole (component rows) (now (left .entry)) (now (right .entry)) (now (weight .entry)) (now (mark .entry)) in
         ⌜ refusalOf r ≡ refusal (tableCauses c ++ (badClaim c ∷ [])) ⌝ }
 {
-    let table = table_check(n, left, right, weight, mark);
+    let table = table_check(n, m, whole, rows, left, right, weight, mark);
     let Outcome::Done = table else {
         return table;
     };
-    refused_at(6, first_bad_mark(left.len(), mark) as u32)
+    refused_at(6, first_bad_mark(m, rows, mark) as u32)
 }
 
-// The number of marked rows among the first m of a claim.
-fn count_marks(m: usize, mark: &[u8]) -> usize
-    ensures { λ r. ⌜ r ≡ count m (marked (now (mark .entry))) ⌝ }
+// Whether a row is one of the rows, and the claim marks it.
+fn marked_row(rows: Slice, mark: &[u8], row: usize) -> bool
+    ensures { λ r. ⌜ r ≡ both (component rows) (marked (now (mark .entry))) row ⌝ }
+{
+    if !slice::get(rows, row) {
+        return false;
+    }
+    row_byte(mark, row) == 1
+}
+
+// The number of rows among the first m of a slice that the claim marks.
+fn count_marks(m: usize, rows: Slice, mark: &[u8]) -> usize
+    ensures { λ r. ⌜ r ≡ count m (both (component rows) (marked (now (mark .entry)))) ⌝ }
 {
     let mut marks = 0;
     let mut i = 0;
     while i < m {
-        if row_byte(mark, i + 1) == 1 {
+        if marked_row(rows, mark, i + 1) {
             marks += 1;
         }
         i += 1;
@@ -203,10 +321,10 @@ fn count_marks(m: usize, mark: &[u8]) -> usize
     marks
 }
 
-// Cause 9, of n and the first m bytes of a claim.
-pub fn count_check(n: u32, m: usize, mark: &[u8]) -> Outcome
-    ensures { λ r. ⌜ refusalOf r ≡ wrongCount n m (now (mark .entry)) ⌝ }
+// Cause 9, of n and the rows among the first m of a slice that the claim marks, whatever the other columns are.
+pub fn count_check(n: u32, m: usize, rows: Slice, mark: &[u8]) -> Outcome
+    ensures { λ r. ⌜ ((whole : Bool) (left right weight : List ℕ) → refusalOf r ≡ badCount (tableOf n m whole (component rows) left right weight (now (mark .entry)))) ⌝ }
 {
-    let marks = count_marks(m, mark);
+    let marks = count_marks(m, rows, mark);
     refused_if(n == 0 || marks != n as usize - 1, 9)
 }

@@ -1,22 +1,21 @@
 -- Demand 3 holds: over every accepted table, what CST answers on a claim and what MST1 builds are what they should be.
 -- Assumes nothing.
-use Prim.Native.Nat.{ℕ, zero, suc, _+_, _*_, _≤_, _<_}
+use Prim.Native.Nat.{ℕ, zero, suc, _≤_}
 use mathlib.Core.Bool.{Bool, true, false, not, _&&_, _||_, and-assoc, or-true, or-false, and-eq-true-iff}
 use mathlib.Core.List.{List, [], _∷_}
-use mathlib.Core.Logic.{_↔_, _⊎_, inl, inr, ⊎-elim}
+use mathlib.Core.Logic.{_⊎_, ⊎-elim}
 use mathlib.Core.Option.{Option, none, some}
 use mathlib.Core.Path.{_≡_, refl, sym, ap, _∙_, fun-ext, subst, subst₃}
 use borrow.Author.Tests.{ltb-true, ltb-false, le-ltb, eqb-true, eqb-false, eq-eqb, not-true, not-false}
-use lib.Dec.{eqb, ltb}
+use lib.Dec.{eqb}
 use lib.IntN.{ℤ, pos, natAbs, _-ℤ_}
 use lib.ListN.{length, length-set}
 use lib.Signed.{_≤ℤ_}
-use native.Mathlib.Decide.{decLe}
 use native.Mathlib.Omega.{arith}
 use Rattle.graph.proofs.Joined.{unjoined-place, unjoined-none}
 use Rattle.graph.proofs.Reach.{walk-joined}
 use Rattle.graph.specs.Builder.{Fragment, tree}
-use Rattle.graph.specs.Graph.{Graph, Sound, Inside, Walk, joined}
+use Rattle.graph.specs.Graph.{Sound, Inside, joined}
 use Rattle.graph.specs.Least.{Least}
 use Rattle.graph.specs.Tree.{SpanningTree, exchange}
 use Rattle.refusal.specs.declared.Refusal.{Refusal}
@@ -37,9 +36,9 @@ use Rattle.star.proofs.Claims.{marked-claimOf, claimOf-length, claimOf-bytes, m
 use Rattle.star.specs.Accepted.{Row}
 use Rattle.star.specs.Call.{Call, rowsOf, used, graphOf, weightOf, marked, claimed, claimWeight, withClaim, claimOf, exchanged}
 use Rattle.star.specs.Cst.{Answer, refused, passed, lighter, rowIn, rowOut, only, judged, verdict, cst}
-use Rattle.demand3.specs.Demand3.{ClaimTree, LeastClaim, WorthExchange, ZeroOrOne, RightCount, Fault, bad-byte, bad-count, cut-off, Holds, Demand3}
+use Rattle.demand3.specs.Demand3.{ClaimTree, LeastClaim, WorthExchange, ZeroOrOne, Fault, bad-byte, bad-count, cut-off, Demand3}
 use Rattle.star.specs.Mst1.{BuildAnswer, unbuilt, treeBuilt, chosenRows, treeRows, built, mst1, builtMarks, mst1Marks}
-use Rattle.star.specs.Refusals.{cause, causeAt, badVertices, tooManyRows, badLengths, badRow, badEnds, repeats, repeatedRow, wrongByte, badClaim, badCount, unjoined, noTree, isNone, tableCauses, cstCauses, mst1Causes, refusal, orElse, Accepted}
+use Rattle.star.specs.Refusals.{cause, badVertices, tooManyRows, badLengths, badRow, badEnds, repeats, repeatedRow, wrongByte, badClaim, badCount, unjoined, noTree, isNone, tableCauses, cstCauses, mst1Causes, refusal, orElse, Accepted}
 
 -- the exchange within a set that has the row that comes in
 both-exchange : (p q : ℕ → Bool) (e f : ℕ) → p f ≡ true → both p (exchange q e f) ≡ exchange (both p q) e f

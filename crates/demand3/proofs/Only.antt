@@ -1,32 +1,30 @@
 -- The checker tells the only cheapest tree: yes exactly where no other claim is a spanning tree of the same weight, and no with an exchange that gives one.
 -- Assumes nothing.
-use Prim.Native.Nat.{ℕ, zero, suc, _≤_, _<_}
+use Prim.Native.Nat.{ℕ, zero, suc, _≤_}
 use borrow.Author.Tests.{eqb-true, eqb-false, eq-eqb}
 use lib.Dec.{eqb}
-use lib.IntN.{ℤ}
 use mathlib.Core.Bool.{Bool, true, false, and-eq-true-iff}
 use mathlib.Core.List.{List}
 use mathlib.Core.Path.{_≡_, refl, sym, _∙_, ap}
 use native.Mathlib.Omega.{arith}
 use Rattle.demand3.proofs.Checker.{between-path}
 use Rattle.demand3.proofs.Demand3.{ok, claim-least, exchanged-rows, exchanged-tree, out-row, unmarked-byte, passed-least}
-use Rattle.demand3.specs.Demand3.{ClaimTree, LeastClaim}
-use Rattle.demand3.specs.Only.{NoOther, EqualExchange, OnlyMeans, OnlyHolds}
+use Rattle.demand3.specs.Demand3.{LeastClaim}
+use Rattle.demand3.specs.Only.{NoOther, EqualExchange, OnlyHolds}
 use Rattle.graph.proofs.Only.{unequalled-only, equal-exchange}
 use Rattle.graph.proofs.Path.{path-inside}
 use Rattle.graph.specs.Least.{Least}
 use Rattle.graph.specs.Only.{Unequalled}
-use Rattle.graph.specs.Tree.{SpanningTree, onPath, exchange}
+use Rattle.graph.specs.Tree.{onPath, exchange}
 use Rattle.rowset.proofs.Laws.{clash, put-same, any-some, any-found, uppermost-none, uppermost-some}
 use Rattle.rowset.proofs.Searches.{sameAs-in, in-sameAs}
 use Rattle.rowset.proofs.Members.{both-in, without-in, in-without}
 use Rattle.rowset.specs.Bytes.{inRow}
-use Rattle.rowset.specs.Integers.{total}
-use Rattle.rowset.specs.Sets.{both, without, uppermost, takeOut}
+use Rattle.rowset.specs.Sets.{both, without, takeOut}
 use Rattle.star.proofs.Accepted.{used-row, row-used}
 use Rattle.star.specs.Accepted.{Row}
 use Rattle.star.specs.Call.{Call, rowsOf, used, graphOf, weightOf, marked, claimed, claimWeight, withClaim, exchanged}
-use Rattle.star.specs.Cst.{passed, between, equals, replaces, equalIn, equalOut, only, cst, rowsBeside, equalRows}
+use Rattle.star.specs.Cst.{between, equals, replaces, equalIn, equalOut, only, rowsBeside, equalRows}
 use Rattle.star.specs.Refusals.{Accepted}
 
 -- bytes of zeros and ones that mark alike are the same

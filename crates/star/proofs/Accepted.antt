@@ -3,7 +3,7 @@
 use Prim.Native.Nat.{ℕ, zero, suc, _+_, _*_, _-_, _≤_, _<_}
 use mathlib.Core.Bool.{Bool, true, false, not, _&&_, _||_, and-eq-true-iff, or-true}
 use mathlib.Core.List.{List, [], _∷_, _++_}
-use mathlib.Core.Logic.{_↔_, _≢_, _⊎_, inl, inr, ⊎-elim}
+use mathlib.Core.Logic.{_⊎_, inl, inr}
 use mathlib.Core.Option.{Option, none, some}
 use mathlib.Core.Path.{_≡_, refl, sym, ap, _∙_}
 use borrow.Author.Tests.{ltb-true, ltb-false, le-ltb, eqb-false, eqb-true, eq-eqb, ne-eqb, not-false}
@@ -11,15 +11,15 @@ use lib.Dec.{eqb, ltb}
 use lib.ListN.{length}
 use native.Mathlib.Omega.{arith}
 use Rattle.graph.proofs.Path.{and-never}
-use Rattle.graph.specs.Graph.{Graph, Sound}
+use Rattle.graph.specs.Graph.{Sound}
 use Rattle.refusal.specs.declared.Refusal.{Refusal}
 use Rattle.rowset.specs.Bytes.{inRow}
-use Rattle.rowset.specs.Sets.{upTo, any, uppermost}
+use Rattle.rowset.specs.Sets.{upTo, any}
 use Rattle.rowset.specs.Words.{inWords}
 use Rattle.rowset.proofs.Laws.{refuted, clash, both-inside, any-none, none-any, uppermost-none, uppermost-zero, in-upTo, upTo-in}
 use Rattle.rowset.proofs.Members.{both-in, in-both}
 use Rattle.star.specs.Accepted.{Row, SamePair, GoodRows, AcceptedTable, AcceptedMeans, PlainMeans, WorkingMeans}
-use Rattle.star.specs.Call.{Call, callOf, rowsOf, used, graphOf}
+use Rattle.star.specs.Call.{Call, callOf, workOf, rowsOf, used, graphOf}
 use Rattle.star.specs.Refusals.{maxVertices, maxRows, cause, causeAt, badVertices, tooManyRows, badLengths, wrongEnds, wrongRow, badEnds, badRow, samePair, repeatsAbove, repeats, repeatedRow, tableCauses, orElse, refusal, Accepted}
 
 -- a disjunction that fails
@@ -99,7 +99,7 @@ causeAt-none k zero e = refl
 causeAt-none k (suc i) e = cc
 
 -- the same pair of ends, in words and back
-pair-same : (a b x y : ℕ) → samePair a b x y ≡ true → ((a ≡ x) × (b ≡ y)) ⊎ ((a ≡ y) × (b ≡ x))
+pub pair-same : (a b x y : ℕ) → samePair a b x y ≡ true → ((a ≡ x) × (b ≡ y)) ⊎ ((a ≡ y) × (b ≡ x))
 pair-same a b x y e = go (eqb a x && eqb b y) refl e
   where
     equal : (p q r s : ℕ) → (eqb p q && eqb r s) ≡ true → (p ≡ q) × (r ≡ s)
@@ -111,7 +111,7 @@ pair-same a b x y e = go (eqb a x && eqb b y) refl e
     go true h k = inl (equal a x b y h)
     go false h k = inr (equal a y b x k)
 
-same-pair : (a b x y : ℕ) → ((a ≡ x) × (b ≡ y)) ⊎ ((a ≡ y) × (b ≡ x)) → samePair a b x y ≡ true
+pub same-pair : (a b x y : ℕ) → ((a ≡ x) × (b ≡ y)) ⊎ ((a ≡ y) × (b ≡ x)) → samePair a b x y ≡ true
 same-pair a b x y (inl (h, k)) = rw (h, k, eq-eqb x x refl, eq-eqb y y refl)
 same-pair a b x y (inr (h, k)) = rw (h, k, eq-eqb x x refl, eq-eqb y y refl) (or-true (eqb y x && eqb x y))
 
@@ -120,7 +120,7 @@ pub record Taken (c : Call) : Type 0 where
   pub some-vertex : 1 ≤ c .n
   pub few-vertices : c .n ≤ maxVertices
   pub few-rows : rowsOf c ≤ maxRows
-  pub slots : c .slots ≡ rowsOf c
+  pub whole : c .whole ≡ true
   pub left-length : length (c .left) ≡ rowsOf c
   pub right-length : length (c .right) ≡ rowsOf c
   pub mark-length : length (c .mark) ≡ rowsOf c
@@ -135,11 +135,11 @@ taken c e =
       some-vertex = omega (arith, eqb-false (c .n) 0 (or-left (eqb (c .n) 0) (ltb maxVertices (c .n)) vertices));
       few-vertices = ltb-false maxVertices (c .n) (or-right (eqb (c .n) 0) (ltb maxVertices (c .n)) vertices);
       few-rows = ltb-false maxRows (rowsOf c) rows;
-      slots = same (or-left slots left lengths₂);
-      left-length = same (or-right slots left lengths₂);
-      right-length = same (or-right (slots || left) right lengths₃);
-      mark-length = same (or-right (slots || left || right) mark lengths₄);
-      weight-length = same (or-right (slots || left || right || mark) weight lengths);
+      whole = not-false _ (or-left whole left lengths₂);
+      left-length = same (or-right whole left lengths₂);
+      right-length = same (or-right (whole || left) right lengths₃);
+      mark-length = same (or-right (whole || left || right) mark lengths₄);
+      weight-length = same (or-right (whole || left || right || mark) weight lengths);
       good-ends = uppermost-none (rowsOf c) (badEnds c) (causeAt-none 4 _ (none-head _ _ e₄));
       no-repeat = uppermost-none (rowsOf c) (repeats c) (causeAt-none 15 _ (none-head _ _ (none-tail _ _ e₄)));
     }
@@ -159,8 +159,8 @@ taken c e =
     e₄ : refusal (badRow c ∷ repeatedRow c ∷ []) ≡ none
     e₄ = none-tail _ _ e₃
 
-    slots : Bool
-    slots = not (eqb (c .slots) (rowsOf c))
+    whole : Bool
+    whole = not (c .whole)
 
     left : Bool
     left = not (eqb (length (c .left)) (rowsOf c))
@@ -174,17 +174,17 @@ taken c e =
     weight : Bool
     weight = not (eqb (length (c .weight)) (4 * rowsOf c))
 
-    lengths : (slots || left || right || mark || weight) ≡ false
+    lengths : (whole || left || right || mark || weight) ≡ false
     lengths = cause-none _ 3 0 (none-head _ _ e₃)
 
-    lengths₄ : (slots || left || right || mark) ≡ false
-    lengths₄ = or-left (slots || left || right || mark) weight lengths
+    lengths₄ : (whole || left || right || mark) ≡ false
+    lengths₄ = or-left (whole || left || right || mark) weight lengths
 
-    lengths₃ : (slots || left || right) ≡ false
-    lengths₃ = or-left (slots || left || right) mark lengths₄
+    lengths₃ : (whole || left || right) ≡ false
+    lengths₃ = or-left (whole || left || right) mark lengths₄
 
-    lengths₂ : (slots || left) ≡ false
-    lengths₂ = or-left (slots || left) right lengths₃
+    lengths₂ : (whole || left) ≡ false
+    lengths₂ = or-left (whole || left) right lengths₃
 
     same : {x y : ℕ} → not (eqb x y) ≡ false → x ≡ y
     same {x} {y} h = eqb-true x y (not-false _ h)
@@ -205,6 +205,16 @@ row-used c i (l, h, x) = in-both (upTo (rowsOf c)) (c .inUse) i (in-upTo (rowsOf
 pub used-plain : (n : ℕ) (left right weight mark : List ℕ) → used (callOf n left right weight mark) ≡ upTo (length left)
 unfolding used
 used-plain n left right weight mark = both-inside (length left) (upTo (length left)) (upTo-in (length left))
+
+-- a component that words hold is one of 1,024
+words-row : (words : List ℕ) (i : ℕ) → inWords words i ≡ true → (1 ≤ i) × (i ≤ 1024)
+unfolding inWords
+words-row words i e = upTo-in 1024 i (and-eq-true-iff (upTo 1024 i) _ .0 e .0)
+
+-- the rows in use of a working table are those that its words hold
+pub used-work : (n : ℕ) (words left right weight mark : List ℕ) → used (workOf n words left right weight mark) ≡ inWords words
+unfolding used
+used-work n words left right weight mark = both-inside 1024 (inWords words) (words-row words)
 
 -- the graph of an accepted table is sound
 pub sound : (c : Call) → Taken c → Sound (graphOf c)
@@ -287,7 +297,7 @@ in-words c t =
     record {
       vertices = (t .some-vertex, t .few-vertices);
       rows = t .few-rows;
-      slots = t .slots;
+      whole = t .whole;
       left-length = t .left-length;
       right-length = t .right-length;
       weight-length = t .weight-length;
@@ -310,7 +320,7 @@ unfolding tableCauses badVertices tooManyRows badLengths badRow badEnds wrongRow
 from-words c a =
     none-both _ _ (none-cause _ 1 0 (or-none (positive (c .n) (a .vertices .0)) (le-ltb _ _ (a .vertices .1))))
     (none-both _ _ (none-cause _ 2 0 (le-ltb _ _ (a .rows)))
-    (none-both _ _ (none-cause _ 3 0 (or-none (or-none (or-none (or-none (same (a .slots)) (same (a .left-length))) (same (a .right-length))) (same (a .mark-length))) (same (a .weight-length))))
+    (none-both _ _ (none-cause _ 3 0 (or-none (or-none (or-none (or-none (ap not (a .whole)) (same (a .left-length))) (same (a .right-length))) (same (a .mark-length))) (same (a .weight-length))))
     (none-both _ _ (none-causeAt 4 (uppermost-zero (rowsOf c) (badEnds c) good))
     (none-both _ _ (none-causeAt 15 (uppermost-zero (rowsOf c) (repeats c) single)) none-nil))))
   where
@@ -367,7 +377,7 @@ plain-means n left right weight mark = (
   λ p. record {
     vertices = p .vertices;
     rows = p .rows;
-    slots = refl;
+    whole = refl;
     left-length = refl;
     right-length = p .right-length;
     weight-length = p .weight-length;
@@ -376,16 +386,11 @@ plain-means n left right weight mark = (
   },
 )
 
--- a component that words hold is one of 1,024
-words-row : (words : List ℕ) (i : ℕ) → inWords words i ≡ true → (1 ≤ i) × (i ≤ 1024)
-unfolding inWords
-words-row words i e = upTo-in 1024 i (and-eq-true-iff (upTo 1024 i) _ .0 e .0)
-
 pub working-means : WorkingMeans
 working-means n words left right weight mark = (
   λ a. record {
     vertices = a .vertices;
-    words-length = omega (arith, a .slots);
+    words-length = eqb-true _ _ (a .whole);
     left-length = a .left-length;
     right-length = a .right-length;
     weight-length = a .weight-length;
@@ -395,7 +400,7 @@ working-means n words left right weight mark = (
   λ w. record {
     vertices = w .vertices;
     rows = omega arith;
-    slots = omega (arith, w .words-length);
+    whole = eq-eqb _ _ (w .words-length);
     left-length = w .left-length;
     right-length = w .right-length;
     weight-length = w .weight-length;

@@ -1,22 +1,20 @@
 -- Claims as bytes and as sets of rows: the claim of a set marks that set, and the exchange of bytes is the exchange of rows.
 -- Assumes nothing.
-use Prim.Native.Nat.{ℕ, zero, suc, pred, _+_, _*_, _-_, _≤_, _<_}
+use Prim.Native.Nat.{ℕ, zero, suc, _+_, _-_, _≤_, _<_}
 use mathlib.Core.Bool.{Bool, true, false, cond, not, _&&_, _||_, false≢true, and-true, and-false, or-true, or-false}
-use mathlib.Core.List.{List, [], _∷_}
+use mathlib.Core.List.{List}
 use mathlib.Core.Logic.{_≢_}
 use mathlib.Core.Path.{_≡_, refl, sym, ap, _∙_, fun-ext, subst}
-use borrow.Author.Tests.{eqb-true, eqb-false, eq-eqb, ne-eqb}
+use borrow.Author.Tests.{eq-eqb, ne-eqb}
 use lib.Dec.{eqb, eqb·zero-suc, eqb·suc-suc}
 use lib.ListN.{length, getD, set, length-set, List·getD-eq-default}
 use lib.Seq.{getD-set-same, getD-set-other}
 use native.Mathlib.Decide.{ℕ-discrete, decLe}
 use native.Mathlib.Nat.{one-mul, add-zero, zero-add}
-use native.Mathlib.Numerals.{sub-one}
 use native.Mathlib.Omega.{arith}
 use Rattle.graph.specs.Tree.{exchange}
 use Rattle.rowset.specs.Bytes.{little, inRow}
 use Rattle.rowset.specs.Sets.{put, takeOut}
-use Rattle.rowset.proofs.Laws.{put-same, put-other, takeOut-same, takeOut-other}
 use Rattle.star.specs.Call.{marked, claimFrom, claimOf, exchanged}
 
 -- a column of one byte a row

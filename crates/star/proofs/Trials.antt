@@ -1,7 +1,7 @@
 -- The starred trials hold: the definitions compute to what each trial says.
 -- Assumes nothing.
 use mathlib.Core.Bool.{xor}
-use mathlib.Core.Path.{_≡_, refl}
+use mathlib.Core.Path.{refl}
 use Rattle.graph.specs.Builder.{cheapest, choose, first, next, fragment, treeOf, tree}
 use Rattle.graph.specs.Graph.{crosses, withEnds, step, grow, joined}
 use Rattle.graph.specs.Tree.{onPath}

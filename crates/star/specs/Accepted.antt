@@ -32,11 +32,11 @@ pub record GoodRows (n : ℕ) (left right : List ℕ) (IsRow : ℕ → Type 0) :
   pub apart : (i : ℕ) → IsRow i → inRow 1 left i ≢ inRow 1 right i
   pub unrepeated : (i k : ℕ) → IsRow i → IsRow k → SamePair left right i k → i ≡ k
 
--- an accepted table of either kind: n is 1 to 255 and m at most 1,024; the rows in use and the columns are given for m rows, one byte a row and four a weight
+-- an accepted table of either kind: n is 1 to 255 and m at most 1,024; the rows in use and the columns are handed in for m rows, one byte a row and four a weight
 pub record AcceptedTable (c : Call) : Type 0 where
   pub vertices : (1 ≤ c .n) × (c .n ≤ 255)
   pub rows : c .m ≤ 1024
-  pub slots : c .slots ≡ c .m
+  pub whole : c .whole ≡ true
   pub left-length : length (c .left) ≡ c .m
   pub right-length : length (c .right) ≡ c .m
   pub weight-length : length (c .weight) ≡ 4 * c .m

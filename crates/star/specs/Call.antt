@@ -1,8 +1,8 @@
 -- What a call hands in: n, the number of rows, which of them are in use, and four byte columns; and the graph, weights and claim that they describe.
 -- A plain table has a row for each byte of its left column, and every row is in use. A working table has 1,024 rows, and a lent slice says which are in use.
 -- Assumes nothing.
-use Prim.Native.Nat.{ℕ, zero, suc, _*_, _-_}
-use mathlib.Core.Bool.{Bool, cond}
+use Prim.Native.Nat.{ℕ, zero, suc, _-_}
+use mathlib.Core.Bool.{Bool, true, cond}
 use mathlib.Core.List.{List, [], _∷_}
 use lib.Dec.{eqb}
 use lib.IntN.{ℤ}
@@ -11,47 +11,32 @@ use Rattle.graph.specs.Graph.{Graph}
 use Rattle.rowset.specs.Bytes.{inRow}
 use Rattle.rowset.specs.Integers.{signed, total}
 use Rattle.rowset.specs.Sets.{upTo, both}
-use Rattle.rowset.specs.Words.{inWords}
+use Rattle.rowset.specs.Words.{columnWords, inWords}
 
--- n; m, the number of rows; the rows in use, and for how many rows they were handed in;
+-- n; m, the number of rows; whether the rows in use were handed in for all of them, and which rows are in use;
 -- the left and right columns with one byte a row, the weight column with four, and the mark column, or claim, with one
 pub record Call : Type 0 where
   pub n : ℕ
   pub m : ℕ
-  pub slots : ℕ
+  pub whole : Bool
   pub inUse : ℕ → Bool
   pub left : List ℕ
   pub right : List ℕ
   pub weight : List ℕ
   pub mark : List ℕ
 
+-- the call on a table of m rows of either kind
+abbrev pub tableOf : (n m : ℕ) → (whole : Bool) → (inUse : ℕ → Bool) → (left right weight mark : List ℕ) → Call
+tableOf n m whole inUse left right weight mark =
+    record { n = n; m = m; whole = whole; inUse = inUse; left = left; right = right; weight = weight; mark = mark }
+
 -- the call on a plain table with this n and these columns: a row for each byte of the left column, all in use
 abbrev pub callOf : (n : ℕ) → (left right weight mark : List ℕ) → Call
-callOf n left right weight mark =
-    record {
-      n = n;
-      m = length left;
-      slots = length left;
-      inUse = upTo (length left);
-      left = left;
-      right = right;
-      weight = weight;
-      mark = mark;
-    }
+callOf n left = tableOf n (length left) true (upTo (length left)) left
 
--- the call on a working table: 1,024 rows, and the rows in use lent as words of 64 bits
+-- the call on a working table: 1,024 rows, and the rows in use lent as sixteen words of 64 bits
 abbrev pub workOf : (n : ℕ) → (words left right weight mark : List ℕ) → Call
-workOf n words left right weight mark =
-    record {
-      n = n;
-      m = 1024;
-      slots = 64 * length words;
-      inUse = inWords words;
-      left = left;
-      right = right;
-      weight = weight;
-      mark = mark;
-    }
+workOf n words = tableOf n 1024 (eqb (length words) columnWords) (inWords words)
 
 -- m, the number of rows
 abbrev pub rowsOf : Call → ℕ
@@ -90,17 +75,7 @@ claimWeight c = total (rowsOf c) (weightOf c) (claimed c)
 
 -- the same table with another claim
 abbrev pub withClaim : Call → List ℕ → Call
-withClaim c l =
-    record {
-      n = c .n;
-      m = c .m;
-      slots = c .slots;
-      inUse = c .inUse;
-      left = c .left;
-      right = c .right;
-      weight = c .weight;
-      mark = l;
-    }
+withClaim c = tableOf (c .n) (c .m) (c .whole) (c .inUse) (c .left) (c .right) (c .weight)
 
 -- the claim with k bytes after row i: 1 for a row of S, 0 for any other
 unfoldable pub claimFrom : (ℕ → Bool) → ℕ → ℕ → List ℕ

@@ -41,13 +41,13 @@ badVertices n = cause (eqb n 0 || ltb maxVertices n) 1 0
 unfoldable pub tooManyRows : ℕ → Option Refusal
 tooManyRows m = cause (ltb maxRows m) 2 0
 
--- 3: the rows in use are not given for m rows, the left, right or mark column is not m bytes, or the weight column not 4 · m
-abbrev pub wrongLengths : (m slots left right weight mark : ℕ) → Option Refusal
-wrongLengths m slots left right weight mark =
-    cause (not (eqb slots m) || not (eqb left m) || not (eqb right m) || not (eqb mark m) || not (eqb weight (4 * m))) 3 0
+-- 3: the rows in use are not handed in for m rows, the left, right or mark column is not m bytes, or the weight column not 4 · m
+abbrev pub wrongLengths : (whole : Bool) → (m left right weight mark : ℕ) → Option Refusal
+wrongLengths whole m left right weight mark =
+    cause (not whole || not (eqb left m) || not (eqb right m) || not (eqb mark m) || not (eqb weight (4 * m))) 3 0
 
 unfoldable pub badLengths : Call → Option Refusal
-badLengths c = wrongLengths (rowsOf c) (c .slots) (length (c .left)) (length (c .right)) (length (c .weight)) (length (c .mark))
+badLengths c = wrongLengths (c .whole) (rowsOf c) (length (c .left)) (length (c .right)) (length (c .weight)) (length (c .mark))
 
 -- an end is 0 or above n, or both ends are equal
 abbrev pub wrongEnds : (n a b : ℕ) → Bool

@@ -8,28 +8,18 @@ use mathlib.Core.Path.{_≡_}
 use lib.IntN.{pos}
 use lib.ListN.{replicate}
 use Rattle.rowset.specs.Trials.{these}
-use Rattle.star.specs.Call.{Call, callOf, workOf}
+use Rattle.star.specs.Call.{Call, tableOf, callOf, workOf}
 use Rattle.star.specs.Cst.{refused, passed, lighter, EqualRows, equalRows}
 use Rattle.star.specs.Door.{cstDoor, mst1Door, otherDoor, mst1DoorMarks}
 use Rattle.star.specs.Mst1.{unbuilt, treeBuilt}
 use Rattle.star.specs.Trials.{Result, checked, built, filled, checks, builds, fills, small, because, column, yard, twice}
 
--- the call with the rows of a set in use, handed in for a number of rows
-abbrev handedIn : ℕ → (ℕ → Bool) → Call → Call
-handedIn slots p c =
-    record {
-      n = c .n;
-      m = c .m;
-      slots = slots;
-      inUse = p;
-      left = c .left;
-      right = c .right;
-      weight = c .weight;
-      mark = c .mark;
-    }
+-- the call with the rows of a set in use, handed in for all rows or not
+abbrev handedIn : Bool → (ℕ → Bool) → Call → Call
+handedIn whole p c = tableOf (c .n) (c .m) whole p (c .left) (c .right) (c .weight) (c .mark)
 
 abbrev pub onlyRows : List ℕ → Call → Call
-onlyRows l c = handedIn (c .m) (these l) c
+onlyRows l c = handedIn true (these l) c
 
 -- the yard with a left end of 0 in row 2 and both ends of row 4 equal
 abbrev pub damaged : List ℕ → Call
@@ -57,8 +47,8 @@ given =
     ∷ checks (onlyRows (1 ∷ 3 ∷ 5 ∷ []) (yard (1 ∷ 1 ∷ 1 ∷ 0 ∷ 0 ∷ [])))  -- 9: the mark at row 2 is not counted
     ∷ checks (onlyRows (1 ∷ 2 ∷ 3 ∷ 5 ∷ []) (yard (1 ∷ 1 ∷ 0 ∷ 1 ∷ 1 ∷ [])))  -- 10: the mark at row 4 joins nothing
     ∷ checks (onlyRows (0 ∷ 1 ∷ 3 ∷ 5 ∷ 6 ∷ []) (yard (1 ∷ 0 ∷ 1 ∷ 0 ∷ 1 ∷ [])))  -- positions outside 1 to m are no rows
-    ∷ checks (handedIn 4 (these (1 ∷ 3 ∷ 5 ∷ [])) (yard (1 ∷ 0 ∷ 1 ∷ 0 ∷ 1 ∷ [])))  -- 3: the rows in use are handed in for one row less, or more
-    ∷ builds (handedIn 6 (these (1 ∷ 3 ∷ 5 ∷ [])) (yard (9 ∷ 9 ∷ 9 ∷ 9 ∷ 9 ∷ [])))
+    ∷ checks (handedIn false (these (1 ∷ 3 ∷ 5 ∷ [])) (yard (1 ∷ 0 ∷ 1 ∷ 0 ∷ 1 ∷ [])))  -- 3: the rows in use are not handed in for all rows
+    ∷ builds (handedIn false (these (1 ∷ 3 ∷ 5 ∷ [])) (yard (9 ∷ 9 ∷ 9 ∷ 9 ∷ 9 ∷ [])))
     ∷ []
 
 -- what they should give

@@ -222,7 +222,7 @@ read-accepted t l r w f k claim h =
 
     lengths :
         cause
-        (not (eqb (length (t .left)) (length (t .left))) || not (eqb (length (t .left)) (length (t .left)))
+        (not true || not (eqb (length (t .left)) (length (t .left)))
         || not (eqb (length (t .right)) (length (t .left)))
         || not (eqb (length claim) (length (t .left)))
         || not (eqb (length (t .weight)) (4 * length (t .left))))

@@ -6,6 +6,9 @@ use lib.Dec.{eqb, eqb·suc-suc}
 use mathlib.Core.Logic.{_≢_, ⊎-elim}
 use mathlib.Core.Path.{_≡_, refl, sym}
 use native.Mathlib.Omega.{arith}
+use Rattle.star.specs.Call.{used, claimed}
+use Rattle.star.specs.Refusals.{badCount}
+use Rattle.checks.proofs.Laws.{marks-within}
 use Rattle.checks.proofs.count_check.Statement.{statement}
 use Rattle.checks.proofs.count_check.Tie as tie
 
@@ -17,9 +20,10 @@ one-less k (suc j) h =
     rw e (sym (eqb·suc-suc k j))
 
 returns : tie.Need-returns
-returns c =
+unfolding badCount claimed used
+returns c whole left right weight =
     let b = c .before in
-    rw (c .refused-if .ensures, ← b .before .count-marks .ensures)
+    rw (c .refused-if .ensures, ← marks-within _ _ _, ← b .before .count-marks .ensures)
     (⊎-elim (λ w. rw (w .1, eq-eqb _ _ (w .0 .taken), ne-eqb (suc (b .before .count-marks .result)) (b .before .before .before .args .n) (λ e. omega (arith, w .0 .taken, e))))
     (λ w. rw (w .1, one-less _ _ (w .0 .left)))
     (b .if1 .came))

@@ -1,34 +1,36 @@
 -- `checks::count_marks` meets its contract. The loop's invariant: `marks` is the number of marked rows of 1 to i.
 -- The measure is what is left of the rows. Assumes nothing.
 use Prim.Native.Nat.{_-_, _≤_}
-use borrow.Author.Tests.{eq-eqb, ne-eqb}
 use mathlib.Core.Logic.{⊎-elim}
-use mathlib.Core.Path.{_≡_, _∙_}
+use mathlib.Core.Path.{_≡_, sym, _∙_}
 use native.Mathlib.Omega.{arith}
-use Rattle.rowset.specs.Sets.{count}
+use Rattle.rowset.specs.Sets.{both, count}
 use Rattle.rowset.proofs.Laws.{count-bound}
+use Rattle.slice.specs.Slices.{component}
 use Rattle.star.specs.Call.{marked}
 use Rattle.checks.proofs.Laws.{count-zero, count-in, count-out}
 use Rattle.checks.proofs.count_marks.Statement.{statement}
 use Rattle.checks.proofs.count_marks.Tie as tie
 
 abbrev Inv-loop : tie.InvT-loop
-Inv-loop m mark marks₀ i₀ marks i = (i ≤ m) × (marks ≡ count i (marked mark))
+Inv-loop m rows mark marks₀ i₀ marks i = (i ≤ m) × (marks ≡ count i (both (component rows) (marked mark)))
 
 abbrev μ-loop : tie.MeasureT-loop
-μ-loop m mark marks₀ i₀ marks i = m - i
+μ-loop m rows mark marks₀ i₀ marks i = m - i
 
 loop-holds : tie.Need-loop-holds Inv-loop μ-loop
 loop-holds c = (omega arith, count-zero _)
 
-add-row-byte : tie.Need-add-row-byte Inv-loop μ-loop
-add-row-byte c = omega arith
+add-marked-row : tie.Need-add-marked-row Inv-loop μ-loop
+add-marked-row c = omega arith
 
-row-byte-requires : tie.Need-row-byte-requires Inv-loop μ-loop
-row-byte-requires c κs = tt
+marked-row-requires : tie.Need-marked-row-requires Inv-loop μ-loop
+marked-row-requires c κs = tt
 
 add-marks : tie.Need-add-marks Inv-loop μ-loop
-add-marks c = omega (arith, count-bound (c .before .before .before .loop .i) (marked (c .before .before .before .before .before .args .mark .now)))
+add-marks c =
+    let a = c .before .before .before .before .before .args in
+    omega (arith, count-bound (c .before .before .before .loop .i) (both (component (a .rows)) (marked (a .mark .now))))
 
 add-i : tie.Need-add-i Inv-loop μ-loop
 add-i c = omega arith
@@ -37,12 +39,9 @@ loop-less : tie.Need-loop-less Inv-loop μ-loop
 loop-less c = omega arith
 
 loop-again : tie.Need-loop-again Inv-loop μ-loop
-unfolding marked
 loop-again c = (
   omega arith,
-  ⊎-elim (λ w. (cc) ∙ count-in _ _ (rw (c .before .row-byte .ensures) at (eq-eqb _ _ (w .0 .taken))))
-      (λ w. (cc) ∙ count-out _ _ (rw (c .before .row-byte .ensures) at (ne-eqb _ _ (w .0 .left))))
-      (c .if1 .came),
+  ⊎-elim (λ w. (cc) ∙ count-in _ _ (sym (c .before .marked-row .ensures) ∙ w .0 .taken)) (λ w. (cc) ∙ count-out _ _ (sym (c .before .marked-row .ensures) ∙ w .0 .left)) (c .if1 .came),
 )
 
 returns : tie.Need-returns Inv-loop μ-loop
@@ -57,8 +56,8 @@ count-marks-spec =
     Inv-loop
     μ-loop
     loop-holds
-    add-row-byte
-    row-byte-requires
+    add-marked-row
+    marked-row-requires
     add-marks
     add-i
     loop-less

@@ -1,19 +1,18 @@
 -- `checks::first_bad_row` meets its contract. The loop's invariant: none of the rows above row i has wrong ends.
 -- The measure is what is left of the rows. Assumes nothing.
 use Prim.Native.Nat.{_+_, _-_, _≤_}
-use lib.ListN.{length}
 use native.Mathlib.Omega.{arith}
-use Rattle.rowset.specs.Bytes.{inRow}
-use Rattle.star.specs.Refusals.{wrongEnds}
+use Rattle.slice.specs.Slices.{component}
+use Rattle.star.specs.Refusals.{wrongRow}
 use Rattle.checks.proofs.Laws.{Passed, passed-none, passed-more, passed-found, passed-all}
 use Rattle.checks.proofs.first_bad_row.Statement.{statement}
 use Rattle.checks.proofs.first_bad_row.Tie as tie
 
 abbrev Inv-loop : tie.InvT-loop
-Inv-loop n left right i₀ i = (1 ≤ i) × (i ≤ length left + 1) × Passed (λ k. wrongEnds n (inRow 1 left k) (inRow 1 right k)) i
+Inv-loop n m rows left right i₀ i = (1 ≤ i) × (i ≤ m + 1) × Passed (wrongRow (component rows) n left right) i
 
 abbrev μ-loop : tie.MeasureT-loop
-μ-loop n left right i₀ i = length left + 1 - i
+μ-loop n m rows left right i₀ i = m + 1 - i
 
 loop-holds : tie.Need-loop-holds Inv-loop μ-loop
 loop-holds c = (omega arith, omega arith, passed-none _)

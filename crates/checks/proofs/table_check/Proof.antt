@@ -1,7 +1,6 @@
 -- `checks::table_check` meets its contract: the sizes are refused, or the lengths and the rows decide in their order. Assumes nothing.
 use Prim.Native.Nat.{_≤_}
 use borrow.Author.Needs.{needs}
-use lib.ListN.{length}
 use mathlib.Core.Path.{sym, ap, _∙_}
 use Rattle.refusal.specs.Outcomes.{refusalOf}
 use Rattle.star.specs.Refusals.{maxRows, badLengths}
@@ -13,7 +12,7 @@ returns : tie.Need-returns
 returns c = refused-first _ _ _ _ (c .enum-told2 .given .1) (c .before .before .size-check .ensures) ∙ sym (table-in-order _)
 
 -- the sizes were taken
-sizes : (c : tie.After-enum-told) → length (c .before .before .before .before .before .before .before .args .left .now) ≤ maxRows
+sizes : (c : tie.After-enum-told) → c .before .before .before .before .before .before .before .args .m ≤ maxRows
 unfolding refusalOf
 sizes c = few-rows _ _ (ap refusalOf (sym (c .enum-told .given .1)) ∙ c .before .before .size-check .ensures)
 
@@ -30,7 +29,7 @@ returns-2 c =
     let x = told .before .before .before .before .before .before .before .args in
     rw table-in-order
     (done-next _ _ _ _ (told .enum-told .given .1) (told .before .before .size-check .ensures)
-    (rw (c .first .ensures, c .before .before .lengths-check .ensures, c .before .rows-check .ensures (x .weight .now) (x .mark .now))))
+    (rw (c .first .ensures, c .before .before .lengths-check .ensures, c .before .rows-check .ensures (x .whole) (x .weight .now) (x .mark .now))))
 
 pub table-check-spec : {M : Type 1} → statement M
 table-check-spec =
