@@ -11,6 +11,7 @@ use Rattle.rowset.specs.Sets.{empty, upTo}
 use Rattle.rowset.specs.Trials.{these}
 use Rattle.star.specs.Trials.{small, because}
 use Rattle.worktable.specs.Changes.{AddAnswer, unadded, addedAt, wordsOf, struckWords, merged, added, addAnswer}
+use Rattle.worktable.specs.Door.{strikeDoor, strikeDoorWords, mergeDoor, mergeDoorTable, addDoor, addDoorTable}
 use Rattle.worktable.specs.Packing.{packed, newNumber, ownNumber, numbersFrom, lowermost, withRow}
 use Rattle.worktable.specs.Tables.{Working, working, strikeRefusal, mergeRefusal, addRefusal}
 
@@ -172,7 +173,41 @@ UnchangedHold =
 abbrev UnaddedHold : Type 0
 UnaddedHold = (addAnswer (sized four 3 2 4 1) ∷ addAnswer (sized (full 16) 3 2 4 1) ∷ []) ≡ (unadded (because 3 0) ∷ unadded (because 17 0) ∷ [])
 
+-- ── The doors ──
+
+-- sevens in the lent answer
+abbrev sevens : ℕ → List ℕ
+sevens k = replicate k 7
+
+-- done, refused, and an answer of fifteen bytes; an add at 6, at 2, and refused
+abbrev DoorsHold : Type 0
+DoorsHold =
+    (
+    strikeDoor four 64 (sevens 16) ∷ strikeDoor four 63 (sevens 16) ∷ strikeDoor four 64 (sevens 15)
+    ∷ mergeDoor (sized four 1024 1024 4096 1024) (sevens 16) ∷ mergeDoor (sized four 1024 1024 4096 1025) (sevens 16) ∷ mergeDoor (sized four 1024 1024 4096 1024) []
+    ∷ addDoor (yard (2 ∷ 5 ∷ [])) (sevens 16) ∷ addDoor (yard (1024 ∷ [])) (sevens 16) ∷ addDoor (sized (full 16) 0 0 0 0) (sevens 16) ∷ addDoor (yard []) (sevens 17)
+    ∷ strikeDoorWords four 64 (sevens 16) ∷ strikeDoorWords four 64 (sevens 15)
+    ∷ [])
+    ≡ (
+    (1 ∷ replicate 15 0) ∷ (0 ∷ 18 ∷ replicate 14 0) ∷ sevens 15
+    ∷ (1 ∷ replicate 15 0) ∷ (0 ∷ 3 ∷ replicate 14 0) ∷ []
+    ∷ (1 ∷ (replicate 7 0 ++ (6 ∷ replicate 7 0))) ∷ (1 ∷ (replicate 7 0 ++ (2 ∷ replicate 7 0))) ∷ (0 ∷ 17 ∷ replicate 14 0) ∷ sevens 17
+    ∷ wordsOf (these (2 ∷ 65 ∷ 1024 ∷ [])) ∷ four
+    ∷ [])
+
+-- a table through the door: changed where the answer has sixteen bytes, else as it was
+abbrev DoorTablesHold : Type 0
+DoorTablesHold =
+    (
+    mergeDoorTable (yard (2 ∷ 4 ∷ 5 ∷ [])) (sevens 16) ∷ mergeDoorTable (yard (2 ∷ 4 ∷ 5 ∷ [])) (sevens 15)
+    ∷ addDoorTable (yard (2 ∷ 5 ∷ [])) 2 4 7 (sevens 16) ∷ addDoorTable (yard (2 ∷ 5 ∷ [])) 2 4 7 (sevens 17)
+    ∷ [])
+    ≡ (
+    merged (yard (2 ∷ 4 ∷ 5 ∷ [])) ∷ yard (2 ∷ 4 ∷ 5 ∷ [])
+    ∷ added (yard (2 ∷ 5 ∷ [])) 2 4 7 ∷ yard (2 ∷ 5 ∷ [])
+    ∷ [])
+
 -- all trials of this crate
 abbrev pub TrialsHold : Type 0
 TrialsHold =
-    ColumnsHold × NumbersHold × MergeHolds × AddHolds × PackedAddHolds × FirstAddHolds × StrikesHold × StrikeRefusalsHold × UnstruckHold × SizesHold × UnchangedHold × UnaddedHold
+    ColumnsHold × NumbersHold × MergeHolds × AddHolds × PackedAddHolds × FirstAddHolds × StrikesHold × StrikeRefusalsHold × UnstruckHold × SizesHold × UnchangedHold × UnaddedHold × DoorsHold × DoorTablesHold
