@@ -17,9 +17,9 @@ use Rattle.star.specs.Call.{Call, workOf, graphOf, weightOf, claimWeight}
 use Rattle.star.specs.Cst.{passed, cst}
 use Rattle.star.specs.Mst1.{mst1}
 use Rattle.star.specs.Refusals.{maxRows}
-use Rattle.worktable.specs.Changes.{merged, roomMade}
+use Rattle.worktable.specs.Changes.{struckWords, merged, roomMade, newRow, added}
 use Rattle.worktable.specs.Meaning.{numberOf}
-use Rattle.worktable.specs.Tables.{Working, inUse, mergeRefusal, addRefusal}
+use Rattle.worktable.specs.Tables.{Working, working, inUse, mergeRefusal, addRefusal}
 
 -- the call with n vertices on the working table t with this claim
 abbrev pub callOn : ℕ → Working → List ℕ → Call
@@ -58,6 +58,12 @@ pub record Keeps (n : ℕ) (t s : Working) (claim : List ℕ) : Type 0 where
 abbrev pub MergingKeeps : Type 0
 MergingKeeps = (n : ℕ) (t : Working) (claim : List ℕ) → AcceptedTable (callOn n t claim) → mergeRefusal t ≡ none → Keeps n t (merged t) claim
 
--- and after the packing that makes room for a new row: of the rows in use before that row. Where nothing is packed the rows stay where they are
-abbrev pub MakingRoomKeeps : Type 0
-MakingRoomKeeps = (n : ℕ) (t : Working) (claim : List ℕ) → AcceptedTable (callOn n t claim) → addRefusal t ≡ none → Keeps n t (roomMade t) claim
+-- the table u with row i struck
+abbrev pub withoutRow : Working → ℕ → Working
+withoutRow u i = working (struckWords (u .words) i) (u .left) (u .right) (u .weight) (u .numbers)
+
+-- and after an add: of the rows that were in use before the new row, whether the table was packed first or not
+abbrev pub AddingKeeps : Type 0
+AddingKeeps =
+    (n : ℕ) (t : Working) (claim : List ℕ) → AcceptedTable (callOn n t claim) → (a b price : ℕ) → addRefusal t ≡ none
+    → Keeps n t (withoutRow (added t a b price) (newRow (roomMade t))) claim
