@@ -21,8 +21,9 @@ use Rattle.graph.specs.Renumbered.{Renumbered, SameWeights, carried, Keeps as K
 use Rattle.graph.specs.Tree.{SpanningTree}
 use Rattle.matrix.proofs.Laws.{length-wordsFrom}
 use Rattle.packing.proofs.Carrying.{carried-length, carried-moved, carried-none}
-use Rattle.packing.specs.Packing.{callOn, carriedTo, Carries, Keeps, withoutRow, MergingKeeps, AddingKeeps}
+use Rattle.packing.specs.Packing.{callOn, carriedTo, Carries, LeastOf, Keeps, withoutRow, MergingKeeps, AddingKeeps}
 use Rattle.refusal.specs.declared.Refusal.{Refusal}
+use Rattle.rowset.proofs.Integers.{integers}
 use Rattle.rowset.proofs.Laws.{in-upTo, upTo-in}
 use Rattle.rowset.proofs.Members.{same-truth}
 use Rattle.rowset.specs.Bytes.{inRow}
@@ -101,11 +102,20 @@ kept-moved t s z u =
 
 -- ── What stays where rows have moved ──
 
--- what is built is a spanning tree
-built-tree : (c : Call) → Accepted c → (weight : ℤ) → mst1 c ≡ treeBuilt weight → ClaimTree (withClaim c (mst1Marks c))
-built-tree c a weight e =
-    let (single, q) = demand3 c a .builds weight e in
-    demand3 (withClaim c (mst1Marks c)) (built-accepted c a weight e) .passes .0 (weight, single, q) .tree
+-- what is built is a least tree, with the weight that is stated; and where there is a tree, one is built
+module _ (c : Call) (a : Accepted c) where
+  built-least : (weight : ℤ) → mst1 c ≡ treeBuilt weight → LeastOf (withClaim c (mst1Marks c)) weight
+  built-least weight e =
+      let d = withClaim c (mst1Marks c) in
+      let h = demand3 d (built-accepted c a weight e) in
+      let (single, q) = demand3 c a .builds weight e in
+      (h .passes .0 (weight, single, q), sym (h .weight weight single q))
+
+  least-built : (x : ℤ) (other : List ℕ) → LeastOf (withClaim c other) x → mst1 c ≡ treeBuilt x
+  least-built x other (l, e) =
+      let (weight, q) = demand3 c a .built other (l .tree) in
+      let (b, w) = built-least weight q in
+      q ∙ ap treeBuilt (sym w ∙ omega (arith, integers, l .least _ (b .tree), b .least other (l .tree)) ∙ e)
 
 module _ (n : ℕ) (t s : Working) (claim : List ℕ) (place number : ℕ → ℕ) (v : Moved t s place number) (table : AcceptedTable (callOn n t claim)) where
   abbrev c : Call
@@ -243,8 +253,14 @@ module _ (n : ℕ) (t s : Working) (claim : List ℕ) (place number : ℕ → �
 
   trees : ((other : List ℕ) × ClaimTree (callOn n t other)) ↔ ((other : List ℕ) × ClaimTree (callOn n s other))
   trees = (
-    λ (other, x). let (weight, q) = demand3 c c-ok .built other x in (_, built-tree d d-ok weight (builds ∙ q)),
-    λ (other, x). let (weight, q) = demand3 d d-ok .built other x in (_, built-tree c c-ok weight (sym builds ∙ q)),
+    λ (other, x). let (weight, q) = demand3 c c-ok .built other x in (_, built-least d d-ok weight (builds ∙ q) .0 .tree),
+    λ (other, x). let (weight, q) = demand3 d d-ok .built other x in (_, built-least c c-ok weight (sym builds ∙ q) .0 .tree),
+  )
+
+  totals : (x : ℤ) → ((other : List ℕ) × LeastOf (callOn n t other) x) ↔ ((other : List ℕ) × LeastOf (callOn n s other) x)
+  totals x = (
+    λ (other, l). (_, built-least d d-ok x (builds ∙ least-built c c-ok x other l)),
+    λ (other, l). (_, built-least c c-ok x (sym builds ∙ least-built d d-ok x other l)),
   )
 
   -- ── The carried claim as a set of rows ──
@@ -302,6 +318,7 @@ module _ (n : ℕ) (t s : Working) (claim : List ℕ) (place number : ℕ → �
   keeps =
       record {
         accepted = after;
+        totals = totals;
         least-total = least-total;
         trees = trees;
         builds = builds;

@@ -35,11 +35,16 @@ pub record Carries (t s : Working) (claim : List ℕ) : Type 0 where
   pub moved : (i : ℕ) → inUse t i ≡ true → inRow 1 (carriedTo s claim) (numberOf s i) ≡ inRow 1 claim i
   pub elsewhere : (k : ℕ) → ((i : ℕ) → inUse t i ≡ true → numberOf s i ≢ k) → inRow 1 (carriedTo s claim) k ≡ 0
 
+-- the claim is a spanning tree than which none weighs less, and it weighs x
+abbrev pub LeastOf : Call → ℤ → Type 0
+LeastOf c x = LeastClaim c × (claimWeight c ≡ x)
+
 -- what stays where the rows in use of t have moved to s; n is the number of vertices and claim a claim over t
 pub record Keeps (n : ℕ) (t s : Working) (claim : List ℕ) : Type 0 where
   -- s is accepted with every claim of 1,024 bytes
   pub accepted : (other : List ℕ) → length other ≡ maxRows → AcceptedTable (callOn n s other)
-  -- no least total is changed
+  -- no least total is changed: what a spanning tree weighs than which none weighs less
+  pub totals : (x : ℤ) → ((other : List ℕ) × LeastOf (callOn n t other) x) ↔ ((other : List ℕ) × LeastOf (callOn n s other) x)
   pub least-total : leastTotal (graphOf (callOn n s claim)) (weightOf (callOn n s claim)) ≡ leastTotal (graphOf (callOn n t claim)) (weightOf (callOn n t claim))
   -- nor whether there is a spanning tree
   pub trees : ((other : List ℕ) × ClaimTree (callOn n t other)) ↔ ((other : List ℕ) × ClaimTree (callOn n s other))
