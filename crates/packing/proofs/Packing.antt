@@ -6,7 +6,7 @@ use lib.ListN.{length, getD, List·getD-eq-default}
 use mathlib.Core.Bool.{Bool, true, false}
 use mathlib.Core.List.{List}
 use mathlib.Core.Logic.{_↔_, by-cases}
-use mathlib.Core.Option.{none}
+use mathlib.Core.Option.{Option, none, some}
 use mathlib.Core.Path.{_≡_, refl, sym, ap, ap₂, _∙_, fun-ext, subst}
 use native.Mathlib.Decide.{decLe}
 use native.Mathlib.Omega.{arith}
@@ -19,26 +19,29 @@ use Rattle.graph.specs.Least.{Least}
 use Rattle.graph.specs.LeastTotal.{leastTotal}
 use Rattle.graph.specs.Renumbered.{Renumbered, SameWeights, carried, Keeps as Kept}
 use Rattle.graph.specs.Tree.{SpanningTree}
+use Rattle.matrix.proofs.Laws.{length-wordsFrom}
 use Rattle.packing.proofs.Carrying.{carried-length, carried-moved, carried-none}
-use Rattle.packing.specs.Packing.{callOn, carriedTo, Carries, Keeps, MergingKeeps, MakingRoomKeeps}
+use Rattle.packing.specs.Packing.{callOn, carriedTo, Carries, LeastOf, Keeps, withoutRow, MergingKeeps, AddingKeeps}
+use Rattle.refusal.specs.declared.Refusal.{Refusal}
+use Rattle.rowset.proofs.Integers.{integers}
 use Rattle.rowset.proofs.Laws.{in-upTo, upTo-in}
 use Rattle.rowset.proofs.Members.{same-truth}
 use Rattle.rowset.specs.Bytes.{inRow}
 use Rattle.rowset.specs.Integers.{signed}
-use Rattle.rowset.specs.Sets.{both, count}
+use Rattle.rowset.specs.Sets.{both, takeOut, count}
 use Rattle.star.proofs.Accepted.{accepted-means, working-means, used-work}
 use Rattle.star.specs.Accepted.{GoodRows, AcceptedTable, WorkingTable}
 use Rattle.star.specs.Call.{Call, used, graphOf, weightOf, marked, claimed, claimWeight, withClaim}
 use Rattle.star.specs.Cst.{passed, only, cst}
 use Rattle.star.specs.Mst1.{treeBuilt, mst1, mst1Marks}
 use Rattle.star.specs.Refusals.{Accepted}
-use Rattle.worktable.proofs.Meaning.{held-inside, merging-merges, adding-adds}
+use Rattle.worktable.proofs.Meaning.{held-inside, merging-merges, added-sized, earlier-rows, adding-adds}
 use Rattle.worktable.proofs.Numbers.{numbers-in-order}
 use Rattle.worktable.proofs.Tables.{Sized, packedTable-sized, room-sized}
-use Rattle.worktable.specs.Changes.{afterwards, merged, roomMade}
-use Rattle.worktable.specs.Meaning.{oldRow, numberOf, MergesTo, Unpacked}
+use Rattle.worktable.specs.Changes.{afterwards, wordsOf, struckWords, merged, roomMade, newRow, added}
+use Rattle.worktable.specs.Meaning.{oldRow, numberOf, MergesTo, AddsTo, Unpacked}
 use Rattle.worktable.specs.Packing.{newNumber, ownNumber}
-use Rattle.worktable.specs.Tables.{Working, inUse, mergeRefusal}
+use Rattle.worktable.specs.Tables.{Working, inUse, strikeRefusal, mergeRefusal}
 
 -- the rows in use of t are those of s under other numbers: row i of s is row place i of t, row j of t is row number j of s, and s lists these numbers
 record Moved (t s : Working) (place number : ℕ → ℕ) : Type 0 where
@@ -99,11 +102,20 @@ kept-moved t s z u =
 
 -- ── What stays where rows have moved ──
 
--- what is built is a spanning tree
-built-tree : (c : Call) → Accepted c → (weight : ℤ) → mst1 c ≡ treeBuilt weight → ClaimTree (withClaim c (mst1Marks c))
-built-tree c a weight e =
-    let (single, q) = demand3 c a .builds weight e in
-    demand3 (withClaim c (mst1Marks c)) (built-accepted c a weight e) .passes .0 (weight, single, q) .tree
+-- what is built is a least tree, with the weight that is stated; and where there is a tree, one is built
+module _ (c : Call) (a : Accepted c) where
+  built-least : (weight : ℤ) → mst1 c ≡ treeBuilt weight → LeastOf (withClaim c (mst1Marks c)) weight
+  built-least weight e =
+      let d = withClaim c (mst1Marks c) in
+      let h = demand3 d (built-accepted c a weight e) in
+      let (single, q) = demand3 c a .builds weight e in
+      (h .passes .0 (weight, single, q), sym (h .weight weight single q))
+
+  least-built : (x : ℤ) (other : List ℕ) → LeastOf (withClaim c other) x → mst1 c ≡ treeBuilt x
+  least-built x other (l, e) =
+      let (weight, q) = demand3 c a .built other (l .tree) in
+      let (b, w) = built-least weight q in
+      q ∙ ap treeBuilt (sym w ∙ omega (arith, integers, l .least _ (b .tree), b .least other (l .tree)) ∙ e)
 
 module _ (n : ℕ) (t s : Working) (claim : List ℕ) (place number : ℕ → ℕ) (v : Moved t s place number) (table : AcceptedTable (callOn n t claim)) where
   abbrev c : Call
@@ -241,8 +253,14 @@ module _ (n : ℕ) (t s : Working) (claim : List ℕ) (place number : ℕ → �
 
   trees : ((other : List ℕ) × ClaimTree (callOn n t other)) ↔ ((other : List ℕ) × ClaimTree (callOn n s other))
   trees = (
-    λ (other, x). let (weight, q) = demand3 c c-ok .built other x in (_, built-tree d d-ok weight (builds ∙ q)),
-    λ (other, x). let (weight, q) = demand3 d d-ok .built other x in (_, built-tree c c-ok weight (sym builds ∙ q)),
+    λ (other, x). let (weight, q) = demand3 c c-ok .built other x in (_, built-least d d-ok weight (builds ∙ q) .0 .tree),
+    λ (other, x). let (weight, q) = demand3 d d-ok .built other x in (_, built-least c c-ok weight (sym builds ∙ q) .0 .tree),
+  )
+
+  totals : (x : ℤ) → ((other : List ℕ) × LeastOf (callOn n t other) x) ↔ ((other : List ℕ) × LeastOf (callOn n s other) x)
+  totals x = (
+    λ (other, l). (_, built-least d d-ok x (builds ∙ least-built c c-ok x other l)),
+    λ (other, l). (_, built-least c c-ok x (sym builds ∙ least-built d d-ok x other l)),
   )
 
   -- ── The carried claim as a set of rows ──
@@ -300,6 +318,7 @@ module _ (n : ℕ) (t s : Working) (claim : List ℕ) (place number : ℕ → �
   keeps =
       record {
         accepted = after;
+        totals = totals;
         least-total = least-total;
         trees = trees;
         builds = builds;
@@ -310,7 +329,7 @@ module _ (n : ℕ) (t s : Working) (claim : List ℕ) (place number : ℕ → �
         passes = passes;
       }
 
--- ── MERGE, and room for a row ──
+-- ── MERGE and adding ──
 
 -- the lengths of an accepted working table's parts
 sized : (n : ℕ) (t : Working) (claim : List ℕ) → AcceptedTable (callOn n t claim) → Sized t
@@ -325,12 +344,48 @@ merged-sized t e z = rw e (packedTable-sized t z)
 pub merging-keeps : MergingKeeps
 merging-keeps n t claim a e = keeps n t (merged t) claim _ _ (packed-moved t (merged t) (merged-sized t e (sized n t claim a)) (merging-merges t .done e)) a
 
-pub making-room-keeps : MakingRoomKeeps
-making-room-keeps n t claim a e = go (inUse t 1024) refl
+-- the rows in use before the new row have moved as they did to make room
+added-moved : (t s u : Working) (i a b price : ℕ) (place number : ℕ → ℕ) → Moved t s place number → AddsTo s u i a b price → Sized (withoutRow u i) → inUse (withoutRow u i) ≡ inUse s → Moved t (withoutRow u i) place number
+added-moved t s u i a b price place number v x z rows =
+    record {
+      sized = z;
+      placed = rw rows (v .placed);
+      numbered = rw rows (v .numbered);
+      unnumbered = v .unnumbered;
+      row =
+          λ j e.
+          let h = x .after-all (number j) (v .numbered j e .0) in
+          let (l, r, w) = x .others (number j) (λ q. omega arith) in
+          rw (l, r, w) (v .row j e);
+      listed = rw (x .numbers) (v .listed);
+      numbers = rw (x .numbers) (v .numbers);
+    }
+
+struck-sized : (u : Working) (i : ℕ) → Sized u → Sized (withoutRow u i)
+unfolding struckWords afterwards
+struck-sized u i z = record { words = sixteen (strikeRefusal (u .words) i); left = z .left; right = z .right; weight = z .weight }
   where
-    z : Sized (roomMade t)
+    sixteen : (o : Option Refusal) → length (afterwards o (wordsOf (takeOut (inUse u) i)) (u .words)) ≡ 16
+    sixteen none = length-wordsFrom (takeOut (inUse u) i) 0 16
+    sixteen (some r) = z .words
+
+pub adding-keeps : AddingKeeps
+adding-keeps n t claim a l r price e = go (inUse t 1024) refl
+  where
+    s : Working
+    s = roomMade t
+
+    z : Sized s
     z = room-sized t (sized n t claim a)
 
-    go : (b : Bool) → inUse t 1024 ≡ b → Keeps n t (roomMade t) claim
-    go true q = keeps n t (roomMade t) claim _ _ (packed-moved t (roomMade t) z (adding-adds t 0 0 0 .packs e q)) a
-    go false q = keeps n t (roomMade t) claim _ _ (kept-moved t (roomMade t) z (adding-adds t 0 0 0 .keeps e q)) a
+    u : Working
+    u = withoutRow (added t l r price) (newRow s)
+
+    from : (place number : ℕ → ℕ) → Moved t s place number → Keeps n t u claim
+    from place number v =
+        keeps n t u claim place number
+        (added-moved t s (added t l r price) (newRow s) l r price place number v (adding-adds t l r price .done e) (struck-sized _ _ (added-sized t l r price e)) (earlier-rows t l r price e)) a
+
+    go : (b : Bool) → inUse t 1024 ≡ b → Keeps n t u claim
+    go true q = from _ _ (packed-moved t s z (adding-adds t l r price .packs e q))
+    go false q = from _ _ (kept-moved t s z (adding-adds t l r price .keeps e q))

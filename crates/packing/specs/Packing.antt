@@ -17,9 +17,9 @@ use Rattle.star.specs.Call.{Call, workOf, graphOf, weightOf, claimWeight}
 use Rattle.star.specs.Cst.{passed, cst}
 use Rattle.star.specs.Mst1.{mst1}
 use Rattle.star.specs.Refusals.{maxRows}
-use Rattle.worktable.specs.Changes.{merged, roomMade}
+use Rattle.worktable.specs.Changes.{struckWords, merged, roomMade, newRow, added}
 use Rattle.worktable.specs.Meaning.{numberOf}
-use Rattle.worktable.specs.Tables.{Working, inUse, mergeRefusal, addRefusal}
+use Rattle.worktable.specs.Tables.{Working, working, inUse, mergeRefusal, addRefusal}
 
 -- the call with n vertices on the working table t with this claim
 abbrev pub callOn : ℕ → Working → List ℕ → Call
@@ -35,11 +35,16 @@ pub record Carries (t s : Working) (claim : List ℕ) : Type 0 where
   pub moved : (i : ℕ) → inUse t i ≡ true → inRow 1 (carriedTo s claim) (numberOf s i) ≡ inRow 1 claim i
   pub elsewhere : (k : ℕ) → ((i : ℕ) → inUse t i ≡ true → numberOf s i ≢ k) → inRow 1 (carriedTo s claim) k ≡ 0
 
+-- the claim is a spanning tree than which none weighs less, and it weighs x
+abbrev pub LeastOf : Call → ℤ → Type 0
+LeastOf c x = LeastClaim c × (claimWeight c ≡ x)
+
 -- what stays where the rows in use of t have moved to s; n is the number of vertices and claim a claim over t
 pub record Keeps (n : ℕ) (t s : Working) (claim : List ℕ) : Type 0 where
   -- s is accepted with every claim of 1,024 bytes
   pub accepted : (other : List ℕ) → length other ≡ maxRows → AcceptedTable (callOn n s other)
-  -- no least total is changed
+  -- no least total is changed: what a spanning tree weighs than which none weighs less
+  pub totals : (x : ℤ) → ((other : List ℕ) × LeastOf (callOn n t other) x) ↔ ((other : List ℕ) × LeastOf (callOn n s other) x)
   pub least-total : leastTotal (graphOf (callOn n s claim)) (weightOf (callOn n s claim)) ≡ leastTotal (graphOf (callOn n t claim)) (weightOf (callOn n t claim))
   -- nor whether there is a spanning tree
   pub trees : ((other : List ℕ) × ClaimTree (callOn n t other)) ↔ ((other : List ℕ) × ClaimTree (callOn n s other))
@@ -58,6 +63,12 @@ pub record Keeps (n : ℕ) (t s : Working) (claim : List ℕ) : Type 0 where
 abbrev pub MergingKeeps : Type 0
 MergingKeeps = (n : ℕ) (t : Working) (claim : List ℕ) → AcceptedTable (callOn n t claim) → mergeRefusal t ≡ none → Keeps n t (merged t) claim
 
--- and after the packing that makes room for a new row: of the rows in use before that row. Where nothing is packed the rows stay where they are
-abbrev pub MakingRoomKeeps : Type 0
-MakingRoomKeeps = (n : ℕ) (t : Working) (claim : List ℕ) → AcceptedTable (callOn n t claim) → addRefusal t ≡ none → Keeps n t (roomMade t) claim
+-- the table u with row i struck
+abbrev pub withoutRow : Working → ℕ → Working
+withoutRow u i = working (struckWords (u .words) i) (u .left) (u .right) (u .weight) (u .numbers)
+
+-- and after an add: of the rows that were in use before the new row, whether the table was packed first or not
+abbrev pub AddingKeeps : Type 0
+AddingKeeps =
+    (n : ℕ) (t : Working) (claim : List ℕ) → AcceptedTable (callOn n t claim) → (a b price : ℕ) → addRefusal t ≡ none
+    → Keeps n t (withoutRow (added t a b price) (newRow (roomMade t))) claim

@@ -20,7 +20,7 @@ use Rattle.worktable.specs.Meaning.{StrikingStrikes, MergesTo, MergingMe
 use Rattle.worktable.specs.Packing.{newNumber, ownNumber, numbersFrom, lowermost}
 use Rattle.worktable.specs.Tables.{Working, inUse, badSizes, tableFull, notInUse, strikeRefusal, mergeRefusal, addRefusal}
 use Rattle.worktable.proofs.Columns.{packing-moves}
-use Rattle.worktable.proofs.Rows.{row-written, row-other}
+use Rattle.worktable.proofs.Rows.{row-length, row-written, row-other}
 use Rattle.worktable.proofs.Tables.{Sized, wrong, sizes-sized, packed-rows, room-sized, room-after}
 use Rattle.worktable.proofs.Words.{words-hold}
 
@@ -198,9 +198,26 @@ module _ (t : Working) (a b price : ℕ) (e : addRefusal t ≡ none) where
   unfolding roomMade packedIf unpackedTable
   keeps u = rw u (record { words = refl; left = refl; right = refl; weight = refl; listed = numbers-length (ownNumber (inUse t)) 0 1024; numbers = numbers-row (ownNumber (inUse t)) })
 
-  struck-again : inUse t maxRows ≡ false → inWords (struckWords (added t a b price .words) (newRow (roomMade t))) ≡ inUse t
+  -- the table afterwards has the lengths that it had, and the new row struck gives back the rows that were in use once room was made
+  pub added-sized : Sized (added t a b price)
   unfolding added afterwards withNewRow
-  struck-again u = rw e (again (roomMade t) (room .0) (room .1) ∙ ap inWords (keeps u .words))
+  added-sized =
+      let i = newRow (roomMade t) in
+      let z = room .0 in
+      let (low, high, _) = adds .position in
+      rw e (record {
+        words = length-wordsFrom (put (inUse (roomMade t)) i) 0 columnWords;
+        left = row-length 1 (roomMade t .left) i a low (omega (arith, z .left)) ∙ z .left;
+        right = row-length 1 (roomMade t .right) i b low (omega (arith, z .right)) ∙ z .right;
+        weight = row-length 4 (roomMade t .weight) i price low (omega (arith, z .weight)) ∙ z .weight;
+      })
+
+  pub earlier-rows : inWords (struckWords (added t a b price .words) (newRow (roomMade t))) ≡ inUse (roomMade t)
+  unfolding added afterwards withNewRow
+  earlier-rows = rw e (again (roomMade t) (room .0) (room .1))
+
+  struck-again : inUse t maxRows ≡ false → inWords (struckWords (added t a b price .words) (newRow (roomMade t))) ≡ inUse t
+  struck-again u = earlier-rows ∙ ap inWords (keeps u .words)
 
 pub adding-adds : AddingAdds
 unfolding addAnswer answered added afterwards

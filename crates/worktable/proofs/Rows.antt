@@ -1,6 +1,6 @@
 -- A row written in a column: it holds the number written, and the other rows are as they were. Assumes nothing.
 use Prim.Native.Nat.{ℕ, zero, suc, _+_, _-_, _*_, _/_, _%_, _^_, _<_, _≤_}
-use lib.ListN.{length, getD, take, drop, length-append, List·getD-append}
+use lib.ListN.{length, getD, take, drop, length-append, length-drop, List·getD-append}
 use lib.Seq.{getD-take, getD-drop, getD-append-add, length-take-le}
 use mathlib.Core.List.{List, _∷_, _++_}
 use mathlib.Core.Logic.{_≢_, by-cases}
@@ -37,6 +37,11 @@ module _ (k : ℕ) (l : List ℕ) (n v : ℕ) (fits : k * n + k ≤ length l) wh
 
   abbrev column : List ℕ
   column = take (k * n) l ++ bytesOf k v ++ drop (k * n + k) l
+
+  as-long : length column ≡ length l
+  as-long =
+      length-append (take (k * n) l ++ bytesOf k v) (drop (k * n + k) l)
+      ∙ omega (arith, both, length-drop (k * n + k) l)
 
   above : (i : ℕ) → i < k * n → getD column i 0 ≡ getD l i 0
   above i h =
@@ -76,7 +81,12 @@ module _ (k : ℕ) (l : List ℕ) (n v : ℕ) (fits : k * n + k ≤ length l) wh
       more : (i ≤ n → ⊥) → suc n ≤ i
       more u = omega (arith, u)
 
--- the row written, and every other row
+-- the column's length, the row written, and every other row
+pub row-length : (k : ℕ) (l : List ℕ) (i v : ℕ) → 1 ≤ i → k * i ≤ length l → length (withRow k l i v) ≡ length l
+unfolding withRow
+row-length k l zero v low fits = absurd (omega arith)
+row-length k l (suc n) v low fits = let same : suc n - 1 ≡ n = omega arith in rw same (as-long k l n v (omega (arith, mul-suc k n)))
+
 pub row-written : (k : ℕ) (l : List ℕ) (i v : ℕ) → 1 ≤ i → k * i ≤ length l → v < 256 ^ k → inRow k (withRow k l i v) i ≡ v
 unfolding inRow withRow
 row-written k l zero v low fits h = absurd (omega arith)

@@ -62,7 +62,7 @@ NumbersHold =
 -- ── Tables of 1,024 rows ──
 
 -- the yard with these rows in use, nines in the rows after it, and sevens for numbers
-abbrev yard : List ℕ → Working
+abbrev pub yard : List ℕ → Working
 yard rows = working (wordsOf (these rows)) (nines lefts 1019) (nines rights 1019) (nines weights 4076) (replicate 1024 7)
 
 -- rows 2, 4 and 5 are packed
