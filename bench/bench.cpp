@@ -6,6 +6,8 @@
 #include <cstdint>
 #include <cstdio>
 #include <cstdlib>
+#include <set>
+#include <utility>
 #include <vector>
 
 #include "star.h"
@@ -47,12 +49,16 @@ uint32_t any(uint64_t below) {
     return uint32_t((state >> 11) % below);
 }
 
-// A connected table with prices from one number to another.
+// A connected table with prices from one number to another; no two rows join the same pair.
 Table make(uint32_t n, size_t m, int32_t from, int32_t to) {
     Table t{n, {}, {}, std::vector<uint8_t>(4 * m), std::vector<uint8_t>(m)};
+    std::set<std::pair<uint32_t, uint32_t>> pairs;
     for (size_t i = 0; i < m; i++) {
-        uint32_t a = i + 1 < n ? uint32_t(i) + 2 : 1 + any(n), b = i + 1 < n ? 1 + any(uint32_t(i) + 1) : 1 + any(n);
-        while (a == b) b = 1 + any(n);
+        uint32_t a, b;
+        do {
+            a = i + 1 < n ? uint32_t(i) + 2 : 1 + any(n);
+            b = i + 1 < n ? 1 + any(uint32_t(i) + 1) : 1 + any(n);
+        } while (a == b || !pairs.insert({std::min(a, b), std::max(a, b)}).second);
         t.left.push_back(uint8_t(a));
         t.right.push_back(uint8_t(b));
         star_put_price(t.weight.data(), i, int32_t(from + int64_t(any(uint64_t(int64_t(to) - from + 1)))));
@@ -193,7 +199,7 @@ void measure(uint32_t n, size_t m, int32_t from, int32_t to) {
 
 int main() {
     std::printf("Median of one call; the ratio is the time over that of star_mst1 and of star_cst (above 1: slower than ours).\n");
-    const uint32_t sizes[][2] = {{5, 16}, {17, 64}, {64, 256}, {255, 256}, {64, 1024}, {255, 1024}};
+    const uint32_t sizes[][2] = {{7, 16}, {17, 64}, {64, 256}, {255, 256}, {64, 1024}, {255, 1024}};
     for (auto s : sizes) measure(s[0], s[1], 0, STAR_MAX_PRICE);
     measure(255, 1024, 0, 4999);
     measure(255, 1024, -5000, 5000); // both signs: small prices, and all prices

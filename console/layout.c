@@ -5,7 +5,7 @@
 #include <stdlib.h>
 #include <string.h>
 
-enum { MARGIN = 60, NARROWEST = 420, WIDEST = 4000, BESIDE = 30, LONG = 84 };
+enum { MARGIN = 60, NARROWEST = 420, WIDEST = 4000, LONG = 84 };
 
 static double distance(struct point a, struct point b) { return sqrt((a.x - b.x) * (a.x - b.x) + (a.y - b.y) * (a.y - b.y)); }
 
@@ -122,12 +122,8 @@ static struct curve line_of(const struct layout *l, const struct table *t, size_
     return c;
 }
 
-static int same_ends(const struct table *t, size_t i, size_t k) {
-    return (t->left[i] == t->left[k] && t->right[i] == t->right[k]) || (t->left[i] == t->right[k] && t->right[i] == t->left[k]);
-}
-
-/* A trench that is alone between its ends is straight, or bent around a junction in its way. */
-static struct curve alone(const struct layout *l, const struct table *t, size_t i) {
+/* A trench is straight, or bent around a junction in its way. */
+static struct curve around(const struct layout *l, const struct table *t, size_t i) {
     struct curve c = line_of(l, t, i, 0);
     int k;
     for (k = 1; k <= 8 && hits(l, t, &c, i); k++) c = line_of(l, t, i, (k % 2 ? 1 : -1) * (k + 1) / 2 * 14.0);
@@ -135,18 +131,9 @@ static struct curve alone(const struct layout *l, const struct table *t, size_t 
 }
 
 void layout_sheet(struct layout *l, const struct table *t) {
-    size_t i, k;
+    size_t i;
     memset(l, 0, sizeof *l);
     place(l, t);
-    for (i = 0; i < t->m; i++) {
-        size_t before = 0, all = 0;
-        for (k = 0; k < t->m; k++)
-            if (same_ends(t, i, k)) {
-                all++;
-                before += k < i;
-            }
-        if (all == 1) l->trench[i] = alone(l, t, i);
-        else l->trench[i] = line_of(l, t, i, ((double)before - (double)(all - 1) / 2) * (all <= 5 ? BESIDE : 5.0 * BESIDE / (double)all));
-    }
+    for (i = 0; i < t->m; i++) l->trench[i] = around(l, t, i);
     fit(l, t);
 }

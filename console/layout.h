@@ -33,7 +33,7 @@ struct layout {
    trenches join and on nothing else, so that two plans of one network, or two quotes, lie alike. */
 void layout_places(const struct table *t, struct point at[STAR_MAX_JUNCTIONS + 1]);
 
-/* Places junctions and trenches on a sheet. Trenches between the same two junctions are drawn apart. */
+/* Places junctions and trenches on a sheet. */
 void layout_sheet(struct layout *l, const struct table *t);
 
 /* A point of a curve: k from 0, its start, to 1, its end. */

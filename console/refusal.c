@@ -23,6 +23,16 @@ void refusal_of_end(struct message *to, size_t trench, const struct span ends[2]
     say(to, "trench %zu joins junction %" PRIu32 " to itself.", trench, end);
 }
 
+void refusal_of_repeat(struct message *to, size_t trench, size_t earlier) { say(to, "trench %zu joins the same junctions as trench %zu.", trench, earlier); }
+
+/* The first trench between the ends of trench i, in either direction. */
+static size_t first_between(const struct table *t, size_t i) {
+    unsigned a = t->left[i - 1], b = t->right[i - 1];
+    size_t k = 1;
+    while (k < i && !(t->left[k - 1] == a && t->right[k - 1] == b) && !(t->left[k - 1] == b && t->right[k - 1] == a)) k++;
+    return k;
+}
+
 static void junction_count(struct message *to, const struct table *t) {
     say(to, t->count.line == 0 ? "no junction from 1 on is named" : t->told ? "the number of junctions is " : "the largest junction is ");
     say_word(to, t->count.text);
@@ -46,7 +56,7 @@ static void no_network(struct message *to, const struct table *t) {
 
 void refusal_words(struct message *to, const struct table *t, struct star_answer a) {
     struct place none = {0, {NULL, 0}};
-    int of_trench = a.number == STAR_BAD_END || a.number == STAR_BAD_MARK;
+    int of_trench = a.number == STAR_BAD_END || a.number == STAR_REPEATED_ROW || a.number == STAR_BAD_MARK;
     struct place at = of_trench && a.out >= 1 && a.out <= KEPT ? t->row[a.out - 1] : none;
     struct span ends[2];
     refusal_opens(to, a.number, t->file, a.number == STAR_BAD_JUNCTION_COUNT ? t->count.line : at.line);
@@ -61,6 +71,9 @@ void refusal_words(struct message *to, const struct table *t, struct star_answer
         ends[0] = text_nth(at.text, 0);
         ends[1] = text_nth(at.text, 1);
         refusal_of_end(to, a.out, ends, t->n);
+        break;
+    case STAR_REPEATED_ROW:
+        refusal_of_repeat(to, a.out, first_between(t, a.out));
         break;
     case STAR_BAD_MARK:
         say(to, "trench %u has the mark ", a.out);

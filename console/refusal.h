@@ -13,5 +13,6 @@ int refusal_of_plan(struct star_answer a);
 /* What the refusals of tables and of STP texts have in common. */
 void refusal_opens(struct message *to, unsigned number, const char *file, size_t line);
 void refusal_of_end(struct message *to, size_t trench, const struct span ends[2], uint32_t n);
+void refusal_of_repeat(struct message *to, size_t trench, size_t earlier);
 
 #endif

@@ -56,16 +56,27 @@ struct graph {
     struct place nodes, edges; /* the numbers in the lines Nodes and Edges */
     struct place wanted;       /* the E line asked for */
     size_t rows;               /* E lines */
+    size_t alike;              /* the first one with the ends of a line that is given, 0 for none */
 };
+
+/* Whether two E lines have the same ends, in either direction. */
+static int same_ends(struct span one, struct span other) {
+    uint32_t a = 0, b = 0, c = 0, d = 0;
+    text_number(text_nth(one, 1), &a);
+    text_number(text_nth(one, 2), &b);
+    text_number(text_nth(other, 1), &c);
+    text_number(text_nth(other, 2), &d);
+    return (a == c && b == d) || (a == d && b == c);
+}
 
 static struct place number_in(struct place at) {
     at.text = text_nth(at.text, 1);
     return at;
 }
 
-/* Looks up the lines of the section Graph in a text whose layout the door has found sound. */
-static struct graph graph_of(struct span text, uint64_t wanted) {
-    struct graph g = {{0, {NULL, 0}}, {0, {NULL, 0}}, {0, {NULL, 0}}, 0};
+/* Looks up the lines of the section Graph in a text whose layout the door has found sound. `like` is an E line, or empty. */
+static struct graph graph_of(struct span text, uint64_t wanted, struct span like) {
+    struct graph g = {{0, {NULL, 0}}, {0, {NULL, 0}}, {0, {NULL, 0}}, 0, 0};
     struct place at = {0, {NULL, 0}};
     enum { BETWEEN, GRAPH, OTHER } section = BETWEEN;
     while (text_line(&text, &at.text)) {
@@ -75,14 +86,17 @@ static struct graph graph_of(struct span text, uint64_t wanted) {
         else if (text_is(first, "END") && second.len == 0) section = BETWEEN;
         else if (section == GRAPH && text_is(first, "NODES")) g.nodes = number_in(at);
         else if (section == GRAPH && text_is(first, "EDGES")) g.edges = number_in(at);
-        else if (section == GRAPH && text_is(first, "E") && ++g.rows == wanted) g.wanted = at;
+        else if (section == GRAPH && text_is(first, "E")) {
+            if (++g.rows == wanted) g.wanted = at;
+            if (g.alike == 0 && like.len > 0 && same_ends(at.text, like)) g.alike = g.rows;
+        }
     }
     return g;
 }
 
 static void refused(struct message *to, const char *file, struct span text, struct star_imported a) {
-    struct graph g = graph_of(text, a.place);
-    struct span ends[2];
+    struct span none = {NULL, 0}, ends[2];
+    struct graph g = graph_of(text, a.place, none);
     uint32_t n = 0;
     switch (a.number) {
     case STAR_BAD_EDGE_COUNT:
@@ -108,6 +122,10 @@ static void refused(struct message *to, const char *file, struct span text, stru
         ends[1] = text_nth(g.wanted.text, 2);
         text_number(g.nodes.text, &n);
         refusal_of_end(to, (size_t)a.place, ends, n);
+        break;
+    case STAR_REPEATED_ROW:
+        refusal_opens(to, a.number, file, g.wanted.line);
+        refusal_of_repeat(to, (size_t)a.place, graph_of(text, 0, g.wanted.text).alike);
         break;
     default:
         refusal_opens(to, a.number, file, 0);

@@ -6,7 +6,7 @@
  *                 -2,147,483,648 to 2,147,483,647, below 0 where a grant exceeds the cost. Any four bytes are a price;
  *                 star_put_price packs one, and star_get_price reads it
  *   mark          one byte a row, 1 for a marked row and 0 for any other: the claim
- * m is the length of the left column.
+ * m is the length of the left column. Two rows never join the same two junctions: such a table is refused.
  *
  * star_cst    judges the claim and writes nothing but the answer; a pass says whether the claim is the only cheapest network.
  * star_other  answers as star_cst; where another network costs the same, it names an exchange of two rows that gives one.
@@ -37,9 +37,9 @@ extern "C" {
 
 /* The version of this header. star_version gives that of the library that is linked. */
 #define STAR_VERSION_MAJOR 0
-#define STAR_VERSION_MINOR 5
+#define STAR_VERSION_MINOR 6
 #define STAR_VERSION_PATCH 0
-#define STAR_VERSION "0.5.0"
+#define STAR_VERSION "0.6.0"
 
 const char *star_version(void);
 
@@ -64,7 +64,7 @@ enum star_kind {
     STAR_LIGHTER = 2 /* a cheaper set exists: the exchange of two rows is one */
 };
 
-/* Byte 1 of a refused answer, and what its place is. 5 is not used. */
+/* Byte 1 of a refused answer, and what its place is. 5 and 14 are not used. */
 enum star_refusal {
     STAR_BAD_JUNCTION_COUNT = 1, /* n is 0 or above 255 */
     STAR_TOO_MANY_ROWS = 2,      /* m is above 1,024 */
@@ -78,7 +78,9 @@ enum star_refusal {
     STAR_NO_NETWORK = 11,        /* no set of rows joins every junction (star_mst1) */
     STAR_BAD_TEXT = 12,          /* place: the first byte, counted from 0, of the first word that cannot stand; the text's length if it ends
                                     too early; 65,536 if it is longer (star_import) */
-    STAR_BAD_EDGE_COUNT = 13     /* the E lines are not as many as the line Edges says (star_import) */
+    STAR_BAD_EDGE_COUNT = 13,    /* the E lines are not as many as the line Edges says (star_import) */
+    STAR_REPEATED_ROW = 15       /* place: the uppermost row that joins the same two junctions as an earlier one, in either direction; told
+                                    after 4 and before 6 */
 };
 
 /* A refusal in words, such as "the marks are not n - 1"; never a null pointer, whatever the number. */
@@ -112,7 +114,7 @@ static inline int star_on_path(const uint64_t *matrix, uint32_t junction, size_t
 /* Reads an STP text: a first line that opens with 33D32945; sections, of which one is named Graph, with its lines Nodes N, Edges M,
  * E LEFT RIGHT PRICE for each row, END; and EOF. Sections of other names are skipped. left, right and weight are lent for 1,024 rows:
  * 1,024, 1,024 and 4,096 bytes. The m rows of the text are written at the top, and rows past m keep their content. A PRICE may open
- * with -; one outside -2,147,483,648 to 2,147,483,647 is a word that cannot stand. A refusal is 12, else 13, 1, 2, 3 or 4. The first m
+ * with -; one outside -2,147,483,648 to 2,147,483,647 is a word that cannot stand. A refusal is 12, else 13, 1, 2, 3, 4 or 15. The first m
  * rows (4 m bytes of weight) are what star_cst and star_mst1 take. */
 uint32_t star_import(const uint8_t *text, size_t text_len, uint8_t *left, size_t left_len, uint8_t *right, size_t right_len,
                      uint8_t *weight, size_t weight_len, uint8_t *answer, size_t answer_len);

@@ -113,6 +113,7 @@ rows() { for ((i = 0; i < $1; i++)); do printf '1 2 3 0\\n'; done; }
 for picture in draw dot; do
     try "$picture-256" 2 'Refused \(1\)' 'junctions 256\n1 2 5 1\n' $picture
     try "$picture-empty" 2 'Refused \(1\)' '' $picture
+    try "$picture-repeat" 2 'Refused \(15\)' '1 2 5 1\n2 1 5 0\n' $picture
     try "$picture-rows" 2 'Refused \(2\).*1025' "$(rows 1025)" $picture
     try "$picture-mark" 2 'Refused \(6\)' '1 2 5 7\n' $picture
     [ ! -s "$work/out" ]
@@ -150,6 +151,12 @@ try end-257 2 'Refused \(4\): .* ends at junction 257;' 'junctions 4\n257 2 5 1\
 try end-258 2 'Refused \(4\): .* ends at junction 258;' 'junctions 4\n1 258 5 1\n' check
 try end-left 2 'trench 1 ends at junction 0;' '0 2 5 1\n' check
 try end-equal 2 'Refused \(4\): standard input:4: trench 2 joins junction 2 to itself' "${top}1 2 5 1\n2 2 3 1\n" check
+try repeat 2 'Refused \(15\): standard input:6: trench 4 joins the same junctions as trench 1\.$' "${top}1 2 5 1\n2 3 3 1\n1 3 4 0\n2 1 4 0\n" check
+try repeat-first 2 'trench 2 joins the same junctions as trench 1\.' '1 2 5 1\n1 2 5 1\n2 1 5 1\n' check
+try repeat-after-end 2 'Refused \(4\): .* trench 3 joins junction 3 to itself' '1 2 5 1\n2 1 5 1\n3 3 5 1\n' check
+try repeat-before-mark 2 'Refused \(15\)' '1 2 5 7\n2 1 5 1\n' check
+for words in build 'build --table' table explain; do try "repeat: $words" 2 'Refused \(15\): standard input:2: trench 2 joins the same junctions as trench 1' '1 2 5 1\n2 1 5 1\n' $words; done
+try repeat-stp 2 'Refused \(15\): standard input:8: trench 3 joins the same junctions as trench 2\.$' '33D32945\nSECTION Graph\nNodes 3\nEdges 3\nE 1 2 5\nE 2 3 5\n\nE 3 2 1\nEND\nEOF\n' build
 try digits 2 'the largest junction is 9{40}\.\.; from 1 to 255' "$(printf '9%.0s' {1..700}) 2 5 1\n" check
 try one-mark 2 ': 1 trench is marked; a network of 4 junctions has exactly 3' '1 2 5 1\n2 3 3 0\n3 4 1 0\n' check
 try edges 2 'Refused \(13\): standard input:4: the line Edges says 3, and 2 E lines stand' '33D32945\nSECTION Graph\nNodes 3\nEdges 3\nE 1 2 5\nE 2 3 5\nEND\nEOF\n' build

@@ -1,5 +1,5 @@
 /* Compares the doors with the plain implementation on many tables: valid and damaged ones, each refusal alone and several at once, boundary
- * lengths, ties, parallel rows, claims that are near the least tree, the largest table. Every other table has prices below 0, many of them the
+ * lengths, ties, repeated rows in one of sixteen, claims that are near the least tree, the largest table. Every other table has prices below 0, many of them the
  * least and the largest price. Guard bytes stand around every lent column. Totals and savings are added up once more, in 64 bits with a sign;
  * an exchange of equal prices is made, and what it gives is checked; on small tables every spanning tree is listed, to count those that cost
  * the same. The largest table is tried in a thread with the stack that the header names.
@@ -68,9 +68,23 @@ static void set_price(size_t i, int32_t w) { star_put_price(at(&weight), i, w); 
 
 static int32_t price(size_t i) { return star_get_price(at(&weight), i); }
 
-/* A table of n vertices and m rows: a connected one where it can be. */
-static uint32_t fresh(uint32_t n, size_t m, struct range prices, int connected) {
+/* The pairs of n vertices. */
+static size_t pairs_of(uint32_t n) { return (size_t)n * (n - 1) / 2; }
+
+/* Whether a pair, in either direction, is met for the first time since `round` was counted up. */
+static uint32_t met[256][256], met_round;
+
+static int first_met(uint32_t a, uint32_t b) {
+    uint32_t *of = a < b ? &met[a][b] : &met[b][a];
+    if (*of == met_round) return 0;
+    *of = met_round;
+    return 1;
+}
+
+/* A table of n vertices and m rows: a connected one where it can be; with repeated rows only if they are asked for. */
+static uint32_t table_of(uint32_t n, size_t m, struct range prices, int connected, int repeats) {
     size_t i;
+    met_round++;
     make(&left, m);
     make(&right, m);
     make(&weight, 4 * m);
@@ -79,7 +93,7 @@ static uint32_t fresh(uint32_t n, size_t m, struct range prices, int connected) 
     for (i = 0; i < m; i++) {
         uint32_t a = 1 + any(n), b = 1 + any(n);
         if (connected && i + 1 < n) a = (uint32_t)i + 2, b = 1 + any((uint32_t)i + 1);
-        while (n > 1 && a == b) b = 1 + any(n);
+        while (n > 1 && (a == b || (!repeats && !first_met(a, b)))) a = 1 + any(n), b = 1 + any(n);
         if (any(2)) {
             uint32_t t = a;
             a = b;
@@ -100,6 +114,9 @@ static uint32_t fresh(uint32_t n, size_t m, struct range prices, int connected) 
     }
     return n;
 }
+
+/* The same, with repeated rows in one table of sixteen, and where there are fewer pairs than rows. */
+static uint32_t fresh(uint32_t n, size_t m, struct range prices, int connected) { return table_of(n, m, prices, connected, m > pairs_of(n) || any(16) == 0); }
 
 /* A claim: the least tree, the least tree with one row exchanged, some spanning tree, or as it came. */
 static void claim(uint32_t n, size_t m) {
@@ -297,6 +314,7 @@ static void one(unsigned long k) {
     else if (k % 100 < 2) n = 1 + any(255), m = any(1025);
     else n = 1 + any(10), m = n == 1 ? any(40) == 0 : any(20);
     if (below && n == 1) n = 2;
+    if (n > 1 && m > pairs_of(n) && any(16)) m = pairs_of(n);
     if (below && m == 0) m = 1;
     n = fresh(n, m, prices, any(8) != 0);
     if (below) sign_prices(m);
@@ -314,7 +332,7 @@ static void limits(void) {
     for (i = 0; i < sizeof lengths / sizeof lengths[0]; i++)
         for (j = 0; j < 20; j++) {
             struct range prices = {j % 3 ? -2 : 0, 4};
-            uint32_t n = fresh(j % 2 ? 255 : 2 + any(60), lengths[i], prices, 1);
+            uint32_t n = fresh(j % 2 ? 255 : j % 8 ? 46 + any(60) : 2 + any(60), lengths[i], prices, 1);
             claim(n, lengths[i]);
             if (j % 4 == 3) n = 256;
             if (j % 4 == 2) n = 0;
@@ -397,7 +415,7 @@ static void small_stack(void) {
     pthread_t thread;
     uint32_t said[4] = {0, 0, 0, 0};
     struct range prices = {-500, 499};
-    fresh(255, 1024, prices, 1);
+    table_of(255, 1024, prices, 1, 0);
     tell(!pthread_attr_init(&attr) && !pthread_attr_setstacksize(&attr, STACK) && !pthread_create(&thread, &attr, on_small_stack, said) && !pthread_join(thread, NULL)
              && said[0] == 1 && said[1] == 1 && said[2] == 1 && said[3] == 1 && star_read_answer(at(&answer)).kind == STAR_PASSED,
          "a thread of 128 KiB", 255);
@@ -425,8 +443,8 @@ static void packed(void) {
     }
 }
 
-/* Tables whose answers are known to the byte: the yard with prices below 0, a triangle of them, two cheapest networks and one, and the two
-   limits of a price. */
+/* Tables whose answers are known to the byte: the yard with prices below 0, a triangle of them, two cheapest networks and one, the two limits of
+   a price, and repeated rows: the place is the later one, a bad end goes before, and a bad mark after. */
 static void known(void) {
     static const struct {
         uint32_t n;
@@ -451,10 +469,12 @@ static void known(void) {
          {1, 1, 1}, {0, 9}, {0, 0}, {1, 1, 0}, {1, 0, 0, 0, 0, 0, 0, 0, 254, 255, 255, 255, 255, 255, 255, 255}},
         {3, 3, {1, 2, 1}, {2, 3, 3}, {-1, -1, -1},
          {0, 1, 1}, {1, 0, 0, 0, 0, 0, 0, 0, 254, 255, 255, 255, 255, 255, 255, 255}, {2, 1}, {1, 1, 0}, {1, 0, 0, 0, 0, 0, 0, 0, 254, 255, 255, 255, 255, 255, 255, 255}},
-        {2, 2, {1, 1}, {2, 2}, {STAR_MAX_PRICE, STAR_MIN_PRICE},
-         {1, 0}, {2, 0, 1, 0, 2, 0, 0, 0, 255, 255, 255, 255, 0, 0, 0, 0}, {1, 2}, {0, 1}, {1, 0, 0, 0, 0, 0, 0, 0, 0, 0, 0, 128, 255, 255, 255, 255}},
-        {2, 2, {1, 1}, {2, 2}, {STAR_MAX_PRICE, STAR_MIN_PRICE},
-         {0, 1}, {1, 0, 0, 0, 0, 0, 1, 0, 0, 0, 0, 128, 255, 255, 255, 255}, {0, 0}, {0, 1}, {1, 0, 0, 0, 0, 0, 0, 0, 0, 0, 0, 128, 255, 255, 255, 255}},
+        {3, 3, {1, 2, 1}, {2, 3, 3}, {STAR_MAX_PRICE, STAR_MIN_PRICE, STAR_MIN_PRICE},
+         {1, 1, 0}, {2, 0, 1, 0, 3, 0, 0, 0, 255, 255, 255, 255, 0, 0, 0, 0}, {1, 3}, {0, 1, 1}, {1, 0, 0, 0, 0, 0, 0, 0, 0, 0, 0, 0, 255, 255, 255, 255}},
+        {2, 2, {1, 2}, {2, 1}, {5, 3}, {1, 0}, {0, 15, 2}, {2, 0}, {1, 0}, {0, 15, 2}},
+        {3, 3, {1, 2, 1}, {2, 1, 2}, {5, 3, 1}, {7, 0, 0}, {0, 15, 2}, {2, 0}, {7, 0, 0}, {0, 15, 2}},
+        {3, 3, {1, 2, 3}, {2, 1, 3}, {5, 3, 1}, {1, 1, 0}, {0, 4, 3}, {3, 0}, {1, 1, 0}, {0, 4, 3}},
+        {12, 2, {1, 12}, {12, 3}, {5, 3}, {1, 1}, {0, 9}, {0, 0}, {1, 1}, {0, 11}},
         {2, 1, {1}, {2}, {STAR_MIN_PRICE},
          {1}, {1, 0, 0, 0, 0, 0, 1, 0, 0, 0, 0, 128, 255, 255, 255, 255}, {0, 0}, {1}, {1, 0, 0, 0, 0, 0, 0, 0, 0, 0, 0, 128, 255, 255, 255, 255}},
         {2, 1, {1}, {2}, {STAR_MAX_PRICE},
@@ -537,9 +557,10 @@ static void listed(unsigned long tables) {
     for (k = 0; k < tables; k++) {
         uint32_t n = 1 + any(6);
         size_t m = n == 1 ? 0 : n - 1 + any(n < 4 ? 4 : 6);
+        if (m > pairs_of(n)) m = pairs_of(n);
         struct star_answer a;
         struct trees t;
-        n = fresh(n, m, few[any(4)], 1);
+        n = table_of(n, m, few[any(4)], 1, 0);
         lent(n, MST1);
         lent(n, CST);
         a = star_read_answer(at(&answer));

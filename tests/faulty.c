@@ -21,6 +21,8 @@ static void spoil(uint8_t *answer) {
     if (fault("only-swapped") && pass) answer[6] ^= 1;
     if (fault("only-and-lighter") && answer[0] == STAR_LIGHTER) answer[6] = 1;
     if (fault("only-and-refused") && answer[0] == STAR_REFUSED) answer[6] = 1;
+    if (fault("repeat-at-an-end") && answer[1] == STAR_REPEATED_ROW) answer[1] = STAR_BAD_END;
+    if (fault("repeat-above") && answer[1] == STAR_REPEATED_ROW) answer[2]--;
 }
 
 uint32_t faulty_cst(uint32_t n, COLUMNS, const uint8_t *mark, size_t mark_len, uint8_t *answer, size_t answer_len);

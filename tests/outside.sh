@@ -22,7 +22,7 @@ add() {
 add "$work/door"
 
 # The same tests over doors with a fault each fail, and over doors with none do not.
-for fault in none always-only never-only only-swapped only-and-lighter only-and-refused only-and-built other-rows-swapped other-rows-lacking other-next-row \
+for fault in none always-only never-only only-swapped only-and-lighter only-and-refused only-and-built repeat-at-an-end repeat-above other-rows-swapped other-rows-lacking other-next-row \
     paths-from-one paths-last-column paths-past-the-matrix paths-refusal-as-done; do
     FAULT=$fault "$build/door_test_faulty" 2000 >"$work/faulty" 2>&1
     if [ $? = 0 ] && [ "$fault" != none ] || ! [[ $(tail -n 1 "$work/faulty") =~ failed$ ]]; then

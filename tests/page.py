@@ -179,6 +179,8 @@ with tempfile.TemporaryDirectory() as work:
     # Other refusals give no page; no marks give one; names with letters of HTML are written as they are.
     done = run([(1, 2, 5, 1), (3, 3, 5, 1)], 3, work)
     check("refused: no page", done.returncode == 2 and done.stdout == "" and "Refused (4)" in done.stderr)
+    done = run([(1, 2, 5, 1), (2, 3, 5, 1), (2, 1, 5, 0)], 3, work)
+    check("repeated: no page", done.returncode == 2 and done.stdout == "" and "Refused (15)" in done.stderr)
     done = run([(1, 2, 5, 0), (2, 3, 5, 0)], 3, work)
     page = Page(done.stdout)
     sound("unmarked", page)

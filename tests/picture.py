@@ -157,13 +157,6 @@ with tempfile.TemporaryDirectory() as work:
     judge("chain", [(v, v + 1, v, 1) for v in range(1, 40)], 40, 1, work)
     judge("apart", [(1, 2, 5, 1), (2, 3, 3, 0), (4, 5, 5, 1)], 7, 1, work)
     judge("alone", [], 1, 1, work)
-    # Trenches between the same two junctions are drawn apart.
-    parallel = [(1, 2, 5, 1), (2, 1, 3, 0), (1, 2, 7, 0), (2, 1, 7, 0), (1, 2, 1, 0)]
-    done = run("draw", parallel, 2, work)
-    if "Refused" not in done.stderr:
-        p = judge("parallel", parallel, 2, 1, work)
-        middles = [p.middle(t[2]) for t in p.trenches]
-        check("parallel: apart", all((a[0] - b[0]) ** 2 + (a[1] - b[1]) ** 2 > 144 for k, a in enumerate(middles) for b in middles[:k]))
 
 print("%d passed, %d failed" % tuple(counts))
 sys.exit(counts[1] > 0)

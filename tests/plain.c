@@ -30,9 +30,9 @@ static int refuse(uint8_t *answer, unsigned number, size_t place) {
     return 1;
 }
 
-/* Causes 1 to 4. */
+/* Causes 1 to 4, and 15. */
 static int bad_table(const struct call *c, uint8_t *answer) {
-    size_t m = c->left_len, i;
+    size_t m = c->left_len, i, k;
     if (c->n == 0 || c->n > MAX_N) return refuse(answer, 1, 0);
     if (m > MAX_M) return refuse(answer, 2, 0);
     if (c->right_len != m || c->mark_len != m || c->weight_len != 4 * m) return refuse(answer, 3, 0);
@@ -40,6 +40,9 @@ static int bad_table(const struct call *c, uint8_t *answer) {
         unsigned a = c->left[i], b = c->right[i];
         if (a == 0 || b == 0 || a > c->n || b > c->n || a == b) return refuse(answer, 4, i + 1);
     }
+    for (i = 0; i < m; i++)
+        for (k = 0; k < i; k++)
+            if ((c->left[i] == c->left[k] && c->right[i] == c->right[k]) || (c->left[i] == c->right[k] && c->right[i] == c->left[k])) return refuse(answer, 15, i + 1);
     return 0;
 }
 

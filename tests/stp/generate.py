@@ -51,14 +51,19 @@ class Maker:
     def price(self):
         return self.r.choice([self.r.randrange(20), self.r.randrange(2 ** 31), 0, 2 ** 31 - 1, -self.r.randrange(20), -self.r.randrange(2 ** 31), -1, -2 ** 31])
 
-    def rows(self, n, m):
+    def rows(self, n, m, repeats=False):
+        """Rows with ends of 1 to n; no pair twice, unless repeats may come or there are fewer pairs than rows."""
         if n == 1:
             return []
-        rows = []
-        for _ in range(m):
+        rows, pairs = [], set()
+        repeats = repeats or m > n * (n - 1) // 2
+        while len(rows) < m:
             a = self.r.randint(1, n)
             b = self.r.randint(1, n - 1)
-            rows.append((a, b + (b >= a), self.price()))
+            b += b >= a
+            if repeats or frozenset((a, b)) not in pairs:
+                pairs.add(frozenset((a, b)))
+                rows.append((a, b, self.price()))
         return rows
 
     def graph(self, n, rows, edges=None):
@@ -98,8 +103,8 @@ class Maker:
         return bytes(out)
 
     def small(self):
-        n = self.r.choice([1, 2, 2, 3, 4, 10, 254, 255])
-        return n, self.rows(n, self.r.choice([0, 1, 2, 3, 5, 8]))
+        n = self.r.choice([1, 2, 3, 4, 5, 10, 254, 255])
+        return n, self.rows(n, min(n * (n - 1) // 2, self.r.choice([0, 1, 2, 3, 5, 8])))
 
     def small_lines(self):
         return self.lines(*self.small())
@@ -211,10 +216,29 @@ LINE_DAMAGE = [word_removed, word_doubled, words_swapped, word_inserted, word_re
 def valid(make):
     for _ in range(300):
         yield Text("valid", make.text(make.small_lines()))
-    for n, m in [(255, 254), (255, 1023), (255, 1024), (2, 1023), (2, 1024), (100, 700), (1, 0), (255, 0)]:
+    for n, m in [(255, 254), (255, 1023), (255, 1024), (46, 1023), (46, 1024), (100, 700), (1, 0), (255, 0)]:
         for _ in range(3):
             lines = [[b"33D32945"]] + make.graph(n, make.rows(n, m)) + [[b"EOF"]]
             yield Text("valid, large", b"\n".join(b" ".join(line) for line in lines))
+
+
+def repeated(make):
+    """Pairs that come again, once or more, in either direction; some with an end that is no junction."""
+    for _ in range(120):
+        n = make.r.choice([2, 3, 4, 10, 255])
+        rows = make.rows(n, make.r.choice([1, 2, 5, 8]), True)
+        for _ in range(make.r.choice([0, 1, 1, 2])):
+            a, b, _ = make.r.choice(rows)
+            rows.insert(make.r.randint(0, len(rows)), make.r.choice([(a, b, 1), (b, a, 1), (b, a, -1), (a, b, 2147483647)]))
+        if make.r.randrange(6) == 0:
+            rows.insert(make.r.randint(0, len(rows)), (1, 1, 1))
+        yield Text("repeated pairs", make.text(make.lines(n, rows)))
+    for m in [2, 64, 65, 1023, 1024]:
+        for last in [0, (m - 2) // 2, m - 2]:
+            rows = make.rows(255, m - 1)
+            a, b, w = rows[last]
+            lines = [[b"33D32945"]] + make.graph(255, rows + [(b, a, w)]) + [[b"EOF"]]
+            yield Text("repeated pairs", b"\n".join(b" ".join(line) for line in lines))
 
 
 def damaged(make):
@@ -376,8 +400,8 @@ def known(make):
         yield Text("known", text)
 
 
-PARTS = [known, valid, damaged, cut_short, sections, keyword_bits, numbers, orders, lengths, deep]
-KINDS = ["known", "valid", "valid, large", "byte order mark", "cut short", "second Graph", "no Graph", "word after EOF", "no END", "section without a name",
+PARTS = [known, valid, repeated, damaged, cut_short, sections, keyword_bits, numbers, orders, lengths, deep]
+KINDS = ["known", "valid", "valid, large", "repeated pairs", "byte order mark", "cut short", "second Graph", "no Graph", "word after EOF", "no END", "section without a name",
          "END with a word", "section names", "keyword bits", "numbers", "several causes", "lengths", "deepest"] + [d.__name__ for d in BYTE_DAMAGE + LINE_DAMAGE]
 
 
@@ -393,7 +417,7 @@ def causes():
                 if i > 1:
                     yield f"{form}: word {i} missing, next line"
     yield from ["too long", "no word", "first word wrong", "EOF without a Graph", "a line after EOF", "skipped section: no END", "more E lines",
-                "fewer E lines", "Nodes 0", "Nodes above 255", "too many rows", "an end that is no junction", "equal ends"]
+                "fewer E lines", "Nodes 0", "Nodes above 255", "too many rows", "an end that is no junction", "equal ends", "a repeated pair"]
 
 
 def sample():
@@ -406,7 +430,7 @@ def missing(texts, answers):
     refused = {a.number for a in answers if not isinstance(a, Read)}
     told = {a.cause for a in answers if not isinstance(a, Read)}
     lacks = [f"no text of the kind '{k}'" for k in KINDS if k not in kinds]
-    lacks += [f"no text refused {n}" for n in [12, 13, 1, 2, 4] if n not in refused]
+    lacks += [f"no text refused {n}" for n in [12, 13, 1, 2, 4, 15] if n not in refused]
     lacks += [f"no text refused for '{c}'" for c in causes() if c not in told]
     lacks += [f"a cause without a name in the list: '{c}'" for c in sorted(told - set(causes()))]
     lacks += [f"a kind without a name in the list: '{k}'" for k in sorted(kinds - set(KINDS))]

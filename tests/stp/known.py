@@ -3,6 +3,7 @@
 YARD = b"33D32945 STP File, STP Format Version 1.0\n\nSECTION Graph\nNodes 4\nEdges 5\nE 1 2 5\nE 2 3 3\nE 3 4 5\nE 1 4 4\nE 1 3 6\nEND\n\nEOF\n"
 YARD_PRINTED = "4 5\n1 2 5\n2 3 3\n3 4 5\n1 4 4\n1 3 6\n"
 ONE = b"SECTION Graph\nNodes 1\nEdges 0\nEND\n"
+PAIRS = [(a, b) for a in range(1, 47) for b in range(a + 1, 47)][:1024]
 
 
 def at(text, mark=b"|"):
@@ -35,9 +36,9 @@ KNOWN = [
     (b"33D32945\n" + ONE + b"SECTION Terminals\nTerminals 1\nT 1\nEND\nEOF\n", "1 0\n"),
     (b"33D32945 SECTION Graph EOF\n" + ONE + b"EOF", "1 0\n"),
     (graph(b"Nodes 00000000000002\nEdges 0001\nE 01 0000000000000000000000000000000000000002 002147483647\n"), "2 1\n1 2 2147483647\n"),
-    (graph(b"Nodes 3\nEdges 5\nE 1 2 -5\nE 2 3 -2147483648\nE 1 3 2147483647\nE 3 1 -1\nE 2 1 -2147483647\n"),
-     "3 5\n1 2 -5\n2 3 -2147483648\n1 3 2147483647\n3 1 -1\n2 1 -2147483647\n"),
-    (graph(b"Nodes 2\nEdges 4\nE 1 2 -0\nE 1 2 -007\nE 1 2 -00000000000000000000002147483648\nE 1 2 -000000000000\n"), "2 4\n1 2 0\n1 2 -7\n1 2 -2147483648\n1 2 0\n"),
+    (graph(b"Nodes 4\nEdges 5\nE 1 2 -5\nE 2 3 -2147483648\nE 1 3 2147483647\nE 4 1 -1\nE 2 4 -2147483647\n"),
+     "4 5\n1 2 -5\n2 3 -2147483648\n1 3 2147483647\n4 1 -1\n2 4 -2147483647\n"),
+    (graph(b"Nodes 5\nEdges 4\nE 1 2 -0\nE 1 3 -007\nE 1 4 -00000000000000000000002147483648\nE 1 5 -000000000000\n"), "5 4\n1 2 0\n1 3 -7\n1 4 -2147483648\n1 5 0\n"),
     (b" " * (65536 - 8 - 1 - len(ONE) - 3) + b"33D32945\n" + ONE + b"EOF", "1 0\n"),
     # 12: the length
     (b" " * (65537 - 8 - 1 - len(ONE) - 3) + b"33D32945\n" + ONE + b"EOF", "Refused 12 65536\n"),
@@ -117,7 +118,7 @@ KNOWN = [
     at(graph(b"Nodes 0\nEdges 4294967295\nE 1 1 |4294967295\n")),
     at(graph(b"Nodes 2\nEdges 1025\n" + b"E 1 1 3\n" * 1024 + b"E 1 1 |2147483648\n")),
     at(graph(b"Nodes 2\nEdges 3\nE 1 2 0\nE 2 2 |4294967295\nE 1 2 4294967295\n")),
-    # 13, 1, 2, 4 and their order
+    # 13, 1, 2, 4, 15 and their order
     (graph(b"Nodes 2\nEdges 2\nE 1 2 3\n"), "Refused 13 0\n"),
     (graph(b"Nodes 2\nEdges 0\nE 1 2 3\n"), "Refused 13 0\n"),
     (graph(b"Nodes 0\nEdges 4294967295\nE 1 1 -2147483648\n"), "Refused 13 0\n"),
@@ -130,7 +131,8 @@ KNOWN = [
     (graph(b"Nodes 255\nEdges 0\n"), "255 0\n"),
     (graph(b"Nodes 2\nEdges 1025\n" + b"E 1 1 -2147483648\n" * 1025), "Refused 2 0\n"),
     (graph(b"Nodes 2\nEdges 2048\n" + b"E 1 2 3\n" * 2048), "Refused 2 0\n"),
-    (graph(b"Nodes 2\nEdges 1024\n" + b"E 1 2 3\n" * 1024), "2 1024\n" + "1 2 3\n" * 1024),
+    (graph(b"Nodes 2\nEdges 1024\n" + b"E 1 2 3\n" * 1024), "Refused 15 2\n"),
+    (graph(b"Nodes 46\nEdges 1024\n" + b"".join(b"E %d %d 3\n" % pair for pair in PAIRS)), "46 1024\n" + "".join("%d %d 3\n" % pair for pair in PAIRS)),
     (graph(b"Nodes 255\nEdges 2\nE 255 1 3\nE 256 1 3\n"), "Refused 4 2\n"),
     (graph(b"Nodes 255\nEdges 2\nE 255 1 3\nE 1 257 3\n"), "Refused 4 2\n"),
     (graph(b"Nodes 255\nEdges 1\nE 1 4294967295 3\n"), "Refused 4 1\n"),
@@ -138,4 +140,11 @@ KNOWN = [
     (graph(b"Nodes 3\nEdges 1\nE 0 1 3\n"), "Refused 4 1\n"),
     (graph(b"Nodes 1\nEdges 1\nE 1 1 3\n"), "Refused 4 1\n"),
     (graph(b"Nodes 2\nEdges 3\nE 1 2 0\nE 2 2 -2147483648\nE 0 0 -1\n"), "Refused 4 2\n"),
+    # 15: in either direction, after 4, at the later row
+    (graph(b"Nodes 2\nEdges 2\nE 1 2 5\nE 1 2 5\n"), "Refused 15 2\n"),
+    (graph(b"Nodes 2\nEdges 2\nE 1 2 5\nE 2 1 3\n"), "Refused 15 2\n"),
+    (graph(b"Nodes 3\nEdges 3\nE 1 2 5\nE 2 1 5\nE 3 3 5\n"), "Refused 4 3\n"),
+    (graph(b"Nodes 3\nEdges 4\nE 1 2 5\nE 2 3 5\nE 2 1 5\nE 1 2 5\n"), "Refused 15 3\n"),
+    (graph(b"Nodes 123\nEdges 3\nE 1 23 5\nE 12 3 5\nE 112 3 5\n"), "123 3\n1 23 5\n12 3 5\n112 3 5\n"),
+    (graph(b"Nodes 46\nEdges 1024\n" + b"".join(b"E %d %d 3\n" % pair for pair in PAIRS[:1023]) + b"E %d %d 4\n" % PAIRS[0][::-1]), "Refused 15 1024\n"),
 ]

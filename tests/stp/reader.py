@@ -153,6 +153,10 @@ def read(text):
             return Refused(4, i, "an end that is no junction")
         if a == b:
             return Refused(4, i, "equal ends")
+    pairs = [frozenset((a, b)) for a, b, _ in rows]
+    for i, pair in enumerate(pairs, 1):
+        if pairs.index(pair) + 1 < i:
+            return Refused(15, i, "a repeated pair")
     return Read(n, rows)
 
 

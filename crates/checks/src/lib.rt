@@ -1,14 +1,14 @@
-// The checks that every procedure makes of a table, and CST and MatrixPath of a claim: causes 1 to 4, 6 and 9, each for columns of any bytes and any lengths.
+// The checks that every procedure makes of a table, and CST and MatrixPath of a claim: causes 1 to 4, 15, 6 and 9, each for columns of any bytes and any lengths.
 // Rows are counted from 1; 0 is no row, and a byte past a column's end reads 0.
 ghost use Prim.Native.Nat.{ℕ, _≤_};
 ghost use mathlib.Core.List.{List, [], _∷_, _++_};
 ghost use mathlib.Core.Path.{_≡_};
 ghost use lib.ListN.{length, getD};
 ghost use Rattle.rowset.specs.Bytes.{inRow};
-ghost use Rattle.rowset.specs.Sets.{uppermost, count};
+ghost use Rattle.rowset.specs.Sets.{upTo, uppermost, count};
 ghost use Rattle.refusal.specs.Outcomes.{refusalOf};
 ghost use Rattle.star.specs.Call.{marked, callOf};
-ghost use Rattle.star.specs.Refusals.{maxRows, cause, causeAt, orElse, refusal, badVertices, tooManyRows, wrongLengths, wrongEnds, wrongByte, wrongCount, badClaim, rowCauses, tableCauses};
+ghost use Rattle.star.specs.Refusals.{maxRows, cause, causeAt, orElse, refusal, badVertices, tooManyRows, wrongLengths, wrongEnds, repeatsAbove, wrongByte, wrongCount, badClaim, rowCauses, tableCauses};
 use refusal::Outcome;
 use refusal::Refusal;
 
@@ -136,17 +136,35 @@ fn first_bad_row(n: u32, left: &[u8], right: &[u8]) -> usize
     0
 }
 
-// Cause 4, of a table with at most 1,024 rows, whatever its weights and claim.
+// The uppermost row that joins the same pair of ends as a row above it, 0 where there is none. One pass from the top: the pairs of the rows above are in a set of pairs.
+fn first_repeat(left: &[u8], right: &[u8]) -> usize
+    ensures { λ r.
+        let m = length (now (left .entry)) in
+        ⌜ r ≡ uppermost m (repeatsAbove (upTo m) (now (left .entry)) (now (right .entry))) ⌝ }
+{
+    let mut above: [u64; pairs::WORDS] = [0; pairs::WORDS];
+    let mut row = 1;
+    while row <= left.len() {
+        if pairs::put(&mut above, row_byte(left, row), row_byte(right, row)) {
+            return row;
+        }
+        row += 1;
+    }
+    0
+}
+
+// Causes 4 and 15, of a table with at most 1,024 rows, whatever its weights and claim.
 fn rows_check(n: u32, left: &[u8], right: &[u8]) -> Outcome
     requires { ⌜ length (now left) ≤ maxRows ⌝ }
     ensures { λ r.
         let table = callOf n (now (left .entry)) (now (right .entry)) in
         ⌜ ((weight mark : List ℕ) → refusalOf r ≡ refusal (rowCauses (table weight mark))) ⌝ }
 {
-    refused_at(4, first_bad_row(n, left, right) as u32)
+    let ends = refused_at(4, first_bad_row(n, left, right) as u32);
+    first(ends, refused_at(15, first_repeat(left, right) as u32))
 }
 
-// Causes 1 to 4.
+// Causes 1 to 4 and 15.
 pub fn table_check(n: u32, left: &[u8], right: &[u8], weight: &[u8], mark: &[u8]) -> Outcome
     ensures { λ r.
         let c = callOf n (now (left .entry)) (now (right .entry)) (now (weight .entry)) (now (mark .entry)) in
@@ -175,7 +193,7 @@ fn first_bad_mark(m: usize, mark: &[u8]) -> usize
     0
 }
 
-// Causes 1 to 4 and 6.
+// Causes 1 to 4, 15 and 6.
 pub fn claim_check(n: u32, left: &[u8], right: &[u8], weight: &[u8], mark: &[u8]) -> Outcome
     ensures { λ r.
         let c = callOf n (now (left .entry)) (now (right .entry)) (now (weight .entry)) (now (mark .entry)) in

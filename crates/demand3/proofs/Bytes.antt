@@ -8,7 +8,7 @@ use lib.ListN.{length}
 use lib.Signed.{mag}
 use mathlib.Core.Bool.{Bool, true, false, cond}
 use mathlib.Core.List.{List, [], _∷_, _++_}
-use mathlib.Core.Logic.{_↔_, ⊎-elim}
+use mathlib.Core.Logic.{_↔_, _⊎_, inl, inr, ⊎-elim}
 use mathlib.Core.Option.{Option, none, some}
 use mathlib.Core.Path.{_≡_, refl, sym, ap, _∙_, subst}
 use native.Mathlib.Decide.{ℕ-discrete}
@@ -23,13 +23,14 @@ use Rattle.rowset.proofs.Laws.{uppermost-some}
 use Rattle.rowset.proofs.Signed.{bits-back, bits-small, total-small}
 use Rattle.rowset.specs.Bytes.{little, inRow}
 use Rattle.rowset.specs.Integers.{toBits, total}
+use Rattle.rowset.specs.Sets.{uppermost}
 use Rattle.star.proofs.Accepted.{some-cons, some-cause, some-causeAt, none-nil, cause-none, none-head, accepted-means}
 use Rattle.star.specs.Accepted.{AcceptedTable}
 use Rattle.star.specs.Call.{Call, rowsOf, weightOf, claimWeight, withClaim}
 use Rattle.star.specs.Cst.{Answer, refused, passed, lighter, verdict, cst, EqualRows, equalRows}
 use Rattle.star.specs.Door.{Fields, fields, builtFields, fieldsBeside, otherFields, bytesOf, fieldBytes, readBack, wellLent, doorReturns, answerAfter, cstDoor, mst1Door, otherDoor, mst1DoorMarks}
 use Rattle.star.specs.Mst1.{BuildAnswer, unbuilt, treeBuilt, built, mst1, builtMarks, mst1Marks}
-use Rattle.star.specs.Refusals.{maxRows, cause, badVertices, tooManyRows, badLengths, badEnds, badRow, tableCauses, cstCauses, mst1Causes, orElse, refusal, Accepted}
+use Rattle.star.specs.Refusals.{maxRows, cause, causeAt, badVertices, tooManyRows, badLengths, badEnds, badRow, repeats, repeatedRow, tableCauses, cstCauses, mst1Causes, orElse, refusal, Accepted}
 
 -- fields that fit their bytes
 record Fits (f : Fields) : Type 0 where
@@ -58,29 +59,31 @@ field-bytes f h =
       fields = rw (one-byte (f .kind) (h .kind), one-byte (f .number) (h .number), two-bytes (f .out) (h .out), two-bytes (f .into) (h .into), one-byte (f .only) (h .only), eight (toBits 64 (f .amount)) (bits-small 63 (f .amount) (h .amount)), bits-back 63 (f .amount) (h .amount));
     }
 
--- a refusal of the table has a number of 1 to 4, and its place is 0 or a row
+-- a refusal of the table has a number of 1 to 4, or 15, and its place is 0 or a row
 record TableRefusal (r : Refusal) : Type 0 where
-  number : (1 ≤ r .number) × (r .number ≤ 4)
+  number : ((1 ≤ r .number) × (r .number ≤ 4)) ⊎ (r .number ≡ 15)
   place : r .place ≤ 1024
 
 module _ (c : Call) (r : Refusal) where
   table-refusal : refusal (tableCauses c) ≡ some r → TableRefusal r
-  unfolding tableCauses badVertices tooManyRows badLengths badRow
+  unfolding tableCauses badVertices tooManyRows badLengths badRow repeatedRow
   table-refusal e =
       ⊎-elim (plain 1 (omega arith, omega arith) _) (λ h.
       ⊎-elim (plain 2 (omega arith, omega arith) _) (λ k.
       ⊎-elim (plain 3 (omega arith, omega arith) _) (λ z.
-      ⊎-elim (row (k .0)) (λ y. absurd (apart r (sym (y .1) ∙ none-nil))) (some-cons _ _ r (z .1)))
+      ⊎-elim (row (k .0) 4 (inl (omega arith, omega arith)) (badEnds c)) (λ y.
+      ⊎-elim (row (k .0) 15 (inr refl) (repeats c)) (λ x. absurd (apart r (sym (x .1) ∙ none-nil))) (some-cons _ _ r (y .1)))
+      (some-cons _ _ r (z .1)))
       (some-cons _ _ r (k .1))) (some-cons _ _ r (h .1))) (some-cons _ _ r e)
     where
       plain : (k : ℕ) → (1 ≤ k) × (k ≤ 4) → (b : Bool) → cause b k 0 ≡ some r → TableRefusal r
-      plain k l b e = subst TableRefusal (some-cause b k 0 r e .1) (record { number = l; place = omega arith })
+      plain k l b e = subst TableRefusal (some-cause b k 0 r e .1) (record { number = inl l; place = omega arith })
 
-      row : tooManyRows (rowsOf c) ≡ none → badRow c ≡ some r → TableRefusal r
-      row few e =
+      row : tooManyRows (rowsOf c) ≡ none → (k : ℕ) → ((1 ≤ k) × (k ≤ 4)) ⊎ (k ≡ 15) → (p : ℕ → Bool) → causeAt k (uppermost (rowsOf c) p) ≡ some r → TableRefusal r
+      row few k l p e =
           let (j, u, q) = some-causeAt _ _ r e in
-          let low = uppermost-some (rowsOf c) j (badEnds c) u .1 in
-          subst TableRefusal q (record { number = (omega arith, omega arith); place = omega (arith, ltb-false maxRows (rowsOf c) (cause-none _ 2 0 few)) })
+          let low = uppermost-some (rowsOf c) j p u .1 in
+          subst TableRefusal q (record { number = l; place = omega (arith, ltb-false maxRows (rowsOf c) (cause-none _ 2 0 few)) })
 
   -- where the table is refused, so is the call
   refused-first : (ys : List (Option Refusal)) (xs : List (Option Refusal)) → refusal xs ≡ some r → refusal (xs ++ ys) ≡ some r
@@ -121,7 +124,11 @@ module _ (c : Call) (r : Refusal) (e : refusal (tableCauses c) ≡ some r) where
 -- the fields of a refusal of the table, by CST and by MST1
 table-fits : (r : Refusal) → TableRefusal r → Fits (fields (refused r))
 unfolding fields
-table-fits r t = record { kind = omega arith; number = omega (arith, t .number); out = omega (arith, t .place); into = omega arith; only = omega arith; amount = omega arith }
+table-fits r t = record { kind = omega arith; number = small (t .number); out = omega (arith, t .place); into = omega arith; only = omega arith; amount = omega arith }
+  where
+    small : ((1 ≤ r .number) × (r .number ≤ 4)) ⊎ (r .number ≡ 15) → r .number < 256
+    small (inl h) = omega (arith, h .1)
+    small (inr e) = omega arith
 
 -- a refusal has the same fields by CST, by CST with an exchange, and by MST1
 unbuilt-fields : (r : Refusal) → builtFields (unbuilt r) ≡ fields (refused r)

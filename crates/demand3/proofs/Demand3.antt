@@ -37,7 +37,7 @@ use Rattle.star.specs.Call.{Call, rowsOf, graphOf, weightOf, marked, claimWeigh
 use Rattle.star.specs.Cst.{Answer, refused, passed, lighter, rowIn, rowOut, only, judged, verdict, cst}
 use Rattle.demand3.specs.Demand3.{ClaimTree, LeastClaim, WorthExchange, ZeroOrOne, RightCount, Fault, bad-byte, bad-count, cut-off, Holds, Demand3}
 use Rattle.star.specs.Mst1.{BuildAnswer, unbuilt, treeBuilt, chosenRows, treeRows, built, mst1, builtMarks, mst1Marks}
-use Rattle.star.specs.Refusals.{cause, causeAt, badVertices, tooManyRows, badLengths, badRow, badEnds, badClaim, badCount, unjoined, noTree, isNone, tableCauses, cstCauses, mst1Causes, refusal, orElse, Accepted}
+use Rattle.star.specs.Refusals.{cause, causeAt, badVertices, tooManyRows, badLengths, badRow, badEnds, repeats, repeatedRow, badClaim, badCount, unjoined, noTree, isNone, tableCauses, cstCauses, mst1Causes, refusal, orElse, Accepted}
 
 -- position 0 holds no byte
 byte-none : (l : List ℕ) → inRow 1 l 0 ≡ 0
@@ -391,7 +391,7 @@ module _ (c : Call) (a : Accepted c) where
 
 -- another claim of m bytes leaves the table accepted
 accepted-claim : (c : Call) (l : List ℕ) → length l ≡ length (c .mark) → Accepted c → Accepted (withClaim c l)
-unfolding tableCauses badVertices tooManyRows badLengths badRow badEnds
+unfolding tableCauses badVertices tooManyRows badLengths badRow badEnds repeatedRow repeats
 accepted-claim c l e a = rw e a
 
 -- a least tree that was grown is passed as a claim, with its weight

@@ -3,7 +3,7 @@
 -- Cites definitions alone; the proof is proofs/Bytes.antt. Assumes nothing.
 use Prim.Native.Nat.{ℕ, _≤_}
 use mathlib.Core.List.{List}
-use mathlib.Core.Logic.{_↔_}
+use mathlib.Core.Logic.{_↔_, _⊎_}
 use mathlib.Core.Path.{_≡_}
 use lib.IntN.{pos}
 use lib.ListN.{length}
@@ -57,10 +57,10 @@ pub record BuiltMeans (c : Call) (x : Fields) (marks : List ℕ) : Type 0 where
   -- nothing is said about other trees
   pub only : x .only ≡ 0
 
--- a table that is not accepted: kind 0, with a number of 1 to 4
+-- a table that is not accepted: kind 0, with a number of 1 to 4, or 15
 pub record TableDeclined (x : Fields) : Type 0 where
   pub kind : x .kind ≡ 0
-  pub number : (1 ≤ x .number) × (x .number ≤ 4)
+  pub number : ((1 ≤ x .number) × (x .number ≤ 4)) ⊎ (x .number ≡ 15)
   pub only : x .only ≡ 0
 
 -- a call of star_cst with the columns c: what it returns, and the lent answer before and after

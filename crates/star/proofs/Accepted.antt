@@ -1,23 +1,23 @@
 -- What an accepted table gives: a sound graph, and columns of the right lengths.
 -- Assumes nothing.
-use Prim.Native.Nat.{ℕ, zero, suc, _+_, _*_, _≤_, _<_}
-use mathlib.Core.Bool.{Bool, true, false, not, _||_}
+use Prim.Native.Nat.{ℕ, zero, suc, _+_, _*_, _-_, _≤_, _<_}
+use mathlib.Core.Bool.{Bool, true, false, not, _&&_, _||_, and-eq-true-iff, and-false, or-true}
 use mathlib.Core.List.{List, [], _∷_, _++_}
 use mathlib.Core.Logic.{_↔_, _≢_, _⊎_, inl, inr}
 use mathlib.Core.Option.{Option, none, some}
 use mathlib.Core.Path.{_≡_, refl, sym, ap, _∙_}
-use borrow.Author.Tests.{ltb-false, le-ltb, eqb-false, eqb-true, eq-eqb, ne-eqb, not-false}
+use borrow.Author.Tests.{ltb-true, ltb-false, le-ltb, eqb-false, eqb-true, eq-eqb, ne-eqb, not-false}
 use lib.Dec.{eqb, ltb}
 use lib.ListN.{length}
 use native.Mathlib.Omega.{arith}
 use Rattle.graph.specs.Graph.{Graph, Sound}
 use Rattle.refusal.specs.declared.Refusal.{Refusal}
 use Rattle.rowset.specs.Bytes.{inRow}
-use Rattle.rowset.specs.Sets.{upTo, uppermost}
-use Rattle.rowset.proofs.Laws.{uppermost-none, uppermost-zero, in-upTo, upTo-in}
-use Rattle.star.specs.Accepted.{Row, AcceptedTable, AcceptedMeans}
+use Rattle.rowset.specs.Sets.{upTo, any, uppermost}
+use Rattle.rowset.proofs.Laws.{refuted, clash, any-none, none-any, uppermost-none, uppermost-zero, in-upTo, upTo-in}
+use Rattle.star.specs.Accepted.{Row, SamePair, AcceptedTable, AcceptedMeans}
 use Rattle.star.specs.Call.{Call, rowsOf, graphOf}
-use Rattle.star.specs.Refusals.{maxVertices, maxRows, cause, causeAt, badVertices, tooManyRows, badLengths, badEnds, badRow, tableCauses, orElse, refusal, Accepted}
+use Rattle.star.specs.Refusals.{maxVertices, maxRows, cause, causeAt, badVertices, tooManyRows, badLengths, badEnds, badRow, samePair, repeatsAbove, repeats, repeatedRow, tableCauses, orElse, refusal, Accepted}
 
 -- a disjunction that fails
 or-left : (a b : Bool) → (a || b) ≡ false → a ≡ false
@@ -95,6 +95,23 @@ unfolding causeAt
 causeAt-none k zero e = refl
 causeAt-none k (suc i) e = cc
 
+-- the same pair of ends, in words and back
+pub pair-same : (a b x y : ℕ) → samePair a b x y ≡ true → ((a ≡ x) × (b ≡ y)) ⊎ ((a ≡ y) × (b ≡ x))
+pair-same a b x y e = go (eqb a x && eqb b y) refl e
+  where
+    equal : (p q r s : ℕ) → (eqb p q && eqb r s) ≡ true → (p ≡ q) × (r ≡ s)
+    equal p q r s h =
+        let (k, l) = and-eq-true-iff (eqb p q) (eqb r s) .0 h in
+        (eqb-true p q k, eqb-true r s l)
+
+    go : (t : Bool) → (eqb a x && eqb b y) ≡ t → (t || eqb a y && eqb b x) ≡ true → ((a ≡ x) × (b ≡ y)) ⊎ ((a ≡ y) × (b ≡ x))
+    go true h k = inl (equal a x b y h)
+    go false h k = inr (equal a y b x k)
+
+pub same-pair : (a b x y : ℕ) → ((a ≡ x) × (b ≡ y)) ⊎ ((a ≡ y) × (b ≡ x)) → samePair a b x y ≡ true
+same-pair a b x y (inl (h, k)) = rw (h, k, eq-eqb x x refl, eq-eqb y y refl)
+same-pair a b x y (inr (h, k)) = rw (h, k, eq-eqb x x refl, eq-eqb y y refl) (or-true (eqb y x && eqb x y))
+
 -- what acceptance says of a call
 pub record Taken (c : Call) : Type 0 where
   pub some-vertex : 1 ≤ c .n
@@ -104,9 +121,10 @@ pub record Taken (c : Call) : Type 0 where
   pub mark-length : length (c .mark) ≡ rowsOf c
   pub weight-length : length (c .weight) ≡ 4 * rowsOf c
   pub good-ends : (i : ℕ) → 1 ≤ i → i ≤ rowsOf c → badEnds c i ≡ false
+  pub no-repeat : (i : ℕ) → 1 ≤ i → i ≤ rowsOf c → repeats c i ≡ false
 
 pub taken : (c : Call) → Accepted c → Taken c
-unfolding tableCauses badVertices tooManyRows badLengths badRow
+unfolding tableCauses badVertices tooManyRows badLengths badRow repeatedRow
 taken c e =
     record {
       some-vertex = omega (arith, eqb-false (c .n) 0 (or-left (eqb (c .n) 0) (ltb maxVertices (c .n)) vertices));
@@ -115,20 +133,24 @@ taken c e =
       right-length = eqb-true _ _ (not-false _ (or-left right mark (or-left (right || mark) weight lengths)));
       mark-length = eqb-true _ _ (not-false _ (or-right right mark (or-left (right || mark) weight lengths)));
       weight-length = eqb-true _ _ (not-false _ (or-right (right || mark) weight lengths));
-      good-ends = uppermost-none (rowsOf c) (badEnds c) (causeAt-none 4 _ (none-head _ _ (none-tail _ _ e₃)));
+      good-ends = uppermost-none (rowsOf c) (badEnds c) (causeAt-none 4 _ (none-head _ _ e₄));
+      no-repeat = uppermost-none (rowsOf c) (repeats c) (causeAt-none 15 _ (none-head _ _ (none-tail _ _ e₄)));
     }
   where
     vertices : (eqb (c .n) 0 || ltb maxVertices (c .n)) ≡ false
     vertices = cause-none _ 1 0 (none-head _ _ e)
 
-    e₂ : refusal (tooManyRows (rowsOf c) ∷ badLengths c ∷ badRow c ∷ []) ≡ none
+    e₂ : refusal (tooManyRows (rowsOf c) ∷ badLengths c ∷ badRow c ∷ repeatedRow c ∷ []) ≡ none
     e₂ = none-tail _ _ e
 
     rows : ltb maxRows (rowsOf c) ≡ false
     rows = cause-none _ 2 0 (none-head _ _ e₂)
 
-    e₃ : refusal (badLengths c ∷ badRow c ∷ []) ≡ none
+    e₃ : refusal (badLengths c ∷ badRow c ∷ repeatedRow c ∷ []) ≡ none
     e₃ = none-tail _ _ e₂
+
+    e₄ : refusal (badRow c ∷ repeatedRow c ∷ []) ≡ none
+    e₄ = none-tail _ _ e₃
 
     right : Bool
     right = not (eqb (length (c .right)) (rowsOf c))
@@ -191,6 +213,29 @@ sound c t =
 or-none : {a b : Bool} → a ≡ false → b ≡ false → (a || b) ≡ false
 or-none e h = rw (e, h)
 
+-- a row and one above it do not join the same pair
+no-pair-above : (c : Call) → Taken c → (i k : ℕ) → Row c k → Row c i → k < i → SamePair c k i → ⊥
+unfolding repeats repeatsAbove
+no-pair-above c t i k r q l p = clash above (any-none (i - 1) _ none-above k (r .0) (omega arith))
+  where
+    above : (upTo (rowsOf c) k && samePair (inRow 1 (c .left) k) (inRow 1 (c .right) k) (inRow 1 (c .left) i) (inRow 1 (c .right) i)) ≡ true
+    above = rw (in-upTo (rowsOf c) k (r .0) (r .1), same-pair _ _ _ _ p)
+
+    none-above : any (i - 1) (λ k. upTo (rowsOf c) k && samePair (inRow 1 (c .left) k) (inRow 1 (c .right) k) (inRow 1 (c .left) i) (inRow 1 (c .right) i)) ≡ false
+    none-above = rw (in-upTo (rowsOf c) i (q .0) (q .1)) at (t .no-repeat i (q .0) (q .1))
+
+one-row : (c : Call) → Taken c → (i k : ℕ) → Row c i → Row c k → SamePair c i k → i ≡ k
+one-row c t i k r q p = go (ltb i k) refl (ltb k i) refl
+  where
+    back : SamePair c i k → SamePair c k i
+    back (inl (x, y)) = inl (sym x, sym y)
+    back (inr (x, y)) = inr (sym y, sym x)
+
+    go : (a : Bool) → ltb i k ≡ a → (b : Bool) → ltb k i ≡ b → i ≡ k
+    go true e b f = absurd (no-pair-above c t k i r q (ltb-true i k e) p)
+    go false e true f = absurd (no-pair-above c t i k q r (ltb-true k i f) (back p))
+    go false e false f = omega (arith, ltb-false i k e, ltb-false k i f)
+
 -- an accepted table in words
 in-words : (c : Call) → Taken c → AcceptedTable c
 unfolding graphOf
@@ -204,6 +249,7 @@ in-words c t =
       left-end = λ i r. s .left i (row i r);
       right-end = λ i r. s .right i (row i r);
       apart = λ i r. s .apart i (row i r);
+      unrepeated = λ i k r q p. one-row c t i k r q p;
     }
   where
     s : Sound (graphOf c)
@@ -214,12 +260,13 @@ in-words c t =
 
 -- and back
 from-words : (c : Call) → AcceptedTable c → Accepted c
-unfolding tableCauses badVertices tooManyRows badLengths badRow badEnds
+unfolding tableCauses badVertices tooManyRows badLengths badRow badEnds repeatedRow repeats repeatsAbove
 from-words c a =
     none-both _ _ (none-cause _ 1 0 (or-none (positive (c .n) (a .vertices .0)) (le-ltb _ _ (a .vertices .1))))
     (none-both _ _ (none-cause _ 2 0 (le-ltb _ _ (a .rows)))
     (none-both _ _ (none-cause _ 3 0 (or-none (or-none (same (a .right-length)) (same (a .mark-length))) (same (a .weight-length))))
-    (none-both _ _ (none-causeAt 4 (uppermost-zero (rowsOf c) (badEnds c) good)) none-nil)))
+    (none-both _ _ (none-causeAt 4 (uppermost-zero (rowsOf c) (badEnds c) good))
+    (none-both _ _ (none-causeAt 15 (uppermost-zero (rowsOf c) (repeats c) single)) none-nil))))
   where
     positive : (x : ℕ) → 1 ≤ x → eqb x 0 ≡ false
     positive x h = ne-eqb x 0 (λ e. omega arith)
@@ -234,6 +281,15 @@ from-words c a =
         (or-none (or-none (positive _ (a .left-end i (l, u) .0)) (le-ltb _ _ (a .left-end i (l, u) .1))) (positive _ (a .right-end i (l, u) .0)))
         (le-ltb _ _ (a .right-end i (l, u) .1)))
         (ne-eqb _ _ (a .apart i (l, u)))
+
+    single : (i : ℕ) → 1 ≤ i → i ≤ rowsOf c → repeats c i ≡ false
+    single i l u =
+        ap (λ b. upTo (rowsOf c) i && b) (none-any (i - 1) _ (λ k a₁ a₂. ap (λ b. upTo (rowsOf c) k && b) (refuted _ (λ e. differs k a₁ a₂ (pair-same _ _ _ _ e)))
+        ∙ and-false (upTo (rowsOf c) k)))
+        ∙ and-false (upTo (rowsOf c) i)
+      where
+        differs : (k : ℕ) → 1 ≤ k → k ≤ i - 1 → SamePair c k i → ⊥
+        differs k l₁ u₁ p = omega (arith, a .unrepeated k i (l₁, omega arith) (l, u) p)
 
 pub accepted-means : AcceptedMeans
 accepted-means c = (λ e. in-words c (taken c e), from-words c)

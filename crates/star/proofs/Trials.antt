@@ -14,7 +14,7 @@ use Rattle.star.specs.Call.{graphOf, weightOf, marked, claimWeight, clai
 use Rattle.star.specs.Cst.{between, heavier, improves, rowIn, rowOut, equals, replaces, equalIn, equalOut, only, judged, verdict, cst, rowsBeside, equalRows}
 use Rattle.star.specs.MatrixPath.{pathColumn, matrixPath, matrixOr, matrixAfter}
 use Rattle.star.specs.Mst1.{chosenRows, treeRows, built, mst1, builtMarks, mst1Marks}
-use Rattle.star.specs.Refusals.{cause, causeAt, badVertices, tooManyRows, badLengths, badEnds, badRow, badClaim, badSource, shortMatrix, badCount, unjoined, isNone, noTree, tableCauses, matrixPathCauses, cstCauses, mst1Causes, orElse, refusal}
+use Rattle.star.specs.Refusals.{cause, causeAt, badVertices, tooManyRows, badLengths, badEnds, badRow, repeatsAbove, repeats, repeatedRow, badClaim, badSource, shortMatrix, badCount, unjoined, isNone, noTree, tableCauses, matrixPathCauses, cstCauses, mst1Causes, orElse, refusal}
 use Rattle.star.specs.AnswerTrials.{AnswerTrialsHold}
 use Rattle.star.specs.Door.{fields, builtFields, fieldsBeside, otherFields, bytesOf, fieldBytes, readBack, wellLent, doorReturns, answerAfter, cstDoor, mst1Door, otherDoor, mst1DoorMarks, pathFields, pathsDoor, pathsDoorMatrix}
 use Rattle.star.specs.OnlyTrials.{OnlyTrialsHold}
@@ -23,21 +23,21 @@ use Rattle.star.specs.SignedTrials.{SignedTrialsHold}
 use Rattle.star.specs.Trials.{TrialsHold}
 
 pub trials-hold : TrialsHold
-unfolding xor cheapest choose first next fragment treeOf tree crosses withEnds step grow joined between heavier improves rowIn rowOut equals replaces equalIn equalOut only onPath little inRow greaterThan sameAs smallest largest empty upTo both oneOf without put takeOut any firstOf uppermost sum count fromBits toBits total graphOf weightOf marked claimWeight claimFrom claimOf judged verdict cst wordAt columnWordsFrom matrixWords pathColumn matrixPath matrixOr matrixAfter chosenRows treeRows built mst1 builtMarks mst1Marks cause causeAt badVertices tooManyRows badLengths badEnds badRow badClaim badSource shortMatrix badCount unjoined isNone noTree tableCauses matrixPathCauses cstCauses mst1Causes orElse refusal
+unfolding xor cheapest choose first next fragment treeOf tree crosses withEnds step grow joined between heavier improves rowIn rowOut equals replaces equalIn equalOut only onPath little inRow greaterThan sameAs smallest largest empty upTo both oneOf without put takeOut any firstOf uppermost sum count fromBits toBits total graphOf weightOf marked claimWeight claimFrom claimOf judged verdict cst wordAt columnWordsFrom matrixWords pathColumn matrixPath matrixOr matrixAfter chosenRows treeRows built mst1 builtMarks mst1Marks cause causeAt badVertices tooManyRows badLengths badEnds badRow repeatsAbove repeats repeatedRow badClaim badSource shortMatrix badCount unjoined isNone noTree tableCauses matrixPathCauses cstCauses mst1Causes orElse refusal
 trials-hold = refl
 
 pub refusal-trials-hold : RefusalTrialsHold
-unfolding xor cheapest choose first next fragment treeOf tree crosses withEnds step grow joined between heavier improves rowIn rowOut equals replaces equalIn equalOut only onPath little inRow greaterThan sameAs smallest largest empty upTo both oneOf without put takeOut any firstOf uppermost sum count fromBits toBits total graphOf weightOf marked claimWeight claimFrom claimOf judged verdict cst wordAt columnWordsFrom matrixWords pathColumn matrixPath matrixOr matrixAfter chosenRows treeRows built mst1 builtMarks mst1Marks cause causeAt badVertices tooManyRows badLengths badEnds badRow badClaim badSource shortMatrix badCount unjoined isNone noTree tableCauses matrixPathCauses cstCauses mst1Causes orElse refusal
+unfolding xor cheapest choose first next fragment treeOf tree crosses withEnds step grow joined between heavier improves rowIn rowOut equals replaces equalIn equalOut only onPath little inRow greaterThan sameAs smallest largest empty upTo both oneOf without put takeOut any firstOf uppermost sum count fromBits toBits total graphOf weightOf marked claimWeight claimFrom claimOf judged verdict cst wordAt columnWordsFrom matrixWords pathColumn matrixPath matrixOr matrixAfter chosenRows treeRows built mst1 builtMarks mst1Marks cause causeAt badVertices tooManyRows badLengths badEnds badRow repeatsAbove repeats repeatedRow badClaim badSource shortMatrix badCount unjoined isNone noTree tableCauses matrixPathCauses cstCauses mst1Causes orElse refusal
 refusal-trials-hold = refl
 
 pub answer-trials-hold : AnswerTrialsHold
-unfolding xor cheapest choose first next fragment treeOf tree crosses withEnds step grow joined between heavier improves rowIn rowOut equals replaces equalIn equalOut only onPath little inRow greaterThan sameAs smallest largest empty upTo both oneOf without put takeOut any firstOf uppermost sum count fromBits toBits total graphOf weightOf marked claimWeight claimFrom claimOf judged verdict cst wordAt columnWordsFrom matrixWords pathColumn matrixPath matrixOr matrixAfter chosenRows treeRows built mst1 builtMarks mst1Marks cause causeAt badVertices tooManyRows badLengths badEnds badRow badClaim badSource shortMatrix badCount unjoined isNone noTree tableCauses matrixPathCauses cstCauses mst1Causes orElse refusal exchanged fields builtFields bytesOf fieldBytes readBack wellLent doorReturns answerAfter cstDoor mst1Door mst1DoorMarks pathFields pathsDoor pathsDoorMatrix
-answer-trials-hold = (refl, refl, refl, refl, refl, refl)
+unfolding xor cheapest choose first next fragment treeOf tree crosses withEnds step grow joined between heavier improves rowIn rowOut equals replaces equalIn equalOut only onPath little inRow greaterThan sameAs smallest largest empty upTo both oneOf without put takeOut any firstOf uppermost sum count fromBits toBits total graphOf weightOf marked claimWeight claimFrom claimOf judged verdict cst wordAt columnWordsFrom matrixWords pathColumn matrixPath matrixOr matrixAfter chosenRows treeRows built mst1 builtMarks mst1Marks cause causeAt badVertices tooManyRows badLengths badEnds badRow repeatsAbove repeats repeatedRow badClaim badSource shortMatrix badCount unjoined isNone noTree tableCauses matrixPathCauses cstCauses mst1Causes orElse refusal exchanged fields builtFields bytesOf fieldBytes readBack wellLent doorReturns answerAfter cstDoor mst1Door mst1DoorMarks pathFields pathsDoor pathsDoorMatrix
+answer-trials-hold = (refl, refl, refl, refl, refl, refl, refl)
 
 pub signed-trials-hold : SignedTrialsHold
-unfolding xor cheapest choose first next fragment treeOf tree crosses withEnds step grow joined between heavier improves rowIn rowOut equals replaces equalIn equalOut only onPath little inRow greaterThan sameAs smallest largest empty upTo both oneOf without put takeOut any firstOf uppermost sum count fromBits toBits total graphOf weightOf marked claimWeight claimFrom claimOf judged verdict cst wordAt columnWordsFrom matrixWords pathColumn matrixPath matrixOr matrixAfter chosenRows treeRows built mst1 builtMarks mst1Marks cause causeAt badVertices tooManyRows badLengths badEnds badRow badClaim badSource shortMatrix badCount unjoined isNone noTree tableCauses matrixPathCauses cstCauses mst1Causes orElse refusal exchanged fields builtFields bytesOf fieldBytes readBack wellLent doorReturns answerAfter cstDoor mst1Door mst1DoorMarks
+unfolding xor cheapest choose first next fragment treeOf tree crosses withEnds step grow joined between heavier improves rowIn rowOut equals replaces equalIn equalOut only onPath little inRow greaterThan sameAs smallest largest empty upTo both oneOf without put takeOut any firstOf uppermost sum count fromBits toBits total graphOf weightOf marked claimWeight claimFrom claimOf judged verdict cst wordAt columnWordsFrom matrixWords pathColumn matrixPath matrixOr matrixAfter chosenRows treeRows built mst1 builtMarks mst1Marks cause causeAt badVertices tooManyRows badLengths badEnds badRow repeatsAbove repeats repeatedRow badClaim badSource shortMatrix badCount unjoined isNone noTree tableCauses matrixPathCauses cstCauses mst1Causes orElse refusal exchanged fields builtFields bytesOf fieldBytes readBack wellLent doorReturns answerAfter cstDoor mst1Door mst1DoorMarks
 signed-trials-hold = (refl, refl, (refl, refl, refl))
 
 pub only-trials-hold : OnlyTrialsHold
-unfolding xor cheapest choose first next fragment treeOf tree crosses withEnds step grow joined between heavier improves rowIn rowOut equals replaces equalIn equalOut only onPath little inRow greaterThan sameAs smallest largest empty upTo both oneOf without put takeOut any firstOf uppermost sum count fromBits toBits total graphOf weightOf marked claimWeight claimFrom claimOf judged verdict cst wordAt columnWordsFrom matrixWords pathColumn matrixPath matrixOr matrixAfter chosenRows treeRows built mst1 builtMarks mst1Marks cause causeAt badVertices tooManyRows badLengths badEnds badRow badClaim badSource shortMatrix badCount unjoined isNone noTree tableCauses matrixPathCauses cstCauses mst1Causes orElse refusal exchanged fields builtFields fieldsBeside otherFields bytesOf fieldBytes readBack wellLent doorReturns answerAfter cstDoor mst1Door otherDoor rowsBeside equalRows
+unfolding xor cheapest choose first next fragment treeOf tree crosses withEnds step grow joined between heavier improves rowIn rowOut equals replaces equalIn equalOut only onPath little inRow greaterThan sameAs smallest largest empty upTo both oneOf without put takeOut any firstOf uppermost sum count fromBits toBits total graphOf weightOf marked claimWeight claimFrom claimOf judged verdict cst wordAt columnWordsFrom matrixWords pathColumn matrixPath matrixOr matrixAfter chosenRows treeRows built mst1 builtMarks mst1Marks cause causeAt badVertices tooManyRows badLengths badEnds badRow repeatsAbove repeats repeatedRow badClaim badSource shortMatrix badCount unjoined isNone noTree tableCauses matrixPathCauses cstCauses mst1Causes orElse refusal exchanged fields builtFields fieldsBeside otherFields bytesOf fieldBytes readBack wellLent doorReturns answerAfter cstDoor mst1Door otherDoor rowsBeside equalRows
 only-trials-hold = (refl, refl, refl)

@@ -10,3 +10,4 @@ pub mod RefusalTrials
 pub mod AnswerTrials
 pub mod SignedTrials
 pub mod OnlyTrials
+pub mod RepeatTrials

@@ -29,6 +29,18 @@ abbrev pub parts : List ℕ → Call
 parts claim =
     callOf 5 (1 ∷ 2 ∷ 1 ∷ 4 ∷ 3 ∷ []) (2 ∷ 3 ∷ 3 ∷ 5 ∷ 4 ∷ []) (small 1 ++ (small 1 ++ (small 1 ++ (small 1 ++ small 1)))) claim
 
+-- three rows of weight 1 each, of these ends
+abbrev pub three : (n : ℕ) → (left right claim : List ℕ) → Call
+three n left right claim = callOf n left right (small 1 ++ (small 1 ++ small 1)) claim
+
+-- the same pair three times: 1-2, 1-2 and 2-1
+abbrev pub thrice : List ℕ → Call
+thrice claim = three 2 (1 ∷ 1 ∷ 2 ∷ []) (2 ∷ 2 ∷ 1 ∷ []) claim
+
+-- two rows of weight 1 each between the vertices of 1 to 23
+abbrev pub two : (left right : List ℕ) → Call
+two left right = callOf 23 left right (small 1 ++ small 1) (0 ∷ 0 ∷ [])
+
 -- a matrix of the length given, of sevens
 abbrev sevens : ℕ → List ℕ
 sevens k = replicate k 7
@@ -71,6 +83,20 @@ given =
     ∷ checks (callOf 3 (1 ∷ 0 ∷ 3 ∷ []) (2 ∷ 1 ∷ 3 ∷ []) (replicate 12 0) (7 ∷ 7 ∷ 7 ∷ []))  -- the uppermost such row, before 6
     ∷ builds (callOf 3 (1 ∷ 0 ∷ 3 ∷ []) (2 ∷ 1 ∷ 3 ∷ []) (replicate 12 0) (7 ∷ 7 ∷ 7 ∷ []))
     ∷ fills (callOf 3 (1 ∷ 0 ∷ 3 ∷ []) (2 ∷ 1 ∷ 3 ∷ []) (replicate 12 0) (7 ∷ 7 ∷ 7 ∷ [])) 0 (sevens 2)
+    ∷ checks (three 3 (1 ∷ 2 ∷ 3 ∷ []) (2 ∷ 1 ∷ 3 ∷ []) (1 ∷ 0 ∷ 0 ∷ []))  -- 4 in row 3 before 15 in row 2
+    ∷ checks (three 2 (1 ∷ 1 ∷ 1 ∷ []) (2 ∷ 1 ∷ 2 ∷ []) (1 ∷ 0 ∷ 0 ∷ []))  -- and 4 in row 2 before 15 in row 3
+    ∷ checks (thrice (1 ∷ 0 ∷ 0 ∷ []))  -- 15: the uppermost row that repeats an earlier one
+    ∷ builds (thrice (7 ∷ 8 ∷ 9 ∷ []))  -- the marks stay
+    ∷ checks (three 4 (1 ∷ 3 ∷ 2 ∷ []) (2 ∷ 4 ∷ 1 ∷ []) (1 ∷ 1 ∷ 1 ∷ []))  -- another row between, and the other direction, before 10
+    ∷ checks (three 4 (2 ∷ 3 ∷ 2 ∷ []) (4 ∷ 1 ∷ 4 ∷ []) (1 ∷ 0 ∷ 0 ∷ []))  -- the same direction, before 9
+    ∷ builds (three 4 (2 ∷ 3 ∷ 2 ∷ []) (4 ∷ 1 ∷ 4 ∷ []) (0 ∷ 0 ∷ 0 ∷ []))  -- before 11
+    ∷ checks (thrice (2 ∷ 0 ∷ 0 ∷ []))  -- before 6 in row 1
+    ∷ fills (thrice (1 ∷ 0 ∷ 0 ∷ [])) 3 (sevens 2)  -- before 7 and 8
+    ∷ checks (two (1 ∷ 12 ∷ []) (23 ∷ 3 ∷ []))  -- 1-23 and 12-3 are two pairs
+    ∷ checks (two (1 ∷ 2 ∷ []) (4 ∷ 3 ∷ []))  -- and so are 1-4 and 2-3, 2-6 and 3-4, 1-2 and 2-3, 1-3 and 2-3
+    ∷ checks (two (2 ∷ 3 ∷ []) (6 ∷ 4 ∷ []))
+    ∷ checks (two (1 ∷ 2 ∷ []) (2 ∷ 3 ∷ []))
+    ∷ checks (two (1 ∷ 2 ∷ []) (3 ∷ 3 ∷ []))
     ∷ checks (yard (0 ∷ 2 ∷ 0 ∷ 255 ∷ 0 ∷ []))  -- 6: the uppermost byte other than 0 and 1, before 9
     ∷ fills (yard (1 ∷ 1 ∷ 0 ∷ 1 ∷ 2 ∷ [])) 0 (sevens 3)  -- before 7 and 8
     ∷ fills (yard (1 ∷ 1 ∷ 0 ∷ 0 ∷ 0 ∷ [])) 0 (sevens 3)  -- 7: s is 0, before 8 and 9
@@ -117,6 +143,20 @@ expected =
     ∷ no 4 2  -- the uppermost such row, before 6
     ∷ kept 4 2 (7 ∷ 7 ∷ 7 ∷ [])
     ∷ unfilled 4 2 (sevens 2)
+    ∷ no 4 3  -- 4 in row 3 before 15 in row 2
+    ∷ no 4 2  -- and 4 in row 2 before 15 in row 3
+    ∷ no 15 2  -- 15: the uppermost row that repeats an earlier one
+    ∷ kept 15 2 (7 ∷ 8 ∷ 9 ∷ [])  -- the marks stay
+    ∷ no 15 3  -- another row between, and the other direction, before 10
+    ∷ no 15 3  -- the same direction, before 9
+    ∷ kept 15 3 (0 ∷ 0 ∷ 0 ∷ [])  -- before 11
+    ∷ no 15 2  -- before 6 in row 1
+    ∷ unfilled 15 2 (sevens 2)  -- before 7 and 8
+    ∷ no 9 0  -- 1-23 and 12-3 are two pairs
+    ∷ no 9 0  -- and so are 1-4 and 2-3, 2-6 and 3-4, 1-2 and 2-3, 1-3 and 2-3
+    ∷ no 9 0
+    ∷ no 9 0
+    ∷ no 9 0
     ∷ no 6 2  -- 6: the uppermost byte other than 0 and 1, before 9
     ∷ unfilled 6 5 (sevens 3)  -- before 7 and 8
     ∷ unfilled 7 0 (sevens 3)  -- 7: s is 0, before 8 and 9

@@ -1,8 +1,8 @@
 -- Why a call is declined: each cause with its number and place, and each procedure's causes in their order. The first that applies is the refusal.
 -- A cause that a check finds without the whole call is written over what it looks at, and then taken for a call.
 -- Assumes nothing.
-use Prim.Native.Nat.{ℕ, zero, suc, _*_}
-use mathlib.Core.Bool.{Bool, true, false, not, _||_}
+use Prim.Native.Nat.{ℕ, zero, suc, _*_, _-_}
+use mathlib.Core.Bool.{Bool, true, false, not, _&&_, _||_}
 use mathlib.Core.List.{List, [], _∷_, _++_}
 use mathlib.Core.Option.{Option, none, some}
 use mathlib.Core.Path.{_≡_}
@@ -12,7 +12,7 @@ use Rattle.graph.specs.Builder.{Fragment, tree}
 use Rattle.graph.specs.Graph.{joined}
 use Rattle.refusal.specs.declared.Refusal.{Refusal}
 use Rattle.rowset.specs.Bytes.{inRow}
-use Rattle.rowset.specs.Sets.{uppermost, count}
+use Rattle.rowset.specs.Sets.{upTo, any, uppermost, count}
 use Rattle.rowset.specs.Words.{columnWords}
 use Rattle.star.specs.Call.{Call, rowsOf, graphOf, weightOf, marked}
 
@@ -59,6 +59,22 @@ badEnds c i = wrongEnds (c .n) (inRow 1 (c .left) i) (inRow 1 (c .right) i)
 unfoldable pub badRow : Call → Option Refusal
 badRow c = causeAt 4 (uppermost (rowsOf c) (badEnds c))
 
+-- the ends a and b are the same pair as the ends x and y, in either direction
+abbrev pub samePair : (a b x y : ℕ) → Bool
+samePair a b x y = eqb a x && eqb b y || eqb a y && eqb b x
+
+-- row i is one of the rows, and another of them above it joins the same pair of ends
+unfoldable pub repeatsAbove : (rows : ℕ → Bool) → (left right : List ℕ) → ℕ → Bool
+repeatsAbove rows left right i =
+    rows i && any (i - 1) (λ k. rows k && samePair (inRow 1 left k) (inRow 1 right k) (inRow 1 left i) (inRow 1 right i))
+
+unfoldable pub repeats : Call → ℕ → Bool
+repeats c = repeatsAbove (upTo (rowsOf c)) (c .left) (c .right)
+
+-- 15: the uppermost row that repeats an earlier one
+unfoldable pub repeatedRow : Call → Option Refusal
+repeatedRow c = causeAt 15 (uppermost (rowsOf c) (repeats c))
+
 -- 6: a claim byte other than 0 and 1
 abbrev pub wrongByte : (mark : List ℕ) → ℕ → Bool
 wrongByte mark i = ltb 1 (inRow 1 mark i)
@@ -102,9 +118,9 @@ isNone (some f) = false
 unfoldable pub noTree : Call → Option Refusal
 noTree c = cause (isNone (tree (graphOf c) (weightOf c))) 11 0
 
--- the causes that concern the rows, and those of every procedure that takes the table, in order
+-- the causes that concern the rows, and those of every procedure that takes the table, in order: a 4 in any row goes before a 15 in any row
 abbrev pub rowCauses : Call → List (Option Refusal)
-rowCauses c = badRow c ∷ []
+rowCauses c = badRow c ∷ repeatedRow c ∷ []
 
 unfoldable pub tableCauses : Call → List (Option Refusal)
 tableCauses c = badVertices (c .n) ∷ tooManyRows (rowsOf c) ∷ badLengths c ∷ rowCauses c
@@ -131,6 +147,6 @@ unfoldable pub refusal : List (Option Refusal) → Option Refusal
 refusal [] = none
 refusal (x ∷ xs) = orElse x (refusal xs)
 
--- an accepted table, with its mark column: none of causes 1 to 4 applies
+-- an accepted table, with its mark column: none of causes 1 to 4 and 15 applies
 abbrev pub Accepted : Call → Type 0
 Accepted c = refusal (tableCauses c) ≡ none

@@ -35,9 +35,9 @@ signedYard claim =
 abbrev pub triangle : List ℕ → Call
 triangle claim = callOf 3 (1 ∷ 2 ∷ 1 ∷ []) (2 ∷ 3 ∷ 3 ∷ []) (below 1 ++ (below 1 ++ below 1)) claim
 
--- the two extreme rows: 1-2 weight 2,147,483,647 and 1-2 weight −2,147,483,648
+-- the two extreme rows in a triangle: 1-2 weight 2,147,483,647, 1-3 weight −2,147,483,648 and 2-3 weight 0
 abbrev pub extremes : List ℕ → Call
-extremes claim = callOf 2 (1 ∷ 1 ∷ []) (2 ∷ 2 ∷ []) (most ++ least) claim
+extremes claim = callOf 3 (1 ∷ 1 ∷ 2 ∷ []) (2 ∷ 3 ∷ 3 ∷ []) (most ++ (least ++ small 0)) claim
 
 -- what the definitions give
 abbrev pub given : List Result
@@ -48,8 +48,8 @@ given =
     ∷ builds (triangle (0 ∷ 0 ∷ 0 ∷ []))
     ∷ checks (triangle (1 ∷ 1 ∷ 1 ∷ []))
     ∷ checks (triangle (0 ∷ 1 ∷ 1 ∷ []))
-    ∷ checks (extremes (1 ∷ 0 ∷ []))
-    ∷ checks (extremes (0 ∷ 1 ∷ []))
+    ∷ checks (extremes (1 ∷ 0 ∷ 1 ∷ []))
+    ∷ checks (extremes (0 ∷ 1 ∷ 1 ∷ []))
     ∷ builds (callOf 2 (1 ∷ []) (2 ∷ []) least (0 ∷ []))
     ∷ []
 
@@ -74,8 +74,8 @@ sixteen = replicate 16 7
 
 abbrev pub givenBytes : List (List ℕ)
 givenBytes =
-    cstDoor (extremes (1 ∷ 0 ∷ [])) sixteen
-    ∷ cstDoor (extremes (0 ∷ 1 ∷ [])) sixteen
+    cstDoor (extremes (1 ∷ 0 ∷ 1 ∷ [])) sixteen
+    ∷ cstDoor (extremes (0 ∷ 1 ∷ 1 ∷ [])) sixteen
     ∷ mst1Door (triangle (0 ∷ 0 ∷ 0 ∷ [])) sixteen
     ∷ []
 

@@ -58,7 +58,7 @@ stem claim =
       mark = claim;
     }
 
--- two rows between the same two vertices: 1-2 weight 5 and 2-1 weight 3
+-- the same pair entered twice, from both ends: 1-2 weight 5 and 2-1 weight 3
 abbrev pub twice : List ℕ → Call
 twice claim =
     record { n = 2; left = 1 ∷ 2 ∷ []; right = 2 ∷ 1 ∷ []; weight = small 5 ++ small 3; mark = claim }
@@ -120,7 +120,7 @@ given =
     ∷ []
 
 -- what the trials say: rows 1, 2, 4 with weight 12; lighter, out 1, in 4, saving 1; passed, 12, not the only one; refused 10, place 4; refused 9;
--- columns {1, 2}, {2}, Θ, {1, 2, 4}, and the words after them as they were; weight 0 and passed with 0, the only one; refused 11; lighter, out 1, in 2, saving 2; passed, 11, not the only one.
+-- columns {1, 2}, {2}, Θ, {1, 2, 4}, and the words after them as they were; weight 0 and passed with 0, the only one; refused 11; refused 15, place 2; passed, 11, not the only one.
 -- Two more: the Stem is built without row 4, whose ends are both in the fragment; and of the heavier rows 1 and 2 the uppermost goes out, not the heaviest.
 -- Of the only cheapest tree: the yard's 1, 2, 4 is not the only one; T1 of the paper, 20, is, though rows off the path weigh as much; and so is a tree whose own rows weigh alike
 abbrev pub expected : List Result
@@ -134,7 +134,7 @@ expected =
     ∷ built (treeBuilt (pos 0)) []
     ∷ checked (passed (pos 0) true)
     ∷ built (unbuilt (because 11 0)) []
-    ∷ checked (lighter 1 2 2)
+    ∷ checked (refused (because 15 2))
     ∷ checked (passed (pos 11) false)
     ∷ built (treeBuilt (pos 11)) (1 ∷ 1 ∷ 1 ∷ 0 ∷ [])
     ∷ checked (lighter 1 4 3)

@@ -15,8 +15,8 @@ use native.Mathlib.Omega.{arith}
 use Rattle.refusal.specs.declared.Refusal.{Refusal}
 use Rattle.star.specs.Call.{callOf}
 use Rattle.star.specs.Door.{bytesOf}
-use Rattle.star.specs.Refusals.{maxVertices, maxRows, cause, badVertices, tooManyRows, badLengths, badEnds, badRow, tableCauses, orElse, refusal, Accepted}
-use Rattle.star.proofs.Accepted.{none-head, none-tail, none-both, none-nil, cause-none, none-cause}
+use Rattle.star.specs.Refusals.{maxVertices, maxRows, cause, badVertices, tooManyRows, badLengths, badEnds, badRow, repeats, repeatedRow, rowCauses, tableCauses, orElse, refusal, Accepted}
+use Rattle.star.proofs.Accepted.{none-head, none-tail, none-both, cause-none, none-cause}
 use Rattle.steinlib.specs.Accepted.{ImportTaken, ImportHolds}
 use Rattle.steinlib.specs.Import.{maxText, bounded, readText, tableOf, badColumns, badEdges, importCauses, untaken, taken, sizes, answered, imported, filled, columnsOf, importRefusal, leftAfter, rightAfter, weightAfter}
 use Rattle.steinlib.specs.Reader.{Read, nothingRead, withGraph, withNodes, withEdges, withRow, Stand, opening, heading, sections, naming, skipping, skipped, ending, nodes, nodeCount, edges, edgeCount, lines, leftEnd, rightEnd, price, closed, Next, when, counted, numberThen, priceThen, nextSection, named, graphLine, next, Reading, broken, whole, isClosed, follow, readFrom}
@@ -163,7 +163,7 @@ record Checked (t : Read) (l r w : ℕ) : Type 0 where
   left-lent : l ≡ maxRows
   right-lent : r ≡ maxRows
   weight-lent : w ≡ 4 * maxRows
-  good-rows : badRow (tableOf t) ≡ none
+  good-rows : refusal (rowCauses (tableOf t)) ≡ none
 
 checked : (t : Read) (l r w : ℕ) → refusal (importCauses (whole t) l r w) ≡ none → Checked t l r w
 unfolding importCauses badEdges badVertices tooManyRows badColumns
@@ -177,16 +177,16 @@ checked t l r w e =
       left-lent = eqb-true l maxRows (not-false _ (two .0));
       right-lent = eqb-true r maxRows (not-false _ (two .1));
       weight-lent = eqb-true w (4 * maxRows) (not-false _ (lent .1));
-      good-rows = none-head _ _ (none-tail _ _ e₃);
+      good-rows = none-tail _ _ e₃;
     }
   where
-    e₁ : refusal (badVertices (t .nodes) ∷ tooManyRows (t .rows) ∷ badColumns l r w ∷ badRow (tableOf t) ∷ []) ≡ none
+    e₁ : refusal (badVertices (t .nodes) ∷ tooManyRows (t .rows) ∷ badColumns l r w ∷ rowCauses (tableOf t)) ≡ none
     e₁ = none-tail _ _ e
 
-    e₂ : refusal (tooManyRows (t .rows) ∷ badColumns l r w ∷ badRow (tableOf t) ∷ []) ≡ none
+    e₂ : refusal (tooManyRows (t .rows) ∷ badColumns l r w ∷ rowCauses (tableOf t)) ≡ none
     e₂ = none-tail _ _ e₁
 
-    e₃ : refusal (badColumns l r w ∷ badRow (tableOf t) ∷ []) ≡ none
+    e₃ : refusal (badColumns l r w ∷ rowCauses (tableOf t)) ≡ none
     e₃ = none-tail _ _ e₂
 
     count : (eqb (t .nodes) 0 ≡ false) × (ltb maxVertices (t .nodes) ≡ false)
@@ -201,9 +201,9 @@ checked t l r w e =
 -- the rows that were read, with any claim of as many bytes, are an accepted table
 read-accepted : (t : Read) (l r w : ℕ) → Fit t → Checked t l r w → (claim : List ℕ) → length claim ≡ t .rows →
     Accepted (callOf (t .nodes) (t .left) (t .right) (t .weight) claim)
-unfolding tableCauses tooManyRows badLengths badRow badEnds tableOf
+unfolding tableCauses tooManyRows badLengths badRow badEnds repeatedRow repeats tableOf
 read-accepted t l r w f k claim h =
-    none-both _ _ (k .good-count) (none-both _ _ few (none-both _ _ lengths (none-both _ _ (k .good-rows) none-nil)))
+    none-both _ _ (k .good-count) (none-both _ _ few (none-both _ _ lengths (k .good-rows)))
   where
     lefts : length (t .left) ≡ t .rows
     lefts = omega (arith, f .lefts, k .few-rows)

@@ -3,23 +3,24 @@
 -- Assumes nothing.
 use Prim.Native.Nat.{ℕ, zero, suc, _+_, _*_, _≤_, _<_}
 use Prim.Native.String.{String}
-use mathlib.Core.Bool.{true, false}
-use mathlib.Core.List.{List, [], _∷_, _++_, append-nil}
-use mathlib.Core.Option.{none}
-use mathlib.Core.Path.{_≡_, refl, sym, ap, _∙_}
+use mathlib.Core.Bool.{true, false, and-false}
+use mathlib.Core.List.{List, [], _∷_, _++_}
+use mathlib.Core.Option.{none, some}
+use mathlib.Core.Path.{_≡_, refl, ap, _∙_}
 use borrow.Author.Tests.{le-ltb, lt-ltb}
 use lib.ListN.{length, take, replicate, length-append, length-replicate, getD-replicate}
-use lib.Seq.{take-all, drop-length}
+use lib.Seq.{take-all}
 use native.Mathlib.Omega.{arith}
 use Rattle.rowset.specs.Bytes.{little, inRow}
 use Rattle.rowset.specs.Integers.{toBits}
-use Rattle.rowset.specs.Sets.{uppermost}
-use Rattle.rowset.proofs.Laws.{uppermost-zero}
+use Rattle.refusal.specs.declared.Refusal.{Refusal}
+use Rattle.rowset.specs.Sets.{upTo, any, uppermost}
+use Rattle.rowset.proofs.Laws.{in-upTo, uppermost-zero, uppermost-is}
 use Rattle.star.specs.Call.{Call, callOf, rowsOf}
 use Rattle.star.specs.Door.{bytesOf}
-use Rattle.star.specs.Refusals.{maxRows, cause, causeAt, badVertices, tooManyRows, badEnds, badRow, orElse, refusal}
-use Rattle.star.proofs.Accepted.{none-both, none-nil}
-use Rattle.steinlib.specs.Import.{maxText, untaken, taken, bounded, readText, tableOf, badColumns, badEdges, importCauses, sizes, answered, imported, filled, columnsOf, importRefusal, leftAfter, rightAfter}
+use Rattle.star.specs.Refusals.{maxRows, cause, causeAt, badVertices, tooManyRows, badEnds, badRow, repeatsAbove, repeats, repeatedRow, orElse, refusal}
+use Rattle.star.proofs.Accepted.{none-both, none-nil, refusal-append}
+use Rattle.steinlib.specs.Import.{maxText, untaken, taken, bounded, readText, tableOf, badColumns, badEdges, importCauses, sizes, answered, imported, columnsOf}
 use Rattle.steinlib.specs.Reader.{Read, opening, lines, whole, nothingRead, withGraph, withNodes, withEdges, endOf, withRow, when, counted, numberThen, priceThen, nextSection, named, graphLine, next, isClosed, follow, readFrom}
 use Rattle.steinlib.specs.Trials.{spaced, LengthsHold, linesOf, counting, RowsHold}
 use Rattle.words.specs.Bytes.{bytes, within, classOf, ofWords, upper}
@@ -57,7 +58,7 @@ unfolding one spaced nothingRead withGraph withNodes withEdges when counted numb
 spaced-read k size = rw (no-words k atStart 47)
 
 spaced-taken : (k : ℕ) → 47 + k ≤ maxText → imported (spaced k) 1024 1024 4096 ≡ taken 1 0
-unfolding one imported importCauses badEdges badVertices tooManyRows badColumns badRow tableOf uppermost cause causeAt refusal orElse answered sizes
+unfolding one imported importCauses badEdges badVertices tooManyRows badColumns badRow repeatedRow tableOf uppermost cause causeAt refusal orElse answered sizes
 spaced-taken k h =
     let l : length (spaced k) ≤ maxText = omega (arith, spaced-length k) in
     rw (short-read (spaced k) l, spaced-read k (length (spaced k)))
@@ -179,6 +180,23 @@ good-rows k mark = rw (uppermost-zero (rowsOf (equal-rows k mark)) (badEnds (equ
         let h : i < k = omega (arith, length-replicate {A = ℕ} k 1) in
         rw (row-byte 1 k i h, row-byte 2 k i h)
 
+-- and the second of them repeats the first
+repeated-rows : (k : ℕ) (mark : List ℕ) → 2 ≤ k → repeatedRow (equal-rows k mark) ≡ some (record { number = 15; place = 2 })
+unfolding equal-rows repeatedRow repeats repeatsAbove causeAt any
+repeated-rows k mark h = rw (uppermost-is (rowsOf (equal-rows k mark)) 1 (repeats (equal-rows k mark)) rows second first)
+  where
+    rows : 2 ≤ rowsOf (equal-rows k mark)
+    rows = omega (arith, length-replicate {A = ℕ} k 1)
+
+    second : repeats (equal-rows k mark) 2 ≡ true
+    second =
+        rw (in-upTo (rowsOf (equal-rows k mark)) 2 (omega arith) rows, in-upTo (rowsOf (equal-rows k mark)) 1 (omega arith) (omega (arith, rows)), row-byte 1 k 0 (omega arith), row-byte 1 k 1 (omega arith), row-byte 2 k 0 (omega arith), row-byte 2 k 1 (omega arith))
+
+    first : (i : ℕ) → 1 ≤ i → i ≤ 1 → repeats (equal-rows k mark) i ≡ false
+    first i l u =
+        let z : i ≡ 1 = omega arith in
+        rw z (and-false (upTo (rowsOf (equal-rows k mark)) 1))
+
 -- what is read before the lines of E
 begun : ℕ → ℕ → Read
 begun n e = record { graph = true; nodes = n; edges = e; rows = 0; left = []; right = []; weight = [] }
@@ -231,10 +249,9 @@ module _ (k e : ℕ) (few : k ≤ maxRows) where
   unfolding tableOf begun equal-rows
   good-read = rw (more-nodes k (begun 2 e), left-equal, right-equal, weight-equal) (good-rows k (replicate k 1))
 
--- a column that the rows fill whole
-filled-whole : (column lent : List ℕ) → length column ≡ length lent → filled none column lent ≡ column
-unfolding filled
-filled-whole column lent h = rw (h, drop-length lent) (append-nil column)
+  repeated-read : 2 ≤ k → repeatedRow (tableOf (more k (begun 2 e))) ≡ some (record { number = 15; place = 2 })
+  unfolding tableOf begun equal-rows
+  repeated-read h = rw (more-nodes k (begun 2 e), left-equal, right-equal, weight-equal) (repeated-rows k (replicate k 1) h)
 
 -- what is answered of a text that is read whole, by its counts; these are stated for any text, so that no refused step computes a large one
 module _ (text : List ℕ) (t : Read) (x : readText text ≡ whole t) where
@@ -250,51 +267,36 @@ module _ (text : List ℕ) (t : Read) (x : readText text ≡ whole t) where
   unfolding imported importCauses badEdges badVertices tooManyRows cause refusal orElse answered
   rows-refused l m e n = rw (x, m, e, n)
 
-  module _ (m : t .rows ≡ 1024) (e : t .edges ≡ 1024) (n : t .nodes ≡ 2) (good : badRow (tableOf t) ≡ none) where
-    none-applies : refusal (importCauses (whole t) 1024 1024 4096) ≡ none
-    unfolding importCauses badEdges badVertices tooManyRows badColumns cause
-    none-applies = none-both _ _ (rw (m, e)) (none-both _ _ (rw n) (none-both _ _ (rw m) (none-both _ _ refl (none-both _ _ good none-nil))))
+  none-before : t .rows ≡ 1024 → t .edges ≡ 1024 → t .nodes ≡ 2 → badRow (tableOf t) ≡ none
+      → refusal (badEdges t ∷ badVertices (t .nodes) ∷ tooManyRows (t .rows) ∷ badColumns 1024 1024 4096 ∷ badRow (tableOf t) ∷ []) ≡ none
+  unfolding badEdges badVertices tooManyRows badColumns cause
+  none-before m e n good = none-both _ _ (rw (m, e)) (none-both _ _ (rw n) (none-both _ _ (rw m) (none-both _ _ refl (none-both _ _ good none-nil))))
 
-    rows-taken : imported text 1024 1024 4096 ≡ taken 2 1024
-    unfolding imported answered sizes
-    rows-taken = rw (x, none-applies, m, n)
-
-    module _ (left right weight : List ℕ) (l : length left ≡ 1024) (r : length right ≡ 1024) (w : length weight ≡ 4096) where
-      left-whole : length (t .left) ≡ 1024 → leftAfter text left right weight ≡ t .left
-      unfolding leftAfter importRefusal columnsOf
-      left-whole h = rw (l, r, w, x, none-applies) (filled-whole (t .left) left (h ∙ sym l))
-
-      right-whole : length (t .right) ≡ 1024 → rightAfter text left right weight ≡ t .right
-      unfolding rightAfter importRefusal columnsOf
-      right-whole h = rw (l, r, w, x, none-applies) (filled-whole (t .right) right (h ∙ sym r))
+  repeat-refused : t .rows ≡ 1024 → t .edges ≡ 1024 → t .nodes ≡ 2 → badRow (tableOf t) ≡ none → (r : Refusal) → repeatedRow (tableOf t) ≡ some r → imported text 1024 1024 4096 ≡ untaken r
+  unfolding imported importCauses refusal orElse answered
+  repeat-refused m e n good r again =
+      let told : refusal (importCauses (whole t) 1024 1024 4096) ≡ some r =
+      refusal-append (badEdges t ∷ badVertices (t .nodes) ∷ tooManyRows (t .rows) ∷ badColumns 1024 1024 4096 ∷ badRow (tableOf t) ∷ []) (repeatedRow (tableOf t) ∷ []) (none-before m e n good)
+      ∙ rw again in
+      rw (x, told)
 
 -- 1,024 lines of E, as many as Edges says
 module _ (k : ℕ) (is : k ≡ 1024) where
   most-read : readText (counting "Nodes 2\nEdges 1024\n" k) ≡ whole (more k (begun 2 1024))
   most-read = counting-read "Nodes 2\nEdges 1024\n" 2 1024 opens-most k (omega arith)
 
-  most-rows : more k (begun 2 1024) .rows ≡ 1024
+  most-refused : imported (counting "Nodes 2\nEdges 1024\n" k) 1024 1024 4096 ≡ untaken (record { number = 15; place = 2 })
   unfolding begun
-  most-rows = omega (arith, more-rows k (begun 2 1024))
+  most-refused =
+      repeat-refused _ _ most-read (omega (arith, more-rows k (begun 2 1024))) (more-edges k (begun 2 1024)) (more-nodes k (begun 2 1024)) (good-read k 1024 (omega arith)) _ (repeated-read k 1024 (omega arith) (omega arith))
 
-  most-taken : imported (counting "Nodes 2\nEdges 1024\n" k) 1024 1024 4096 ≡ taken 2 1024
-  unfolding begun
-  most-taken = rows-taken _ _ most-read most-rows (more-edges k (begun 2 1024)) (more-nodes k (begun 2 1024)) (good-read k 1024 (omega arith))
+  most-left : columnsOf (readText (counting "Nodes 2\nEdges 1024\n" k)) .left ≡ replicate k 1
+  unfolding columnsOf
+  most-left = rw most-read (left-equal k 1024 (omega arith))
 
-  module _ (left right weight : List ℕ) (l : length left ≡ 1024) (r : length right ≡ 1024) (w : length weight ≡ 4096) where
-    most-left : leftAfter (counting "Nodes 2\nEdges 1024\n" k) left right weight ≡ replicate k 1
-    unfolding begun
-    most-left =
-        left-whole _ _ most-read most-rows (more-edges k (begun 2 1024)) (more-nodes k (begun 2 1024)) (good-read k 1024 (omega arith)) left right weight l r w
-        (ap length (left-equal k 1024 (omega arith)) ∙ length-replicate {A = ℕ} k 1 ∙ is)
-        ∙ left-equal k 1024 (omega arith)
-
-    most-right : rightAfter (counting "Nodes 2\nEdges 1024\n" k) left right weight ≡ replicate k 2
-    unfolding begun
-    most-right =
-        right-whole _ _ most-read most-rows (more-edges k (begun 2 1024)) (more-nodes k (begun 2 1024)) (good-read k 1024 (omega arith)) left right weight l r w
-        (ap length (right-equal k 1024 (omega arith)) ∙ length-replicate {A = ℕ} k 2 ∙ is)
-        ∙ right-equal k 1024 (omega arith)
+  most-right : columnsOf (readText (counting "Nodes 2\nEdges 1024\n" k)) .right ≡ replicate k 2
+  unfolding columnsOf
+  most-right = rw most-read (right-equal k 1024 (omega arith))
 
 -- 1,025 lines of E
 module _ (k : ℕ) (is : k ≡ 1025) where
@@ -319,9 +321,9 @@ module _ (k : ℕ) (is : k ≡ 1025) where
 pub rows-hold : RowsHold
 rows-hold =
     record {
-      most-taken = most-taken 1024 refl;
-      most-left = most-left 1024 refl _ _ _ refl refl refl;
-      most-right = most-right 1024 refl _ _ _ refl refl refl;
+      most = most-refused 1024 refl;
+      most-left = most-left 1024 refl;
+      most-right = most-right 1024 refl;
       more = more-refused 1025 refl 1024;
       more-short = more-refused 1025 refl 1023;
       more-nodes = more-none 1025 refl;

@@ -8,7 +8,7 @@ use lib.Dec.{eqb, ltb}
 use lib.ListN.{length, drop}
 use Rattle.refusal.specs.declared.Refusal.{Refusal}
 use Rattle.star.specs.Call.{Call}
-use Rattle.star.specs.Refusals.{maxRows, cause, badVertices, tooManyRows, badRow, refusal}
+use Rattle.star.specs.Refusals.{maxRows, cause, badVertices, tooManyRows, rowCauses, refusal}
 use Rattle.steinlib.specs.Reader.{Read, Reading, broken, whole, opening, nothingRead, readFrom}
 use Rattle.words.specs.Text.{words}
 
@@ -40,7 +40,7 @@ badEdges r = cause (not (eqb (r .rows) (r .edges))) 13 0
 unfoldable pub importCauses : Reading → ℕ → ℕ → ℕ → List (Option Refusal)
 importCauses (broken place) l r w = some (record { number = 12; place = place }) ∷ []
 importCauses (whole t) l r w =
-    badEdges t ∷ badVertices (t .nodes) ∷ tooManyRows (t .rows) ∷ badColumns l r w ∷ badRow (tableOf t) ∷ []
+    badEdges t ∷ badVertices (t .nodes) ∷ tooManyRows (t .rows) ∷ badColumns l r w ∷ rowCauses (tableOf t)
 
 -- what an import answers: the refusal, or n and m
 pub data ImportAnswer : Type 0 where

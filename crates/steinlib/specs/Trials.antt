@@ -8,7 +8,7 @@ use lib.ListN.{length, replicate, take}
 use Rattle.refusal.specs.declared.Refusal.{Refusal}
 use Rattle.star.specs.Door.{fieldBytes}
 use Rattle.steinlib.specs.Door.{importFields, importDoor, leftDoor, rightDoor, weightDoor}
-use Rattle.steinlib.specs.Import.{ImportAnswer, untaken, taken, sizes, imported, leftAfter, rightAfter, weightAfter}
+use Rattle.steinlib.specs.Import.{ImportAnswer, untaken, taken, readText, sizes, imported, columnsOf, leftAfter, rightAfter, weightAfter}
 use Rattle.steinlib.specs.Reader.{broken}
 use Rattle.words.specs.Bytes.{bytes}
 use Rattle.words.specs.Trials.{Hold}
@@ -93,7 +93,7 @@ numbers =
     ∷ (proper "33D32945\nSECTION Graph\nNodes x\nEdges 1\nE 1 2 5\nEND\nEOF", untaken (because 12 29))  -- a word that is no number
     ∷ (proper "33D32945\nSECTION Graph\nNodes 3\nEdges 4294967296\nE 1 2 5\nEND\nEOF", untaken (because 12 37))  -- a number too large
     ∷ (proper "33D32945\nSECTION Graph\nNodes 3\nEdges 4294967295\nE 1 2 5\nEND\nEOF", untaken (because 13 0))  -- the largest number is taken for a number
-    ∷ (proper "33D32945\nSECTION Graph\nNodes 255\nEdges 2\nE 255 1 3\nE 1 255 3\nEND\nEOF", taken 255 2)  -- the ends 255 and 1
+    ∷ (proper "33D32945\nSECTION Graph\nNodes 255\nEdges 2\nE 255 1 3\nE 2 255 3\nEND\nEOF", taken 255 2)  -- the ends 255 and 1
     ∷ (proper "33D32945\nSECTION Graph\nNodes 255\nEdges 2\nE 1 2 3\nE 256 2 3\nEND\nEOF", untaken (because 4 2))  -- a left end of 256
     ∷ (proper "33D32945\nSECTION Graph\nNodes 255\nEdges 2\nE 1 2 3\nE 2 256 3\nEND\nEOF", untaken (because 4 2))  -- a right end of 256
     ∷ (proper "33D32945\nSECTION Graph\nNodes 255\nEdges 1\nE 257 258 3\nEND\nEOF", untaken (because 4 1))  -- ends of 257 and 258, whose last bytes alone would be vertices
@@ -117,9 +117,9 @@ numbers =
     ∷ (proper "33D32945\nSECTION Graph\nNodes 0\nEdges 7\nE 1 2 2147483648\nEND\nEOF", untaken (because 12 45))  -- 12 before 13 and 1
     ∷ []
 
--- the text of three vertices and five rows with prices at their bounds
+-- the text of four vertices and five rows with prices at their bounds
 abbrev grants : String
-grants = "33D32945\nSECTION Graph\nNodes 3\nEdges 5\nE 1 2 -5\nE 2 3 2147483647\nE 1 3 -2147483648\nE 1 2 -1\nE 2 3 -0\nEND\nEOF"
+grants = "33D32945\nSECTION Graph\nNodes 4\nEdges 5\nE 1 2 -5\nE 2 3 2147483647\nE 1 3 -2147483648\nE 1 4 -1\nE 2 4 -0\nEND\nEOF"
 
 -- the text of three vertices and two rows, and the same with an end that is no vertex
 abbrev street : String
@@ -146,6 +146,10 @@ causes =
     ∷ (imported (bytes street) 1024 1024 4097, untaken (because 3 0))
     ∷ (imported (bytes astray) 1024 1024 4095, untaken (because 3 0))  -- 3 before 4
     ∷ (imported (bytes astray) 1024 1024 4096, untaken (because 4 2))
+    ∷ (proper "33D32945\nSECTION Graph\nNodes 3\nEdges 3\nE 1 2 5\nE 2 3 7\nE 2 1 3\nEND\nEOF", untaken (because 15 3))  -- 15: the place is the row
+    ∷ (proper "33D32945\nSECTION Graph\nNodes 3\nEdges 3\nE 1 2 5\nE 1 2 5\nE 3 3 7\nEND\nEOF", untaken (because 4 3))  -- 4 before 15
+    ∷ (imported (bytes "33D32945\nSECTION Graph\nNodes 3\nEdges 2\nE 1 2 5\nE 1 2 5\nEND\nEOF") 1024 1024 4095, untaken (because 3 0))  -- 3 before 15
+    ∷ (proper "33D32945\nSECTION Graph\nNodes 23\nEdges 2\nE 1 23 5\nE 12 3 5\nEND\nEOF", taken 23 2)  -- 1-23 and 12-3 are two pairs
     ∷ (sizes (broken 7), untaken (because 12 7))  -- a broken text has no sizes
     ∷ []
 
@@ -204,11 +208,11 @@ linesOf (suc k) = bytes "E 1 2 3\n" ++ linesOf k
 unfoldable pub counting : String → ℕ → List ℕ
 counting counts k = bytes "33D32945\nSECTION Graph\n" ++ (bytes counts ++ (linesOf k ++ bytes "END\nEOF"))
 
--- 1,024 rows are taken and stored; 1,025 are refused 2, after 13 and 1 and before 3
+-- 1,024 rows are read whole and are not too many; since they join the same pair, the second of them is refused 15. 1,025 rows are refused 2, after 13 and 1 and before 3
 pub record RowsHold : Type 0 where
-  pub most-taken : imported (counting "Nodes 2\nEdges 1024\n" 1024) 1024 1024 4096 ≡ taken 2 1024
-  pub most-left : leftAfter (counting "Nodes 2\nEdges 1024\n" 1024) nines nines quads ≡ replicate 1024 1
-  pub most-right : rightAfter (counting "Nodes 2\nEdges 1024\n" 1024) nines nines quads ≡ replicate 1024 2
+  pub most : imported (counting "Nodes 2\nEdges 1024\n" 1024) 1024 1024 4096 ≡ untaken (because 15 2)
+  pub most-left : columnsOf (readText (counting "Nodes 2\nEdges 1024\n" 1024)) .left ≡ replicate 1024 1
+  pub most-right : columnsOf (readText (counting "Nodes 2\nEdges 1024\n" 1024)) .right ≡ replicate 1024 2
   pub more : imported (counting "Nodes 2\nEdges 1025\n" 1025) 1024 1024 4096 ≡ untaken (because 2 0)
   pub more-short : imported (counting "Nodes 2\nEdges 1025\n" 1025) 1023 1024 4096 ≡ untaken (because 2 0)
   pub more-nodes : imported (counting "Nodes 0\nEdges 1025\n" 1025) 1024 1024 4096 ≡ untaken (because 1 0)

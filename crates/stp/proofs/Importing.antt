@@ -12,7 +12,7 @@ use mathlib.Core.Path.{_≡_, refl, sym, ap, _∙_}
 use native.Mathlib.Omega.{arith}
 use Rattle.refusal.specs.declared.Refusal.{Refusal}
 use Rattle.star.specs.Call.{Call, callOf}
-use Rattle.star.specs.Refusals.{maxRows, cause, badVertices, tooManyRows, badLengths, badRow, tableCauses, orElse, refusal}
+use Rattle.star.specs.Refusals.{maxRows, cause, badVertices, tooManyRows, badLengths, rowCauses, tableCauses, orElse, refusal}
 use Rattle.star.proofs.Accepted.{none-head, none-tail, none-cons, none-both, none-nil, none-cause, cause-none, refusal-append}
 use Rattle.steinlib.specs.Import.{tableOf, badColumns, badEdges, importCauses, untaken, taken, sizes, answered, filled, columnsOf}
 use Rattle.steinlib.specs.Reader.{Read, Reading, broken, whole}
@@ -26,7 +26,7 @@ refusal-first [] ys x e = cc
 refusal-first (none ∷ xs) ys x e = refusal-first xs ys x e
 refusal-first (some y ∷ xs) ys x e = e
 
--- ── Causes 3 and 4 ──
+-- ── Causes 3, 4 and 15 ──
 
 -- the table's own checks of rows whose sizes are taken: the lengths are right, so the rows decide
 module _ (n m : ℕ) (size : none ≡ refusal (badVertices n ∷ tooManyRows m ∷ [])) where
@@ -35,9 +35,9 @@ module _ (n m : ℕ) (size : none ≡ refusal (badVertices n ∷ tooManyRows m �
   few-rows = ltb-false maxRows m (cause-none _ 2 0 (none-head _ _ (none-tail _ _ (sym size))))
 
   module _ (left right weight : List ℕ) (l : length left ≡ m) (r : length right ≡ m) (w : length weight ≡ 4 * m) where
-    pub table-rows : refusal (tableCauses (callOf n left right weight left)) ≡ refusal (badRow (callOf n left right weight left) ∷ [])
+    pub table-rows : refusal (tableCauses (callOf n left right weight left)) ≡ refusal (rowCauses (callOf n left right weight left))
     unfolding tableCauses badLengths
-    table-rows = refusal-append (badVertices n ∷ tooManyRows (length left) ∷ badLengths c ∷ []) (badRow c ∷ [])
+    table-rows = refusal-append (badVertices n ∷ tooManyRows (length left) ∷ badLengths c ∷ []) (rowCauses c)
         (none-both _ _ (none-head _ _ (sym size)) (none-both _ _ (rw l (none-head _ _ (none-tail _ _ (sym size)))) (none-both _ _ lengths none-nil)))
       where
         c : Call
@@ -64,9 +64,9 @@ module _ (l r w : ℕ) where
       go false a b b' d d' e = absurd (false≢true (sym e))
 
   -- 3 goes before the rows
-  pub columns-first : (x : Option Refusal) → (not (eqb l 1024) || not (eqb r 1024) || not (eqb w 4096)) ≡ true → some (record { number = 3; place = 0 }) ≡ refusal (badColumns l r w ∷ x ∷ [])
+  pub columns-first : (xs : List (Option Refusal)) → (not (eqb l 1024) || not (eqb r 1024) || not (eqb w 4096)) ≡ true → some (record { number = 3; place = 0 }) ≡ refusal (badColumns l r w ∷ xs)
   unfolding badColumns cause refusal orElse
-  columns-first x e = rw e
+  columns-first xs e = rw e
 
 -- ── What follows the refusal, if there is one ──
 
@@ -111,14 +111,14 @@ module _ (x : Step) (t : Read) (l r w : ℕ) where
 
     module _ (even : t .rows ≡ t .edges) where
       -- causes 1 and 2, and then the others
-      causes : refusal (importCauses (finished x t) l r w) ≡ refusal ((badVertices (t .nodes) ∷ tooManyRows (t .rows) ∷ []) ++ (badColumns l r w ∷ badRow (tableOf t) ∷ []))
+      causes : refusal (importCauses (finished x t) l r w) ≡ refusal ((badVertices (t .nodes) ∷ tooManyRows (t .rows) ∷ []) ++ (badColumns l r w ∷ rowCauses (tableOf t)))
       unfolding finished importCauses badEdges
       causes = rw unbroken (none-cons _ _ (none-cause _ 13 0 (rw (eq-eqb _ _ even))))
 
       pub size-first : (y : Refusal) → some y ≡ refusal (badVertices (t .nodes) ∷ tooManyRows (t .rows) ∷ []) → some y ≡ refusal (importCauses (finished x t) l r w)
       size-first y e = sym (causes ∙ refusal-first (badVertices (t .nodes) ∷ tooManyRows (t .rows) ∷ []) _ y (sym e))
 
-      pub size-taken : none ≡ refusal (badVertices (t .nodes) ∷ tooManyRows (t .rows) ∷ []) → refusal (badColumns l r w ∷ badRow (tableOf t) ∷ []) ≡ refusal (importCauses (finished x t) l r w)
+      pub size-taken : none ≡ refusal (badVertices (t .nodes) ∷ tooManyRows (t .rows) ∷ []) → refusal (badColumns l r w ∷ rowCauses (tableOf t)) ≡ refusal (importCauses (finished x t) l r w)
       size-taken e = sym (causes ∙ refusal-append (badVertices (t .nodes) ∷ tooManyRows (t .rows) ∷ []) _ (sym e))
 
   broken-clear : refusal (importCauses (broken (x .at)) l r w) ≡ none → ⊥

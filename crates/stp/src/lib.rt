@@ -6,7 +6,7 @@ ghost use Prim.Native.Nat.{_*_, _≤_};
 ghost use lib.ListN.{length, take, drop, getD};
 ghost use Rattle.reader.specs.Readings.{Sized, readOf, rowsOf, finished};
 ghost use Rattle.refusal.specs.Outcomes.{refusalOf};
-ghost use Rattle.star.specs.Refusals.{badVertices, tooManyRows, badRow, refusal};
+ghost use Rattle.star.specs.Refusals.{badVertices, tooManyRows, rowCauses, refusal};
 ghost use Rattle.steinlib.specs.Import.{imported, maxText, readText, tableOf, badColumns, importCauses, leftAfter, rightAfter, weightAfter};
 ghost use Rattle.stp.specs.Answers.{answerOf};
 ghost use Rattle.stp.specs.steps.Settled.{Settled};
@@ -42,7 +42,7 @@ fn refused(number: u32) -> Outcome
     })
 }
 
-// Causes 3 and 4 of at most 1,024 rows that were read; l, r and w are the lengths of the lent columns.
+// Causes 3, 4 and 15 of at most 1,024 rows that were read; l, r and w are the lengths of the lent columns.
 fn rows_check(
     found: [u32; FOUND],
     left: &[u8],
@@ -53,7 +53,7 @@ fn rows_check(
     w: usize,
 ) -> Outcome
     requires { ⌜ (none ≡ refusal (badVertices (getD found 1 0) ∷ tooManyRows (rowsOf found) ∷ [])) × Sized found (now left) (now right) (now weight) ⌝ }
-    ensures { λ x. ⌜ refusalOf x ≡ refusal (badColumns l r w ∷ badRow (tableOf (readOf found (now (left .entry)) (now (right .entry)) (now (weight .entry)))) ∷ []) ⌝ }
+    ensures { λ x. ⌜ refusalOf x ≡ refusal (badColumns l r w ∷ rowCauses (tableOf (readOf found (now (left .entry)) (now (right .entry)) (now (weight .entry))))) ⌝ }
 {
     if l != ROWS || r != ROWS || w != WEIGHT_BYTES {
         return refused(3);
@@ -69,7 +69,7 @@ fn rows_check(
     )
 }
 
-// Causes 12, 13, 1, 2, 3 and 4 of a text that was read into left, right and weight; l, r and w are the lengths of the lent columns.
+// Causes 12, 13, 1, 2, 3, 4 and 15 of a text that was read into left, right and weight; l, r and w are the lengths of the lent columns.
 fn import_check(
     step: Step,
     found: [u32; FOUND],

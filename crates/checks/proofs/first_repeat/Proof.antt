@@ -1,0 +1,94 @@
+-- `checks::first_repeat` meets its contract. The loop's invariant: none of the rows above `row` repeats one above it, and the set has exactly their pairs.
+-- The measure is what is left of the rows. Assumes nothing.
+use Prim.Native.Nat.{ℕ, _+_, _-_, _≤_}
+use lib.ListN.{length}
+use mathlib.Core.Bool.{true}
+use mathlib.Core.List.{List}
+use mathlib.Core.Path.{_≡_, sym, subst, _∙_}
+use native.Mathlib.Omega.{arith}
+use Rattle.rowset.proofs.Laws.{in-upTo}
+use Rattle.rowset.specs.Sets.{upTo}
+use Rattle.star.specs.Refusals.{repeatsAbove}
+use Rattle.checks.proofs.Laws.{Passed, passed-none, passed-more, passed-found, passed-all}
+use Rattle.checks.proofs.Repeats.{Above, above-none, above-more, above-repeats}
+use Rattle.checks.proofs.first_repeat.Statement.{statement}
+use Rattle.checks.proofs.first_repeat.Tie as tie
+
+abbrev Inv-loop : tie.InvT-loop
+Inv-loop left right above₀ row₀ above row =
+    (1 ≤ row) × (row ≤ length left + 1) × Passed (repeatsAbove (upTo (length left)) left right) row × Above (upTo (length left)) left right above row
+
+abbrev μ-loop : tie.MeasureT-loop
+μ-loop left right above₀ row₀ above row = length left + 1 - row
+
+loop-holds : tie.Need-loop-holds Inv-loop μ-loop
+loop-holds c = (omega arith, omega arith, passed-none _, above-none _ _ _)
+
+slice-aggregate-put : tie.Need-slice-aggregate-put Inv-loop μ-loop
+slice-aggregate-put c = sym (c .before .before .loop .inv .3 .words)
+
+row-byte-requires : tie.Need-row-byte-requires Inv-loop μ-loop
+row-byte-requires c κs = tt
+
+row-byte-requires-2 : tie.Need-row-byte-requires-2 Inv-loop μ-loop
+row-byte-requires-2 c κs = tt
+
+put-requires : tie.Need-put-requires Inv-loop μ-loop
+put-requires c κs = tt
+
+-- what was handed in, where the row's pair has been put in the set
+abbrev start : tie.After-put Inv-loop μ-loop → tie.Start Inv-loop μ-loop
+start c = c .before .before .before .before .before .before .before .before
+
+-- the row is one of the table's; what the set says of it; and the set of the rows above the next one
+module _ (c : tie.After-put Inv-loop μ-loop) where
+  in-use : upTo (length (start c .args .left .now)) (c .before .before .before .before .before .loop .row) ≡ true
+  in-use = in-upTo _ _ (omega arith) (omega arith)
+
+  repeated :
+      c .put .result
+      ≡ repeatsAbove (upTo (length (start c .args .left .now))) (start c .args .left .now) (start c .args .right .now) (c .before .before .before .before .before .loop .row)
+  repeated =
+      c .put .ensures .0
+      ∙ above-repeats _ _ _ _ _ _ _ in-use (c .before .before .row-byte .ensures) (c .before .row-byte2 .ensures) (omega arith) (omega arith) (c .before .before .before .before .before .loop .inv .3)
+
+  next : Above (upTo (length (start c .args .left .now))) (start c .args .left .now) (start c .args .right .now) (c .put .last .0) (c .before .before .before .before .before .loop .row + 1)
+  next =
+      subst (λ (l : List ℕ). Above (upTo (length (start c .args .left .now))) (start c .args .left .now) (start c .args .right .now) l (c .before .before .before .before .before .loop .row + 1)) (sym (c .put .ensures .1))
+      (above-more _ _ _ _ _ _ _ (omega arith) in-use (c .before .before .row-byte .ensures) (c .before .row-byte2 .ensures) (omega arith) (omega arith) (c .before .before .before .before .before .loop .inv .3))
+
+returns : tie.Need-returns Inv-loop μ-loop
+returns c =
+    passed-found _ _ _ (omega arith) (omega arith) (c .before .before .before .before .before .before .before .loop .inv .2)
+    (sym (repeated (c .before .before)) ∙ c .if1 .taken)
+
+add-row : tie.Need-add-row Inv-loop μ-loop
+add-row c = omega arith
+
+loop-less : tie.Need-loop-less Inv-loop μ-loop
+loop-less c = omega arith
+
+loop-again : tie.Need-loop-again Inv-loop μ-loop
+loop-again c =
+    let l = c .before .before .before .before .before .before .before .loop in
+    (omega arith, omega arith, passed-more _ _ (l .inv .2) (sym (repeated (c .before .before)) ∙ c .if1 .left), next (c .before .before))
+
+returns-2 : tie.Need-returns-2 Inv-loop μ-loop
+returns-2 c = passed-all _ _ _ (omega arith) (c .before .loop .inv .2)
+
+pub first-repeat-spec : {M : Type 1} → statement M
+first-repeat-spec =
+    tie.close
+    (tie.spec
+    Inv-loop
+    μ-loop
+    loop-holds
+    slice-aggregate-put
+    row-byte-requires
+    row-byte-requires-2
+    put-requires
+    returns
+    add-row
+    loop-less
+    loop-again
+    returns-2)
