@@ -63,18 +63,18 @@ holds c99 "$compiler" -std=c99 "${strict[@]}" -o "$work/plan-c" console/examples
 holds c++17 "$plus" -std=c++17 "${strict[@]}" -o "$work/plan-cpp" -x c++ console/examples/plan.c -x none "${flags[@]}"
 for language in c cpp; do holds "plan-$language" diff "$work/expected" <("$work/plan-$language" 2>&1); done
 
-# A text for every refusal that the header names, each its own, and one for any other number, 5 and 14 among them.
+# A text for every refusal that the header names, each its own, and one for any other number, 5, 14 and 16 among them.
 cat >"$work/texts.c" <<'TEXT'
 #include <stdio.h>
 #include <string.h>
 #include "star.h"
 int main(void) {
     unsigned i, k;
-    for (i = 0; i <= 15; i++)
-        for (k = i == 14 ? i : 0; k < i; k++)
+    for (i = 0; i <= 18; i++)
+        for (k = i == 14 || i == 16 ? i : 0; k < i; k++)
             if (strlen(star_refusal_text(i)) < 10 || strcmp(star_refusal_text(i), star_refusal_text(k)) == 0) return 1;
     if (strcmp(star_refusal_text(STAR_NO_NETWORK), "no set of rows joins every junction") != 0) return 2;
-    if (strcmp(star_refusal_text(5), star_refusal_text(1000000)) != 0 || strcmp(star_refusal_text(14), star_refusal_text(5)) != 0) return 3;
+    if (strcmp(star_refusal_text(5), star_refusal_text(1000000)) != 0 || strcmp(star_refusal_text(14), star_refusal_text(5)) != 0 || strcmp(star_refusal_text(16), star_refusal_text(5)) != 0) return 3;
     return strcmp(star_refusal_text(1000000), star_refusal_text((unsigned)-1)) != 0;
 }
 TEXT
