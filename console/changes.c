@@ -58,8 +58,9 @@ int command_strike(struct table *t, const struct options *with, struct output *o
 static void tell_numbers(const struct table *t) {
     struct message words = {{0}, 0};
     size_t i;
-    say_count(&words, t->strikes, "struck trench is", "struck trenches are");
-    fprintf(stderr, "%s gone.\n", words.text);
+    if (t->strikes == 0) say(&words, "No trench is struck: the file is as it was.");
+    else say_count(&words, t->strikes, "struck trench is gone.", "struck trenches are gone.");
+    fprintf(stderr, "%s\n", words.text);
     for (i = table_next(t, 0); i <= t->m; i = table_next(t, i))
         if (numbers[i - 1] != i) fprintf(stderr, "trench %zu is now trench %u\n", i, (unsigned)numbers[i - 1]);
 }

@@ -82,6 +82,8 @@ fi
 star=$(realpath "$build/star")
 bash tests/console.sh "$star" | tee "$work/console"
 add "$work/console"
+bash tests/changes.sh "$star" | tee "$work/changes"
+add "$work/changes"
 python3 -B tests/picture.py "$star" | tee "$work/picture"
 add "$work/picture"
 python3 -B tests/page.py "$star" | tee "$work/page"
