@@ -102,6 +102,10 @@ void refusal_words(struct message *to, const struct table *t, struct star_answer
     default:
         say(to, "%s (place %u).", star_refusal_text(a.number), a.out);
     }
+    if (t->strikes > 0 && (refusal_of_plan(a) || a.number == STAR_NO_NETWORK)) {
+        say(to, " ");
+        say_count(to, t->strikes, "struck trench is left out.", "struck trenches are left out.");
+    }
 }
 
 int refusal_of_plan(struct star_answer a) { return a.kind == STAR_REFUSED && (a.number == STAR_BAD_MARK_COUNT || a.number == STAR_NOT_JOINED); }
