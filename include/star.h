@@ -17,7 +17,8 @@
  * A working table is one in which rows are struck out and entered. All its columns have 1,024 rows, marks too, and sixteen words say which
  * of them are in use (star_in_use): the rows in use are the table, and what stands in the others is not looked at.
  *
- * star_work_cst, star_work_other, star_work_mst1 and star_work_paths answer as the doors without work, over the rows in use.
+ * star_work_cst, star_work_other, star_work_mst1 and star_work_paths answer as the doors without work, over the rows in use. What is said below
+ *               of star_cst, star_other, star_mst1 and star_paths holds of them too.
  * star_strike   takes a row out of use.
  * star_add      enters a row after the last one in use.
  * star_merge    packs the rows in use to the top, and says where each one went.
