@@ -31,7 +31,7 @@ struct ask {
     int32_t price;
 };
 
-/* The lengths that belong to a working table; all that stands around the columns is random. */
+/* Puts the lengths right. */
 void lent_lengths(struct lent *t);
 
 /* Calls the door; what is returned. With exact set, each column is lent from memory of its own length, for a memory checker. */

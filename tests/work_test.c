@@ -56,7 +56,7 @@ static int first_met(unsigned a, unsigned b) {
     return 1;
 }
 
-/* Puts rows from 1 to m in use, at positions from `from` on, so many positions apart at random; those at the start join all n junctions. */
+/* Puts m rows in use, from position `from` on, with random gaps between them; the first of them join all n junctions. */
 static void fill(uint32_t n, size_t m, size_t from, size_t gap) {
     size_t i = from, k;
     for (k = 0; k < m && i <= STAR_MAX_ROWS; k++, i += 1 + work_any((uint32_t)gap + 1)) {
@@ -71,7 +71,7 @@ static void fill(uint32_t n, size_t m, size_t from, size_t gap) {
 /* A table of its own for each sequence; gives the number of junctions. */
 static uint32_t fresh(unsigned long k) {
     uint32_t n = 1 + work_any(10);
-    size_t i, m = work_any(n * (n - 1) / 2 + 2);
+    size_t i, m = work_any(n * (n - 1) / 2 + 2); /* one row more than there are pairs, at most */
     for (i = 0; i < sizeof t; i++) ((uint8_t *)&t)[i] = (uint8_t)work_bits();
     memset(t.in_use, 0, 8 * STAR_COLUMN_WORDS);
     lent_lengths(&t);
@@ -115,7 +115,7 @@ static struct star_answer judged(uint32_t n) {
     return star_read_answer(t.answer);
 }
 
-/* The least total, with the marks left as they were; -1 and a refusal's number where there is none. */
+/* What star_work_mst1 answers, with everything left as it was. */
 static struct star_answer least(uint32_t n) {
     static struct lent kept;
     struct star_answer a;
