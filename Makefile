@@ -60,6 +60,19 @@ $(BUILD)/door_test_faulty: $(ARCHIVE) tests/door_test.c tests/faulty.c tests/pla
 	$(CC) -std=c99 $(CFLAGS) -Iinclude -c -o $(BUILD)/faulty.o tests/faulty.c
 	$(CC) -std=c99 $(CFLAGS) -Iinclude -Itests $(FAULTY) -o $@ tests/door_test.c tests/plain.c $(BUILD)/faulty.o $(ARCHIVE)
 
+# Working tables, in the same two ways.
+WORK := tests/work_test.c tests/work_lent.c tests/work_cases.c tests/plain_work.c tests/plain.c
+WORK_HEADERS := tests/work_lent.h tests/plain_work.h tests/plain.h include/star.h
+$(BUILD)/work_test: $(ARCHIVE) $(WORK) $(WORK_HEADERS)
+	@mkdir -p $(BUILD)
+	$(CC) -std=c99 $(CFLAGS) -Iinclude -Itests -o $@ $(WORK) $(ARCHIVE)
+
+FAULTY_WORK := $(foreach door,strike add merge work_cst work_other work_mst1 work_paths,-Dstar_$(door)=faulty_$(door))
+$(BUILD)/work_test_faulty: $(ARCHIVE) $(WORK) $(WORK_HEADERS) tests/faulty_work.c
+	@mkdir -p $(BUILD)
+	$(CC) -std=c99 $(CFLAGS) -Iinclude -c -o $(BUILD)/faulty_work.o tests/faulty_work.c
+	$(CC) -std=c99 $(CFLAGS) -Iinclude -Itests $(FAULTY_WORK) -o $@ $(WORK) $(BUILD)/faulty_work.o $(ARCHIVE)
+
 $(BUILD)/import_test: $(ARCHIVE) tests/import_test.c include/star.h
 	@mkdir -p $(BUILD)
 	$(CC) -std=c99 $(CFLAGS) -Iinclude -o $@ tests/import_test.c $(ARCHIVE)
@@ -79,7 +92,7 @@ test:
 
 # What stands outside the proofs: the doors against the plain implementation, the import against the plain reader (python3), both under a
 # memory checker, and the console.
-outside: $(BUILD)/star $(BUILD)/door_test $(BUILD)/door_test_faulty $(BUILD)/import_test $(READSTP)
+outside: $(BUILD)/star $(BUILD)/door_test $(BUILD)/door_test_faulty $(BUILD)/work_test $(BUILD)/work_test_faulty $(BUILD)/import_test $(READSTP)
 	bash tests/outside.sh $(BUILD) $(READSTP)
 
 bench: $(BUILD)/bench

@@ -1,4 +1,4 @@
-// MST1 and CST through the door against a plain implementation in C and, where they are installed, LEMON, Boost Graph and igraph.
+// MST1 and CST through the door, on working tables too, against a plain implementation in C and, where they are installed, LEMON, Boost Graph and igraph.
 // Every solver starts from the same byte columns: it builds its graph and finds the tree's weight. One process, one table at a time; the
 // median of many rounds. The weights found are compared, so a solver that is wrong is told.
 #include <algorithm>
@@ -195,6 +195,59 @@ void measure(uint32_t n, size_t m, int32_t from, int32_t to) {
 #endif
 }
 
+// A working table of 1,024 rows, half of them struck, and the same rows packed.
+struct Working {
+    Table all, packed;
+    uint64_t in_use[STAR_COLUMN_WORDS];
+    uint32_t numbers[STAR_MAX_ROWS];
+};
+
+Working half_struck(uint32_t n) {
+    Working w{make(n, STAR_MAX_ROWS, 0, STAR_MAX_PRICE), {n, {}, {}, {}, {}}, {}, {}};
+    size_t struck = 0;
+    for (size_t i = 1; i <= STAR_MAX_ROWS; i++) star_set_in_use(w.in_use, i, 1);
+    while (struck < STAR_MAX_ROWS / 2) { // the first n - 1 rows join all junctions
+        size_t row = n + any(STAR_MAX_ROWS - n + 1);
+        struck += size_t(star_in_use(w.in_use, row));
+        star_set_in_use(w.in_use, row, 0);
+    }
+    for (size_t i = 0; i < STAR_MAX_ROWS; i++)
+        if (star_in_use(w.in_use, i + 1)) {
+            w.packed.left.push_back(w.all.left[i]);
+            w.packed.right.push_back(w.all.right[i]);
+            w.packed.weight.insert(w.packed.weight.end(), &w.all.weight[4 * i], &w.all.weight[4 * i] + 4);
+        }
+    w.packed.mark.resize(w.packed.rows());
+    return w;
+}
+
+void measure_working(uint32_t n) {
+    Working w = half_struck(n);
+    Table &a = w.all, &p = w.packed;
+    int64_t expected = plain_build(p);
+    uint8_t answer[16];
+    double build = time_of(door_mst1, p, expected, "star_mst1"), check = time_of(door_cst, p, expected, "star_cst");
+    auto work_mst1 = [&](Table &t) {
+        star_work_mst1(n, w.in_use, STAR_COLUMN_WORDS, t.left.data(), t.rows(), t.right.data(), t.rows(), t.weight.data(), t.weight.size(), t.mark.data(), t.rows(), answer, 16);
+        return amount(answer);
+    };
+    auto work_cst = [&](Table &t) {
+        star_work_cst(n, w.in_use, STAR_COLUMN_WORDS, t.left.data(), t.rows(), t.right.data(), t.rows(), t.weight.data(), t.weight.size(), t.mark.data(), t.rows(), answer, 16);
+        return amount(answer);
+    };
+    auto merge = [&](Table &t) { // on a copy, so that there is something to pack each time
+        Working c = w;
+        star_merge(c.in_use, STAR_COLUMN_WORDS, c.all.left.data(), t.rows(), c.all.right.data(), t.rows(), c.all.weight.data(), t.weight.size(), c.numbers, STAR_MAX_ROWS, answer, 16);
+        return int64_t(c.all.left[p.rows() - 1] == p.left.back() && answer[0] == STAR_PASSED);
+    };
+    std::printf("n %u, %d rows, half of them struck; star_mst1 and star_cst on the %zu others packed\n", n, int(STAR_MAX_ROWS), p.rows());
+    row("star_mst1", build, build, check);
+    row("star_cst", check, build, check);
+    row("star_work_mst1", time_of(work_mst1, a, expected, "star_work_mst1"), build, check);
+    row("star_work_cst", time_of(work_cst, a, expected, "star_work_cst"), build, check);
+    row("star_merge", time_of(merge, a, 1, "star_merge"), build, check);
+}
+
 } // namespace
 
 int main() {
@@ -204,5 +257,7 @@ int main() {
     measure(255, 1024, 0, 4999);
     measure(255, 1024, -5000, 5000); // both signs: small prices, and all prices
     measure(255, 1024, STAR_MIN_PRICE, STAR_MAX_PRICE);
+    measure_working(64);
+    measure_working(255);
     return 0;
 }

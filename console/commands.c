@@ -58,7 +58,7 @@ int command_build(struct table *t, const struct options *with, struct output *o)
         fprintf(to, "%s\n", words.text);
         return EXIT_REFUSED;
     }
-    for (i = 1; i <= t->m; i++)
+    for (i = table_next(t, 0); i <= t->m; i = table_next(t, i))
         if (t->mark[i - 1] == 1) fprintf(to, "trench %zu: %u-%u, price %s\n", i, t->left[i - 1], t->right[i - 1], table_price(figures, t, i));
     fprintf(to, "Total %s\n", amount_figures(figures, a.amount));
     if (marks > 0 && (before.kind != STAR_REFUSED || refusal_of_plan(before))) {

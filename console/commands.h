@@ -10,6 +10,8 @@ struct options {
     int table;     /* build: the table with the chosen trenches marked */
     int all;       /* explain: every trench that is left out */
     size_t trench; /* explain: this one; 0 for none */
+    char **words;  /* strike, add: what follows the file */
+    int count;
 };
 
 int command_check(struct table *t, const struct options *with, struct output *o);   /* judges the marked trenches */
@@ -19,6 +21,9 @@ int command_draw(struct table *t, const struct options *with, struct output *o);
 int command_dot(struct table *t, const struct options *with, struct output *o);     /* writes a picture for Graphviz */
 int command_page(struct table *t, const struct options *with, struct output *o);    /* writes a page of pictures that explain */
 int command_table(struct table *t, const struct options *with, struct output *o);   /* writes the table */
+int command_strike(struct table *t, const struct options *with, struct output *o);  /* writes the file with trenches struck */
+int command_add(struct table *t, const struct options *with, struct output *o);     /* writes the file with a trench more */
+int command_merge(struct table *t, const struct options *with, struct output *o);   /* writes the file without its struck trenches */
 
 /* Why there are 255 junctions at most. */
 void explain_limit(struct message *to);

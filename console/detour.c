@@ -12,7 +12,7 @@ int paths_from(struct paths *p, const struct table *t, uint32_t from) {
 /* The trench of the set that leads on from a junction, other than the one that led there; 0 if there is none. */
 static size_t next(const struct paths *p, const struct table *t, uint32_t to, unsigned at, size_t last) {
     size_t i;
-    for (i = 1; i <= t->m; i++)
+    for (i = table_next(t, 0); i <= t->m; i = table_next(t, i))
         if (i != last && star_on_path(p->matrix, to, i) && (t->left[i - 1] == at || t->right[i - 1] == at)) return i;
     return 0;
 }

@@ -38,7 +38,7 @@ static void each_left_out(FILE *to, const struct table *t, struct paths *p, int 
     struct message words = {{0}, 0};
     int standing;
     for (standing = CHEAPER; standing < STANDINGS; standing++)
-        for (i = 1; i <= t->m; i++) {
+        for (i = table_next(t, 0); i <= t->m; i = table_next(t, i)) {
             if (t->mark[i - 1] == 1 || !detour_of(&d, p, t, i) || (int)d.standing != standing) continue;
             if (all || shown < FIRST) shown++, left_out(to, t, i, &d, table_total(t));
             else count[standing]++, hidden++;
@@ -57,7 +57,7 @@ static void marked(FILE *to, const struct table *t, struct paths *p, size_t i) {
     unsigned instead[STAR_MAX_ROWS], cheapest = 0;
     size_t count = 0, k, j;
     char own[FIGURES], least[FIGURES];
-    for (k = 1; k <= t->m; k++) {
+    for (k = table_next(t, 0); k <= t->m; k = table_next(t, k)) {
         if (t->mark[k - 1] == 1 || !detour_of(&d, p, t, k)) continue;
         for (j = 0; j < d.count && d.row[j] != i; j++) continue;
         if (j == d.count) continue;
@@ -122,6 +122,10 @@ int command_explain(struct table *t, const struct options *with, struct output *
     FILE *to;
     if (with->trench > t->m) {
         fprintf(stderr, "star: there is no trench %zu; the table has %zu\n", with->trench, t->m);
+        return EXIT_USAGE;
+    }
+    if (with->trench > 0 && t->m <= STAR_MAX_ROWS && t->struck[with->trench - 1]) {
+        fprintf(stderr, "star: trench %zu is struck, and so left out of everything\n", with->trench);
         return EXIT_USAGE;
     }
     to = output_open(o);

@@ -52,9 +52,9 @@ static int free_of(const struct layout *l, const struct table *t, size_t i, enum
     if (own->at.x < own->width / 2 || own->at.x > l->width - own->width / 2) return 0;
     for (v = 1; v <= t->n; v++)
         if (covers(own, l->at[v], l->dot + 1)) return 0;
-    for (k = 0; k < t->m; k++) {
-        if (l->label[k].shown && labels_touch(own, &l->label[k])) return 0;
-        if (k != i - 1 && (may == NONE || (may == LIGHT && l->trench[k].heavy)) && crossed(own, &l->trench[k])) return 0;
+    for (k = table_next(t, 0); k <= t->m; k = table_next(t, k)) {
+        if (l->label[k - 1].shown && labels_touch(own, &l->label[k - 1])) return 0;
+        if (k != i && (may == NONE || (may == LIGHT && l->trench[k - 1].heavy)) && crossed(own, &l->trench[k - 1])) return 0;
     }
     return 1;
 }

@@ -36,8 +36,11 @@ static void corners(const struct layout *l, const struct table *t, int trenches,
     size_t i;
     *least = *most = l->at[1];
     for (v = 2; v <= t->n; v++) widen(l->at[v], least, most);
-    for (i = 0; trenches && i < t->m; i++) widen(layout_on(&l->trench[i], 0.5), least, most);
+    for (i = table_next(t, 0); trenches && i <= t->m; i = table_next(t, i)) widen(layout_on(&l->trench[i - 1], 0.5), least, most);
 }
+
+/* Whether a trench has two different junctions as ends; a struck one can have any. */
+static int sound(const struct table *t, size_t i) { return t->left[i] >= 1 && t->left[i] <= t->n && t->right[i] >= 1 && t->right[i] <= t->n && t->left[i] != t->right[i]; }
 
 /* How much the places are enlarged: nine of ten trenches are as long as a label, a quarter of the sheet is enough for all labels, and no two
    junctions touch. */
@@ -45,15 +48,16 @@ static double scale_of(const struct layout *l, const struct table *t, double wid
     static double lengths[STAR_MAX_ROWS];
     double scale = t->n <= 24 ? 120 : 90, nearest = 1, need;
     uint32_t u, v;
-    size_t i;
-    for (i = 0; i < t->m; i++) lengths[i] = distance(l->at[t->left[i]], l->at[t->right[i]]);
-    qsort(lengths, t->m, sizeof lengths[0], by_size);
+    size_t i, used = 0;
+    for (i = 0; i < t->m; i++)
+        if (sound(t, i)) lengths[used++] = distance(l->at[t->left[i]], l->at[t->right[i]]);
+    qsort(lengths, used, sizeof lengths[0], by_size);
     for (u = 1; u <= t->n; u++)
         for (v = u + 1; v <= t->n; v++)
             if (distance(l->at[u], l->at[v]) < nearest) nearest = distance(l->at[u], l->at[v]);
-    if (t->m > 0 && scale * lengths[t->m / 10] < LONG) scale = LONG / (lengths[t->m / 10] + 1e-3);
+    if (used > 0 && scale * lengths[used / 10] < LONG) scale = LONG / (lengths[used / 10] + 1e-3);
     if (scale * nearest < 3 * l->dot) scale = 3 * l->dot / (nearest + 1e-3);
-    need = 4 * (double)t->m * LONG * LABEL_HEIGHT;
+    need = 4 * (double)used * LONG * LABEL_HEIGHT;
     if (scale * scale * width * height < need && width > 0.5 && height > 0.5) scale = sqrt(need / (width * height));
     if (scale * width > WIDEST) scale = WIDEST / width;
     return scale * height > WIDEST ? WIDEST / height : scale;
@@ -134,6 +138,6 @@ void layout_sheet(struct layout *l, const struct table *t) {
     size_t i;
     memset(l, 0, sizeof *l);
     place(l, t);
-    for (i = 0; i < t->m; i++) l->trench[i] = around(l, t, i);
+    for (i = table_next(t, 0); i <= t->m; i = table_next(t, i)) l->trench[i - 1] = around(l, t, i - 1);
     fit(l, t);
 }

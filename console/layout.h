@@ -30,10 +30,11 @@ struct layout {
 };
 
 /* Places the junctions so that two of them are about as far apart as the fewest trenches between them are many. Depends on which junctions the
-   trenches join and on nothing else, so that two plans of one network, or two quotes, lie alike. */
+   trenches join, struck ones included, and on nothing else, so that two plans of one network, or two quotes, lie alike, and a network lies as it
+   did before a trench was struck. */
 void layout_places(const struct table *t, struct point at[STAR_MAX_JUNCTIONS + 1]);
 
-/* Places junctions and trenches on a sheet. */
+/* Places junctions and the trenches in use on a sheet. */
 void layout_sheet(struct layout *l, const struct table *t);
 
 /* A point of a curve: k from 0, its start, to 1, its end. */

@@ -1,4 +1,5 @@
-/* A planner's console over the door: checks a marked network, builds a least one, explains and draws it. This file reads the command line. */
+/* A planner's console over the door: checks a marked network, builds a least one, explains and draws it, and changes its table. This file reads the
+   command line. */
 #include <stdio.h>
 #include <string.h>
 
@@ -16,6 +17,9 @@ static const char HELP[] =
     "       star draw [FILE]           write a picture (SVG) of the network, with what check says of it\n"
     "       star dot [FILE]            write the same for Graphviz (DOT)\n"
     "       star table [FILE]          write the trenches as a table; those of an STP file are not marked\n"
+    "       star strike FILE TRENCH..  write the file with these trenches struck\n"
+    "       star add FILE LEFT RIGHT PRICE   write the file with a trench more, after the last one in use\n"
+    "       star merge [FILE]          write the file without its struck trenches, and tell the new numbers of the others\n"
     "       star --help, -h            this text\n"
     "       star --version             the version\n"
     "\n"
@@ -26,6 +30,7 @@ static const char HELP[] =
     "trench of the plan and 0 for any other, and build needs none. Trenches are counted from 1 in the\n"
     "order of the lines. A line 'junctions N' gives the number of junctions; without it they are as many\n"
     "as the largest one named. What follows # on a line is a comment.\n"
+    "A line that opens with 'struck' has a trench that keeps its number and is left out of everything.\n"
     "At most 255 junctions and 1024 trenches are taken. A price is a whole number from -2147483648 to\n"
     "2147483647; it is below 0 where a grant exceeds the cost.\n"
     "\n"
@@ -39,13 +44,14 @@ static const char HELP[] =
 struct command {
     const char *name;
     int (*run)(struct table *t, const struct options *with, struct output *o);
-    const char *takes; /* what it takes beside a file: t --table, a --all, n the number of a trench */
-    int plan;          /* whether it needs marks, which an STP file has not */
+    const char *takes; /* what it takes beside a file: t --table, a --all, n the number of a trench, w words */
+    enum needs { FILE_ALONE, PLAN, LINES } needs; /* marks, or lines that can be changed, which an STP file has not */
 };
 
 static const struct command COMMANDS[] = {
-    {"check", command_check, "", 1}, {"build", command_build, "t", 0}, {"explain", command_explain, "an", 1}, {"draw", command_draw, "", 0},
-    {"dot", command_dot, "", 0},     {"page", command_page, "", 0},    {"table", command_table, "", 0},
+    {"check", command_check, "", PLAN},       {"build", command_build, "t", FILE_ALONE}, {"explain", command_explain, "an", PLAN}, {"draw", command_draw, "", FILE_ALONE},
+    {"dot", command_dot, "", FILE_ALONE},     {"page", command_page, "", FILE_ALONE},    {"table", command_table, "", FILE_ALONE}, {"strike", command_strike, "w", LINES},
+    {"add", command_add, "w", LINES},         {"merge", command_merge, "", LINES},
 };
 
 struct request {
@@ -70,11 +76,12 @@ static const struct command *find(const char *name) {
 
 static int takes(const struct request *r, char what) { return strchr(r->command->takes, what) != NULL; }
 
-/* The words that are no options: a file, and the number of a trench where the command takes one. */
-static int operand(struct request *r, const char *word, int before) {
+/* The words that are no options: a file, and the number of a trench, or any words, where the command takes them. */
+static int operand(struct request *r, char *word, int before) {
     struct span number = {word, strlen(word)};
     uint32_t trench;
     if (before == 0) r->file = word;
+    else if (takes(r, 'w')) r->with.words[r->with.count++] = word;
     else if (before > 1 || !takes(r, 'n')) return misused("one file is read, and there is also", word);
     else if (!text_number(number, &trench) || trench == 0) return misused("a trench is named by its number, from 1 on, and not by", word);
     else r->with.trench = trench;
@@ -84,9 +91,11 @@ static int operand(struct request *r, const char *word, int before) {
 /* Reads the words after the command; 0 if they are right. */
 static int options(struct request *r, char **words) {
     int files_only = 0, count = 0, status;
+    r->with.words = words; /* they are moved to the front */
     for (; *words; words++) {
-        const char *word = *words;
-        int option = !files_only && word[0] == '-' && word[1] != '\0';
+        char *word = *words;
+        int price = takes(r, 'w') && word[0] == '-' && word[1] >= '0' && word[1] <= '9';
+        int option = !files_only && !price && word[0] == '-' && word[1] != '\0';
         if (!option) {
             status = operand(r, word, count++);
             if (status != 0) return status;
@@ -108,10 +117,11 @@ static int run(struct request *r) {
     struct input in;
     struct message fault = {{0}, 0};
     int status = input_open(&in, r->file, &fault);
-    if (status == 0 && in.stp && r->command->plan) {
+    if (status == 0 && in.stp && r->command->needs != FILE_ALONE) {
         say_place(&fault, in.file, 0);
-        say(&fault, "an STP file marks no trench, so there is no plan to %s. 'star build' chooses the cheapest trenches;\n"
-                    "'star table' writes a table in which the trenches of the plan can be marked.", r->command->name);
+        if (r->command->needs == LINES) say(&fault, "an STP file has no struck trenches. 'star table' writes a table, whose lines %s can change.", r->command->name);
+        else say(&fault, "an STP file marks no trench, so there is no plan to %s. 'star build' chooses the cheapest trenches;\n"
+                         "'star table' writes a table in which the trenches of the plan can be marked.", r->command->name);
         status = EXIT_UNREADABLE;
     }
     if (status == 0) status = input_table(&in, &t, &fault);
@@ -136,7 +146,7 @@ static int tell(struct request *r, const char *text) {
 }
 
 int main(int count, char **words) {
-    struct request r = {NULL, NULL, {0, 0, 0}, {NULL, NULL}, 0};
+    struct request r = {NULL, NULL, {0, 0, 0, NULL, 0}, {NULL, NULL}, 0};
     struct message version = {{0}, 0};
     int status;
     if (count < 2) {

@@ -83,7 +83,7 @@ static struct shows shows_of(const struct table *t, struct star_answer a) {
     struct shows s;
     s.drawn = a.kind != STAR_REFUSED || refusal_of_plan(a);
     s.ring = refusal_of_plan(a) && table_marks(t) > 0;
-    s.detours = a.kind != STAR_REFUSED && t->m > table_marks(t);
+    s.detours = a.kind != STAR_REFUSED && table_used(t) > table_marks(t);
     s.equal = a.kind == STAR_PASSED && !a.only;
     return s;
 }
@@ -92,7 +92,7 @@ static void whole_plan(FILE *to, const struct drawing *g) {
     size_t i;
     fputs("<div class=\"stage\">", to);
     view_open(to, g, box_whole(g), "plan-view", "The network, its marked trenches heavy. A label has a trench's number and its price.");
-    for (i = 1; i <= g->t->m; i++)
+    for (i = table_next(g->t, 0); i <= g->t->m; i = table_next(g->t, i))
         if (g->t->mark[i - 1] == 1) view_trench(to, g, i, "plan");
     view_tops(to, g);
     view_close(to);

@@ -22,7 +22,7 @@ static void plain(FILE *to, const char *text) {
 
 static void plan(FILE *to, const struct drawing *g, const struct table *t) {
     size_t i;
-    for (i = 1; i <= t->m; i++)
+    for (i = table_next(t, 0); i <= t->m; i = table_next(t, i))
         if (t->mark[i - 1] == 1) view_trench(to, g, i, "plan");
 }
 
@@ -144,7 +144,7 @@ static void each(FILE *to, const struct drawing *g, void (*act)(FILE *, const st
     int standing;
     p.from = 0;
     for (standing = CHEAPER; standing < STANDINGS; standing++)
-        for (i = 1; i <= g->t->m; i++)
+        for (i = table_next(g->t, 0); i <= g->t->m; i = table_next(g->t, i))
             if (g->t->mark[i - 1] != 1 && detour_of(&d, &p, g->t, i) && (int)d.standing == standing) act(to, g, i, &d);
 }
 
@@ -197,10 +197,10 @@ static void one_network(FILE *to, const struct drawing *g, struct box b, const s
     say(&says, "A cheapest network with a total of %s.", total);
     fputs("<div class=\"half\"><div class=\"stage\">", to);
     view_open(to, g, b, name, says.text);
-    for (i = 1; i <= t->m; i++)
+    for (i = table_next(t, 0); i <= t->m; i = table_next(t, i))
         if (t->mark[i - 1] == 1) view_trench(to, g, i, other->mark[i - 1] == 1 ? "plan" : look);
     view_tops(to, g);
-    for (i = 1; i <= t->m; i++)
+    for (i = table_next(t, 0); i <= t->m; i = table_next(t, i))
         if (t->mark[i - 1] != other->mark[i - 1]) view_label(to, g, i);
     view_close(to);
     fputs("</div>\n", to);
@@ -212,7 +212,7 @@ void panel_equal(FILE *to, const struct drawing *g, const struct table *other) {
     struct message words = {{0}, 0};
     struct box b = box_empty();
     size_t i, out = 0, in = 0;
-    for (i = 1; i <= g->t->m; i++)
+    for (i = table_next(g->t, 0); i <= g->t->m; i = table_next(g->t, i))
         if (g->t->mark[i - 1] != other->mark[i - 1]) {
             box_trench(&b, g, i);
             if (other->mark[i - 1] == 1) in = i;

@@ -22,7 +22,7 @@ static void count_from(const struct table *t, uint32_t s) {
         uint32_t u = found[next];
         for (i = 0; i < t->m; i++) {
             uint32_t v = t->left[i] == u ? t->right[i] : t->right[i] == u ? t->left[i] : s;
-            if (v == s || apart[s][v]) continue;
+            if (v == s || v == 0 || v > t->n || apart[s][v]) continue; /* a struck trench can have any ends */
             apart[s][v] = (uint8_t)(apart[s][u] + 1);
             found[have++] = (uint8_t)v;
         }

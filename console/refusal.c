@@ -28,9 +28,16 @@ void refusal_of_repeat(struct message *to, size_t trench, size_t earlier) { say(
 /* The first trench between the ends of trench i, in either direction. */
 static size_t first_between(const struct table *t, size_t i) {
     unsigned a = t->left[i - 1], b = t->right[i - 1];
-    size_t k = 1;
-    while (k < i && !(t->left[k - 1] == a && t->right[k - 1] == b) && !(t->left[k - 1] == b && t->right[k - 1] == a)) k++;
+    size_t k = table_next(t, 0);
+    while (k < i && !(t->left[k - 1] == a && t->right[k - 1] == b) && !(t->left[k - 1] == b && t->right[k - 1] == a)) k = table_next(t, k);
     return k;
+}
+
+void refusal_of_strike(struct message *to, const struct table *t, size_t trench) {
+    int struck = trench >= 1 && trench <= t->m && trench <= KEPT;
+    refusal_opens(to, STAR_NOT_IN_USE, t->file, struck ? t->row[trench - 1].line : 0);
+    if (struck) say(to, "trench %zu is struck already.", trench);
+    else say(to, "there is no trench %zu to strike; the table has %zu.", trench, t->m);
 }
 
 static void junction_count(struct message *to, const struct table *t) {
@@ -65,7 +72,7 @@ void refusal_words(struct message *to, const struct table *t, struct star_answer
         junction_count(to, t);
         break;
     case STAR_TOO_MANY_ROWS:
-        say(to, "there are %zu trenches; at most %d are taken.", t->m, STAR_MAX_ROWS);
+        say(to, "there are %zu trenches%s; at most %d are taken.", t->m, t->strikes > 0 ? ", struck ones included" : "", STAR_MAX_ROWS);
         break;
     case STAR_BAD_END:
         ends[0] = text_nth(at.text, 0);
@@ -89,8 +96,15 @@ void refusal_words(struct message *to, const struct table *t, struct star_answer
     case STAR_NO_NETWORK:
         no_network(to, t);
         break;
+    case STAR_TABLE_FULL:
+        say(to, "all %d trenches are in use; strike one before another is added.", STAR_MAX_ROWS);
+        break;
     default:
         say(to, "%s (place %u).", star_refusal_text(a.number), a.out);
+    }
+    if (t->strikes > 0 && (refusal_of_plan(a) || a.number == STAR_NO_NETWORK)) {
+        say(to, " ");
+        say_count(to, t->strikes, "struck trench is left out.", "struck trenches are left out.");
     }
 }
 

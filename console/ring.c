@@ -24,7 +24,7 @@ static size_t fill(struct table *part, const struct table *t, unsigned *number) 
     unsigned v;
     memset(part, 0, sizeof *part);
     part->n = t->n;
-    for (i = 1; i <= t->m; i++)
+    for (i = table_next(t, 0); i <= t->m; i = table_next(t, i))
         if (t->mark[i - 1] == 1) {
             number[part->m] = (unsigned)i;
             add(part, t->left[i - 1], t->right[i - 1], 0);

@@ -44,7 +44,7 @@ static void key(FILE *to, const struct picture *p, double y) {
     int used[LOOKS] = {0}, look;
     double x = 12;
     size_t i;
-    for (i = 1; i <= p->t->m; i++) used[picture_look(p, i)] = 1;
+    for (i = table_next(p->t, 0); i <= p->t->m; i = table_next(p->t, i)) used[picture_look(p, i)] = 1;
     for (look = 0; look < LOOKS; look++)
         if (used[look]) {
             fprintf(to, "<path class=\"%s\" d=\"M%.0f %.0fh%d\"/><text class=\"key\" x=\"%.0f\" y=\"%.0f\">%s</text>\n", STYLES[look].name, x, y - 4, SAMPLE,
@@ -63,9 +63,9 @@ static size_t place_labels(struct layout *l, const struct picture *p) {
     char text[2 * FIGURES];
     size_t i, left_out = 0;
     int look;
-    for (i = 1; i <= p->t->m; i++) l->trench[i - 1].heavy = picture_look(p, i) != OTHER;
+    for (i = table_next(p->t, 0); i <= p->t->m; i = table_next(p->t, i)) l->trench[i - 1].heavy = picture_look(p, i) != OTHER;
     for (look = LOOKS - 1; look >= 0; look--)
-        for (i = 1; i <= p->t->m; i++)
+        for (i = table_next(p->t, 0); i <= p->t->m; i = table_next(p->t, i))
             if ((int)picture_look(p, i) == look) {
                 layout_label(l, p->t, i, picture_label(text, sizeof text, p->t, i));
                 left_out += !l->label[i - 1].shown;
@@ -79,7 +79,7 @@ static void trenches(FILE *to, const struct picture *p, const struct layout *l) 
     size_t i;
     int look;
     for (look = 0; look < LOOKS; look++)
-        for (i = 1; i <= t->m; i++) {
+        for (i = table_next(t, 0); i <= t->m; i = table_next(t, i)) {
             const struct curve *c = &l->trench[i - 1];
             if ((int)picture_look(p, i) != look) continue;
             fprintf(to, "<path class=\"%s\" d=\"M%.1f %.1fQ%.1f %.1f %.1f %.1f\"><title>trench %zu: %u-%u, price %s, %s</title></path>\n", STYLES[look].name, c->from.x,
@@ -90,7 +90,7 @@ static void trenches(FILE *to, const struct picture *p, const struct layout *l) 
 static void labels(FILE *to, const struct picture *p, const struct layout *l) {
     char text[2 * FIGURES];
     size_t i;
-    for (i = 1; i <= p->t->m; i++) {
+    for (i = table_next(p->t, 0); i <= p->t->m; i = table_next(p->t, i)) {
         const struct label *own = &l->label[i - 1];
         if (!own->shown) continue;
         picture_label(text, sizeof text, p->t, i);
@@ -134,6 +134,6 @@ void picture_svg(FILE *to, const struct picture *p) {
     y = verdict(to, words, l.width, y);
     key(to, p, y);
     fprintf(to, "<text class=\"key\" x=\"12\" y=\"%.0f\">A label has the trench's number and its price.", y + LINE);
-    if (left_out > 0) fprintf(to, " %zu of %zu found no room: 'star table' lists every trench in order.", left_out, p->t->m);
+    if (left_out > 0) fprintf(to, " %zu of %zu found no room: 'star table' lists every trench in order.", left_out, table_used(p->t));
     fprintf(to, "</text>\n</svg>\n");
 }

@@ -1,4 +1,5 @@
-/* Reads and writes the planner's table. Words are parted by blanks; what follows # is a comment; empty lines do not count. */
+/* Reads and writes the planner's table. Words are parted by blanks; what follows # is a comment; empty lines do not count. A line that opens with
+   'struck' has a trench that is left out of everything and keeps its number. */
 #include "table.h"
 
 #include <inttypes.h>
@@ -27,12 +28,14 @@ static int wrong(struct message *fault, struct span line, struct span piece, con
 
 static uint8_t byte_or(uint32_t x, uint8_t otherwise) { return x > UINT8_MAX ? otherwise : (uint8_t)x; }
 
-/* One trench: two junctions, a price, and a mark or none. */
-static int trench(struct table *t, struct place at, struct message *fault) {
+/* One trench: two junctions, a price, and a mark or none. The junctions that a struck one names are junctions still, so that striking does not
+   change how many there are; one that is none is not counted. */
+static int trench(struct table *t, struct place at, int struck, struct message *fault) {
     struct span words[MAX_WORDS + 1], rest = at.text;
     uint32_t end[2], mark = 0;
     uint8_t price[PRICE_BYTES];
     int count = 0, i;
+    if (struck) text_word(&rest, &words[0]);
     while (count <= MAX_WORDS && text_word(&rest, &words[count])) count++;
     if (count < MIN_WORDS || count > MAX_WORDS) return wrong(fault, at.text, at.text, "is not a trench, which has two junctions, a price and a mark");
     for (i = 0; i < 2; i++)
@@ -40,16 +43,18 @@ static int trench(struct table *t, struct place at, struct message *fault) {
     if (!price_read(words[2], price)) return wrong(fault, at.text, words[2], "is not a price, " PRICE_TEXT);
     if (count == MAX_WORDS && !text_number(words[3], &mark)) return wrong(fault, at.text, words[3], "is not a mark, 0 or 1");
     for (i = 0; i < 2; i++)
-        if (!t->told && end[i] > t->n) {
+        if (!t->told && end[i] > t->n && !(struck && end[i] > STAR_MAX_JUNCTIONS)) {
             t->n = end[i];
             t->count.line = at.line;
             t->count.text = words[i];
         }
+    t->strikes += (size_t)struck;
     if (t->m++ >= KEPT) return 1;
     t->left[t->m - 1] = byte_or(end[0], 0);
     t->right[t->m - 1] = byte_or(end[1], 0);
     memcpy(t->weight + PRICE_BYTES * (t->m - 1), price, PRICE_BYTES);
-    t->mark[t->m - 1] = byte_or(mark, UINT8_MAX);
+    t->mark[t->m - 1] = struck ? 0 : byte_or(mark, UINT8_MAX);
+    t->struck[t->m - 1] = (uint8_t)struck;
     t->row[t->m - 1] = at;
     return 1;
 }
@@ -73,7 +78,7 @@ int table_read(struct table *t, struct span text, struct message *fault) {
         at.text = content(at.text);
         if (at.text.len == 0) continue;
         if (has(at.text, '\0') ? wrong(&words, at.text, at.text, "has a zero byte")
-            : text_is(text_nth(at.text, 0), "JUNCTIONS") ? junctions(t, at, &words) : trench(t, at, &words)) continue;
+            : text_is(text_nth(at.text, 0), "JUNCTIONS") ? junctions(t, at, &words) : trench(t, at, text_is(text_nth(at.text, 0), "STRUCK"), &words)) continue;
         say_place(fault, t->file, at.line);
         say(fault, "%s", words.text);
         return 0;
@@ -85,38 +90,20 @@ void table_write(FILE *to, const struct table *t) {
     char price[FIGURES];
     size_t i;
     fprintf(to, "junctions %" PRIu32 "\n", t->n);
-    for (i = 1; i <= t->m; i++) fprintf(to, "%u %u %s %u\n", t->left[i - 1], t->right[i - 1], table_price(price, t, i), t->mark[i - 1]);
+    for (i = 1; i <= t->m; i++)
+        if (t->struck[i - 1]) fprintf(to, "%.*s\n", (int)t->row[i - 1].text.len, t->row[i - 1].text.at);
+        else fprintf(to, "%u %u %s %u\n", t->left[i - 1], t->right[i - 1], table_price(price, t, i), t->mark[i - 1]);
 }
 
 static size_t kept(const struct table *t) { return t->m < KEPT ? t->m : KEPT; }
 
-struct star_answer table_cst(const struct table *t) {
-    uint8_t answer[STAR_ANSWER_BYTES];
-    size_t m = kept(t);
-    star_cst(t->n, t->left, m, t->right, m, t->weight, PRICE_BYTES * m, t->mark, m, answer, sizeof answer);
-    return star_read_answer(answer);
+size_t table_next(const struct table *t, size_t i) {
+    do i++;
+    while (i <= kept(t) && t->struck[i - 1]);
+    return i;
 }
 
-struct star_answer table_other(const struct table *t) {
-    uint8_t answer[STAR_ANSWER_BYTES];
-    size_t m = kept(t);
-    star_other(t->n, t->left, m, t->right, m, t->weight, PRICE_BYTES * m, t->mark, m, answer, sizeof answer);
-    return star_read_answer(answer);
-}
-
-struct star_answer table_paths(const struct table *t, uint32_t from, uint64_t *matrix, size_t words) {
-    uint8_t answer[STAR_ANSWER_BYTES];
-    size_t m = kept(t);
-    star_paths(t->n, t->left, m, t->right, m, t->weight, PRICE_BYTES * m, t->mark, m, from, matrix, words, answer, sizeof answer);
-    return star_read_answer(answer);
-}
-
-struct star_answer table_mst1(struct table *t) {
-    uint8_t answer[STAR_ANSWER_BYTES];
-    size_t m = kept(t);
-    star_mst1(t->n, t->left, m, t->right, m, t->weight, PRICE_BYTES * m, t->mark, m, answer, sizeof answer);
-    return star_read_answer(answer);
-}
+size_t table_used(const struct table *t) { return t->m - t->strikes; }
 
 size_t table_marks(const struct table *t) {
     size_t i, marks = 0;

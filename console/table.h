@@ -11,6 +11,11 @@
 /* Trenches that are kept: one more than are taken, so that the door sees that there are too many. */
 enum { KEPT = STAR_MAX_ROWS + 1 };
 
+/* A trench that is entered. */
+struct trench {
+    uint8_t left, right, price[PRICE_BYTES];
+};
+
 struct table {
     const char *file;    /* the file's name, for messages; NULL for none */
     uint32_t n;          /* junctions */
@@ -18,23 +23,35 @@ struct table {
     uint8_t left[KEPT];  /* a junction above 255 is stored as 0, which the door refuses */
     uint8_t right[KEPT];
     uint8_t weight[PRICE_BYTES * KEPT];
-    uint8_t mark[KEPT];  /* a mark above 255 is stored as 255, which the door refuses */
-    struct place row[KEPT]; /* the line of each trench */
+    uint8_t mark[KEPT];  /* a mark above 255 is stored as 255, which the door refuses; 0 at a struck trench */
+    uint8_t struck[KEPT]; /* whether the trench is struck: then it keeps its number and is left out of everything */
+    size_t strikes;      /* struck trenches in the file */
+    struct place row[KEPT]; /* the line of each trench, without its comment */
     struct place count;  /* the number in the line 'junctions N', else the largest junction named; line 0 if there is neither */
     int told;            /* whether a line 'junctions N' stands in the file */
+    struct span text;    /* the file, for the commands that change it */
 };
 
 /* Reads the planner's table. On a fault it says what and in which line, and returns 0. */
 int table_read(struct table *t, struct span text, struct message *fault);
 
-/* Writes a table that table_read takes. */
+/* Writes a table that table_read takes. Struck trenches stand in it as they do in the file. */
 void table_write(FILE *to, const struct table *t);
 
-/* The doors, over the trenches that are kept. */
+/* The first trench in use after trench i; one more than there are trenches where there is none. The number of trenches in use. */
+size_t table_next(const struct table *t, size_t i);
+size_t table_used(const struct table *t);
+
+/* The doors, over the trenches in use of those that are kept. */
 struct star_answer table_cst(const struct table *t);
 struct star_answer table_other(const struct table *t);
 struct star_answer table_mst1(struct table *t);
 struct star_answer table_paths(const struct table *t, uint32_t from, uint64_t *matrix, size_t words);
+
+/* The doors that change a table, over a copy of it: numbers has 1,024. A struck trench is remembered in the table. */
+struct star_answer table_strike(struct table *t, size_t i);
+struct star_answer table_add(const struct table *t, const struct trench *new, uint32_t *numbers);
+struct star_answer table_merge(const struct table *t, uint32_t *numbers);
 
 /* The number of marked trenches, and the sum of their prices. */
 size_t table_marks(const struct table *t);

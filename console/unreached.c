@@ -28,14 +28,14 @@ static void add_spokes(struct table *t) {
 
 unsigned unreached(const struct table *t) {
     static struct table part;
-    size_t next = 0, own, i;
+    size_t next = table_next(t, 0), own, i;
     unsigned least = 0;
     memset(&part, 0, sizeof part);
     part.n = t->n;
     do {
-        while (next < t->m && part.m + t->n <= STAR_MAX_ROWS) {
-            add(&part, t->left[next], t->right[next], t->weight + PRICE_BYTES * next);
-            next++;
+        while (next <= t->m && part.m + t->n <= STAR_MAX_ROWS) {
+            add(&part, t->left[next - 1], t->right[next - 1], t->weight + PRICE_BYTES * (next - 1));
+            next = table_next(t, next);
         }
         own = part.m;
         add_spokes(&part);
@@ -44,6 +44,6 @@ unsigned unreached(const struct table *t) {
             if (part.mark[i] == 1 && (least == 0 || part.right[i] < least)) least = part.right[i];
         for (i = 0, part.m = 0; i < own; i++)
             if (part.mark[i] == 1) add(&part, part.left[i], part.right[i], part.weight + PRICE_BYTES * i);
-    } while (next < t->m);
+    } while (next <= t->m);
     return least;
 }

@@ -20,16 +20,16 @@ void drawing_place(struct drawing *g, const struct table *t, const char *id) {
     g->t = t;
     g->id = id;
     layout_sheet(&g->l, t);
-    for (i = 1; i <= t->m; i++) g->l.trench[i - 1].heavy = t->mark[i - 1] == 1;
+    for (i = table_next(t, 0); i <= t->m; i = table_next(t, i)) g->l.trench[i - 1].heavy = t->mark[i - 1] == 1;
     for (marked = 1; marked >= 0; marked--)
-        for (i = 1; i <= t->m; i++)
+        for (i = table_next(t, 0); i <= t->m; i = table_next(t, i))
             if ((t->mark[i - 1] == 1) == marked) layout_label(&g->l, t, i, picture_label(text, sizeof text, t, i));
 }
 
 static void define_labels(FILE *to, const struct drawing *g) {
     char text[2 * FIGURES];
     size_t i;
-    for (i = 1; i <= g->t->m; i++) {
+    for (i = table_next(g->t, 0); i <= g->t->m; i = table_next(g->t, i)) {
         const struct label *own = &g->l.label[i - 1];
         if (!own->shown) continue;
         picture_label(text, sizeof text, g->t, i);
@@ -42,7 +42,7 @@ void drawing_define(FILE *to, const struct drawing *g) {
     size_t i;
     uint32_t v;
     fprintf(to, "<g id=\"%s-lines\">\n", g->id);
-    for (i = 1; i <= g->t->m; i++) {
+    for (i = table_next(g->t, 0); i <= g->t->m; i = table_next(g->t, i)) {
         const struct curve *c = &g->l.trench[i - 1];
         fprintf(to, "<path id=\"%s-t%zu\" d=\"M%.1f %.1fQ%.1f %.1f %.1f %.1f\"/>\n", g->id, i, c->from.x, c->from.y, c->bend.x, c->bend.y, c->to.x, c->to.y);
     }

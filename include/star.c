@@ -19,6 +19,8 @@ static const char *const TEXTS[] = {
     [STAR_BAD_TEXT] = "the text is longer than 65536 bytes or breaks the layout of STP files",
     [STAR_BAD_EDGE_COUNT] = "the E lines are not as many as the line Edges says",
     [STAR_REPEATED_ROW] = "a row joins the same two junctions as an earlier row",
+    [STAR_TABLE_FULL] = "a row is added, and all 1024 are in use",
+    [STAR_NOT_IN_USE] = "the row to strike is not in use",
 };
 
 const char *star_refusal_text(unsigned number) { return number < sizeof TEXTS / sizeof TEXTS[0] && TEXTS[number] ? TEXTS[number] : "a refusal without a text"; }

@@ -1,4 +1,4 @@
-/* The console's door to the verified tree checker, tree builder, path finder and reader of STP texts.
+/* The console's door to the verified tree checker, tree builder, path finder, working tables and reader of STP texts.
  *
  * A table has n junctions, numbered 1 to n, and m rows, counted from 1. A row joins two junctions at a price:
  *   left, right   one byte a row, the two junctions
@@ -14,16 +14,26 @@
  * star_paths  finds the rows between one junction and each other, along a claim that is a tree.
  * star_import reads a SteinLib STP text into columns of 1,024 rows; it has no marks.
  *
+ * A working table is one in which rows are struck out and entered. All its columns have 1,024 rows, marks too, and sixteen words say which
+ * of them are in use (star_in_use): the rows in use are the table, and what stands in the others is not looked at.
+ *
+ * star_work_cst, star_work_other, star_work_mst1 and star_work_paths answer as the doors without work, over the rows in use. What is said below
+ *               of star_cst, star_other, star_mst1 and star_paths holds of them too.
+ * star_strike   takes a row out of use.
+ * star_add      enters a row after the last one in use.
+ * star_merge    packs the rows in use to the top, and says where each one went.
+ *
  * Each returns 1 with the verdict in the sixteen bytes of the answer, or 0 if the lent answer has
  * not sixteen bytes; then nothing is written anywhere. Every other input is taken, whatever its
  * bytes and lengths: a fault is told as a refusal with its number and place, and a refused call
- * leaves the marks, the matrix lent to star_paths, and the columns lent to star_import, as they were.
+ * leaves the marks, the matrix, the columns lent to star_import, and the working table and the numbers lent to
+ * star_strike, star_add and star_merge, as they were.
  *
  * The caller owes that each pointer has as many readable bytes behind it as its length says (writable
- * ones behind answer, behind mark in star_mst1, behind matrix in star_paths, and behind the three columns
- * in star_import), and that a column that is written overlaps no other. The length of a matrix counts words
- * of eight bytes. An empty column may be lent as a null pointer with length 0. The calling thread has stack
- * left, 1 MiB for star_import and 128 KiB for each of the others, whatever is lent. Nothing else is asked.
+ * ones behind answer, and behind every other pointer that is not to const), and that a column that is written
+ * overlaps no other. The length of a matrix and of the rows in use counts words of eight bytes, that of a list
+ * of numbers the numbers. An empty column may be lent as a null pointer with length 0. The calling thread has
+ * stack left, 1 MiB for star_import and 128 KiB for each of the others, whatever is lent. Nothing else is asked.
  */
 #ifndef STAR_H
 #define STAR_H
@@ -37,9 +47,9 @@ extern "C" {
 
 /* The version of this header. star_version gives that of the library that is linked. */
 #define STAR_VERSION_MAJOR 0
-#define STAR_VERSION_MINOR 6
+#define STAR_VERSION_MINOR 7
 #define STAR_VERSION_PATCH 0
-#define STAR_VERSION "0.6.0"
+#define STAR_VERSION "0.7.0"
 
 const char *star_version(void);
 
@@ -50,7 +60,7 @@ enum { STAR_MAX_JUNCTIONS = 255, STAR_MAX_ROWS = 1024, STAR_ANSWER_BYTES = 16 };
 #define STAR_MIN_PRICE INT32_MIN
 #define STAR_MAX_PRICE INT32_MAX
 
-/* The words of a path matrix for each junction. */
+/* The words of a path matrix for each junction, and of the rows in use of a working table. */
 enum { STAR_COLUMN_WORDS = 16 };
 
 /* The longest text that is read. */
@@ -60,15 +70,16 @@ enum { STAR_MAX_TEXT = 65536 };
 enum star_kind {
     STAR_REFUSED = 0,
     STAR_PASSED = 1, /* star_cst, star_other: no cheaper set exists; star_mst1: the network is built; star_paths: the matrix is filled;
-                        star_import: the text is read */
+                        star_import: the text is read; star_strike, star_add, star_merge: done */
     STAR_LIGHTER = 2 /* a cheaper set exists: the exchange of two rows is one */
 };
 
-/* Byte 1 of a refused answer, and what its place is. 5 and 14 are not used. */
+/* Byte 1 of a refused answer, and what its place is. 5, 14 and 16 are not used. */
 enum star_refusal {
     STAR_BAD_JUNCTION_COUNT = 1, /* n is 0 or above 255 */
     STAR_TOO_MANY_ROWS = 2,      /* m is above 1,024 */
-    STAR_BAD_LENGTHS = 3,        /* right or mark is not m bytes, or weight not 4 m; star_import: not 1,024, 1,024 and 4,096 bytes */
+    STAR_BAD_LENGTHS = 3,        /* right or mark is not m bytes, or weight not 4 m; star_import and working tables: not 1,024 rows; working
+                                    tables: the rows in use are not sixteen words, or the numbers not 1,024 */
     STAR_BAD_END = 4,            /* place: the uppermost row with an end that is 0 or above n, or with equal ends */
     STAR_BAD_MARK = 6,           /* place: the uppermost row marked with another byte than 0 and 1 (all but star_mst1) */
     STAR_BAD_SOURCE = 7,         /* s is 0 or above n (star_paths) */
@@ -79,8 +90,10 @@ enum star_refusal {
     STAR_BAD_TEXT = 12,          /* place: the first byte, counted from 0, of the first word that cannot stand; the text's length if it ends
                                     too early; 65,536 if it is longer (star_import) */
     STAR_BAD_EDGE_COUNT = 13,    /* the E lines are not as many as the line Edges says (star_import) */
-    STAR_REPEATED_ROW = 15       /* place: the uppermost row that joins the same two junctions as an earlier one, in either direction; told
+    STAR_REPEATED_ROW = 15,      /* place: the uppermost row that joins the same two junctions as an earlier one, in either direction; told
                                     after 4 and before 6 */
+    STAR_TABLE_FULL = 17,        /* all 1,024 rows are in use (star_add); told before 3 */
+    STAR_NOT_IN_USE = 18         /* the row is not in use, or none from 1 to 1,024 (star_strike); told before 3 */
 };
 
 /* A refusal in words, such as "the marks are not n - 1"; never a null pointer, whatever the number. */
@@ -111,6 +124,63 @@ static inline int star_on_path(const uint64_t *matrix, uint32_t junction, size_t
     return (int)(matrix[STAR_COLUMN_WORDS * ((size_t)junction - 1) + (row - 1) / 64] >> ((row - 1) % 64) & 1);
 }
 
+/* The rows in use of a working table, sixteen words: row i, counted from 1, is bit (i - 1) % 64 of word (i - 1) / 64, counted from the least
+ * significant bit. A row is from 1 to 1,024. */
+static inline int star_in_use(const uint64_t *in_use, size_t row) { return (int)(in_use[(row - 1) / 64] >> ((row - 1) % 64) & 1); }
+
+static inline void star_set_in_use(uint64_t *in_use, size_t row, int used) {
+    uint64_t bit = (uint64_t)1 << ((row - 1) % 64);
+    if (used) in_use[(row - 1) / 64] |= bit;
+    else in_use[(row - 1) / 64] &= ~bit;
+}
+
+/* The doors over the rows in use of a working table. left, right and mark are 1,024 bytes, weight 4,096, in_use sixteen words, else the call is
+ * refused 3; 2 does not occur. The refusals look at rows in use alone. Marks at other rows are not read; star_work_mst1 writes 0 there. */
+uint32_t star_work_cst(uint32_t n, const uint64_t *in_use, size_t in_use_words, const uint8_t *left, size_t left_len, const uint8_t *right,
+                       size_t right_len, const uint8_t *weight, size_t weight_len, const uint8_t *mark, size_t mark_len,
+                       uint8_t *answer, size_t answer_len);
+
+uint32_t star_work_other(uint32_t n, const uint64_t *in_use, size_t in_use_words, const uint8_t *left, size_t left_len, const uint8_t *right,
+                         size_t right_len, const uint8_t *weight, size_t weight_len, const uint8_t *mark, size_t mark_len,
+                         uint8_t *answer, size_t answer_len);
+
+uint32_t star_work_mst1(uint32_t n, const uint64_t *in_use, size_t in_use_words, const uint8_t *left, size_t left_len, const uint8_t *right,
+                        size_t right_len, const uint8_t *weight, size_t weight_len, uint8_t *mark, size_t mark_len, uint8_t *answer,
+                        size_t answer_len);
+
+uint32_t star_work_paths(uint32_t n, const uint64_t *in_use, size_t in_use_words, const uint8_t *left, size_t left_len, const uint8_t *right,
+                         size_t right_len, const uint8_t *weight, size_t weight_len, const uint8_t *mark, size_t mark_len, uint32_t s,
+                         uint64_t *matrix, size_t words, uint8_t *answer, size_t answer_len);
+
+/* Takes a row out of use: its bit is cleared, and its bytes stay. A refusal is 18, else 3. Where nothing is refused the answer's kind is
+ * STAR_PASSED and all else is 0. */
+uint32_t star_strike(uint64_t *in_use, size_t in_use_words, uint32_t row, uint8_t *answer, size_t answer_len);
+
+/* Enters a row that joins a and b at a price: directly after the last row in use, or at 1 if there is none. Where row 1,024 is in use the table is
+ * packed first, as star_merge does. The answer's amount is the new row's position. The 1,024 numbers get each earlier row's position, which is its
+ * own where nothing is packed, at the index of its old one; 0 for a row that was not in use. a, b and the price are not looked at: what is wrong
+ * with them is told when the table is next judged or built. A refusal is 17, else 3. */
+uint32_t star_add(uint64_t *in_use, size_t in_use_words, uint8_t *left, size_t left_len, uint8_t *right, size_t right_len, uint8_t *weight,
+                  size_t weight_len, uint32_t *numbers, size_t count, uint8_t a, uint8_t b, int32_t price, uint8_t *answer,
+                  size_t answer_len);
+
+/* Packs the rows in use to the top in their order, and clears the other rows. The 1,024 numbers get, for row i at index i - 1, its new position, or 0
+ * where it was not in use. It takes no marks: star_carry_marks moves them. No least total changes, and a claim that passed passes again. A refusal is 3.
+ * Where nothing is refused the answer's kind is STAR_PASSED and all else is 0. */
+uint32_t star_merge(uint64_t *in_use, size_t in_use_words, uint8_t *left, size_t left_len, uint8_t *right, size_t right_len, uint8_t *weight,
+                    size_t weight_len, uint32_t *numbers, size_t count, uint8_t *answer, size_t answer_len);
+
+/* Carries marks through the numbers of star_merge or star_add: each byte to its row's new position, 0 elsewhere. No number is above its row's old
+ * position, so it is done in place. */
+static inline void star_carry_marks(uint8_t *mark, const uint32_t *numbers) {
+    size_t row;
+    for (row = 1; row <= STAR_MAX_ROWS; row++) {
+        uint8_t own = mark[row - 1];
+        mark[row - 1] = 0;
+        if (numbers[row - 1] >= 1 && numbers[row - 1] <= row) mark[numbers[row - 1] - 1] = own;
+    }
+}
+
 /* Reads an STP text: a first line that opens with 33D32945; sections, of which one is named Graph, with its lines Nodes N, Edges M,
  * E LEFT RIGHT PRICE for each row, END; and EOF. Sections of other names are skipped. left, right and weight are lent for 1,024 rows:
  * 1,024, 1,024 and 4,096 bytes. The m rows of the text are written at the top, and rows past m keep their content. A PRICE may open
@@ -139,7 +209,8 @@ struct star_answer {
     unsigned out;    /* bytes 2 and 3: lighter: the row to take out; refused: the place; star_other, passed and not the only one: a row to take out */
     unsigned in;     /* bytes 4 and 5: lighter: the row to put in; star_other: as out */
     unsigned only;   /* byte 6: 1 where star_cst or star_other passes the claim and no other network has its total; 0 in every other answer */
-    int64_t amount;  /* bytes 8 to 15, two's complement: passed: the total; lighter: the saving, above 0 and at most 4,294,967,295 */
+    int64_t amount;  /* bytes 8 to 15, two's complement: passed: the total; lighter: the saving, above 0 and at most 4,294,967,295;
+                        star_add: the new row's position */
 };
 
 static inline struct star_answer star_read_answer(const uint8_t bytes[16]) {

@@ -1,35 +1,14 @@
 #!/usr/bin/env bash
 # Tests of the console: what it writes and how it ends, on good, odd and bad input.
 # usage: console.sh STAR..   the program, with words before it if it is to be run by another. Ends in one line 'N passed, M failed'.
-set -u
-cd "$(dirname "$0")/.."
-star=("$@") passed=0 failed=0 work=$(mktemp -d)
-trap 'rm -rf "$work"' EXIT
-yard=console/examples/yard.txt dear=console/examples/yard-dear.txt grant=console/examples/grant.txt street=console/examples/street.stp
+. "$(dirname "$0")/try.sh"
 
-verdict() { # NAME STATUS: counts a test whose last command ended with STATUS
-    if [ "$2" = 0 ]; then passed=$((passed + 1)); else
-        echo "console $1 failed:"
-        sed -n 1,5p "$work/all" 2>/dev/null
-        failed=$((failed + 1))
-    fi
-}
-
-# Runs the console on a text, given as printf takes it, and holds its status and what it writes, on both streams, to what is expected.
-try() { # NAME STATUS PATTERN TEXT ARGUMENTS..
-    local name=$1 expected=$2 pattern=$3 text=$4 status
-    shift 4
-    printf "$text" | "${star[@]}" "$@" >"$work/out" 2>"$work/err"
-    status=$?
-    { cat "$work/out" "$work/err"; echo "exit $status"; } >"$work/all"
-    [ "$status" = "$expected" ] && grep -Eq -- "$pattern" "$work/all"
-    verdict "$name" $?
-}
-
-# Each stored case is a file COMMAND-NAME.txt with its input; .out has what it writes, standard error after standard output, and its status.
+# Each stored case is a file COMMAND-NAME.txt with its input; .out has what it writes, standard error after standard output, and its status; .words
+# has the words that follow the command, if there are any.
 for input in tests/console/*.txt; do
-    case=$(basename "$input" .txt)
-    "${star[@]}" "${case%%-*}" <"$input" >"$work/out" 2>"$work/err"
+    case=$(basename "$input" .txt) words=()
+    if [ -f "tests/console/$case.words" ]; then read -ra words <"tests/console/$case.words"; fi
+    "${star[@]}" "${case%%-*}" "${words[@]}" <"$input" >"$work/out" 2>"$work/err"
     status=$?
     { cat "$work/out" "$work/err"; echo "exit $status"; } >"$work/all"
     diff "$work/all" "tests/console/$case.out"
@@ -90,7 +69,7 @@ python3 -B tests/detours.py "${star[@]}" >"$work/all"
 verdict detours $?
 
 # Output that cannot be written is told, with a status of its own.
-for words in "check $yard" "build $yard" "build --table $yard" "explain $yard" "page $yard" "draw $yard" "dot $yard" "table $yard" "--help" "check --help" "--version"; do
+for words in "check $yard" "build $yard" "build --table $yard" "explain $yard" "page $yard" "draw $yard" "dot $yard" "table $yard" "strike $yard 1" "add $yard 2 4 7" "merge $struck" "--help" "check --help" "--version"; do
     "${star[@]}" $words >/dev/full 2>"$work/all"
     [ $? = 5 ] && grep -q 'standard output: it could not be written: No space left' "$work/all"
     verdict "full: $words" $?

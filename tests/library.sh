@@ -46,7 +46,7 @@ if command -v pkg-config >/dev/null; then
     read -ra flags < <(pkg-config --cflags --libs star)
 fi
 
-# The example program, as C99 and as C++17.
+# The example programs, as C99 and as C++17.
 strict=(-Wall -Wextra -Wpedantic -Werror)
 cat >"$work/expected" <<'TEXT'
 built: total 12
@@ -59,22 +59,45 @@ with a fifth junction: refused 9, the marked rows are not one fewer than the jun
 with a grant for row 5: take out row 1, put in row 5, and save 25
 built with it: total -13
 TEXT
-holds c99 "$compiler" -std=c99 "${strict[@]}" -o "$work/plan-c" console/examples/plan.c "${flags[@]}"
-holds c++17 "$plus" -std=c++17 "${strict[@]}" -o "$work/plan-cpp" -x c++ console/examples/plan.c -x none "${flags[@]}"
-for language in c cpp; do holds "plan-$language" diff "$work/expected" <("$work/plan-$language" 2>&1); done
+cat >"$work/expected-blocked" <<'TEXT'
+built: 12
+  row 1: 1-2, price 5
+  row 2: 2-3, price 3
+  row 4: 1-4, price 4
+row 4 struck: 0
+row 4 struck again: refused 18, the row to strike is not in use
+built without it: 13
+  row 1: 1-2, price 5
+  row 2: 2-3, price 3
+  row 3: 3-4, price 5
+a row is added: 6
+built with it: 7
+  row 1: 1-2, price 5
+  row 2: 2-3, price 3
+  row 6: 2-4, price -1
+  row 5 is now row 4
+  row 6 is now row 5
+checked after the merge: 7
+TEXT
+mv "$work/expected" "$work/expected-plan"
+for example in plan blocked; do
+    holds "c99 $example" "$compiler" -std=c99 "${strict[@]}" -o "$work/$example-c" "console/examples/$example.c" "${flags[@]}"
+    holds "c++17 $example" "$plus" -std=c++17 "${strict[@]}" -o "$work/$example-cpp" -x c++ "console/examples/$example.c" -x none "${flags[@]}"
+    for language in c cpp; do holds "$example-$language" diff "$work/expected-$example" <("$work/$example-$language" 2>&1); done
+done
 
-# A text for every refusal that the header names, each its own, and one for any other number, 5 and 14 among them.
+# A text for every refusal that the header names, each its own, and one for any other number, 5, 14 and 16 among them.
 cat >"$work/texts.c" <<'TEXT'
 #include <stdio.h>
 #include <string.h>
 #include "star.h"
 int main(void) {
     unsigned i, k;
-    for (i = 0; i <= 15; i++)
-        for (k = i == 14 ? i : 0; k < i; k++)
+    for (i = 0; i <= 18; i++)
+        for (k = i == 14 || i == 16 ? i : 0; k < i; k++)
             if (strlen(star_refusal_text(i)) < 10 || strcmp(star_refusal_text(i), star_refusal_text(k)) == 0) return 1;
     if (strcmp(star_refusal_text(STAR_NO_NETWORK), "no set of rows joins every junction") != 0) return 2;
-    if (strcmp(star_refusal_text(5), star_refusal_text(1000000)) != 0 || strcmp(star_refusal_text(14), star_refusal_text(5)) != 0) return 3;
+    if (strcmp(star_refusal_text(5), star_refusal_text(1000000)) != 0 || strcmp(star_refusal_text(14), star_refusal_text(5)) != 0 || strcmp(star_refusal_text(16), star_refusal_text(5)) != 0) return 3;
     return strcmp(star_refusal_text(1000000), star_refusal_text((unsigned)-1)) != 0;
 }
 TEXT
@@ -102,10 +125,10 @@ for language in c cpp; do holds "prices-$language" "$work/prices-$language"; don
 
 # The manual page: every command, option and status of the help, and no fault that a formatter finds.
 manual=$to/share/man/man1/star.1
-for word in check build explain page draw dot table '\\-\\-table' '\\-\\-all' '\\-o' '\\-h' '\\-\\-help' '\\-\\-version'; do holds "manual $word" grep -q -- "$word" "$manual"; done
+for word in check build explain page draw dot table strike add merge struck '\\-\\-table' '\\-\\-all' '\\-o' '\\-h' '\\-\\-help' '\\-\\-version'; do holds "manual $word" grep -q -- "$word" "$manual"; done
 for status in 0 1 2 3 4 5; do holds "manual status $status" grep -qx ".B $status" "$manual"; done
 if command -v groff >/dev/null; then holds manual-format [ -z "$(groff -t -man -ww -z -Tascii "$manual" 2>&1)" ]; fi
-for word in 'star explain' 'star page' '--all' 'star dot' '-o FILE' '--version' '5 the output'; do holds "help $word" grep -q -- "$word" <("$to/bin/star" --help); done
+for word in 'star explain' 'star page' 'star strike' 'star add' 'star merge' "opens with 'struck'" '--all' 'star dot' '-o FILE' '--version' '5 the output'; do holds "help $word" grep -q -- "$word" <("$to/bin/star" --help); done
 
 # uninstall removes what install has put there, and nothing else.
 touch "$to/bin/other"

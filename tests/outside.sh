@@ -22,17 +22,27 @@ add() {
 add "$work/door"
 
 # The same tests over doors with a fault each fail, and over doors with none do not.
-for fault in none always-only never-only only-swapped only-and-lighter only-and-refused only-and-built repeat-at-an-end repeat-above other-rows-swapped other-rows-lacking other-next-row \
-    paths-from-one paths-last-column paths-past-the-matrix paths-refusal-as-done; do
-    FAULT=$fault "$build/door_test_faulty" 2000 >"$work/faulty" 2>&1
-    if [ $? = 0 ] && [ "$fault" != none ] || ! [[ $(tail -n 1 "$work/faulty") =~ failed$ ]]; then
-        echo "the tests of the doors do not find the fault $fault"
-        failed=$((failed + 1))
-    elif [ "$fault" = none ] && ! grep -q ' 0 failed$' "$work/faulty"; then
-        echo "the tests of the doors fail over doors without a fault"
-        failed=$((failed + 1))
-    else passed=$((passed + 1)); fi
-done
+controls() { # PROGRAM FAULTS..
+    local program=$1 fault
+    shift
+    for fault in none "$@"; do
+        FAULT=$fault "$build/$program" 2000 >"$work/faulty" 2>&1
+        if [ $? = 0 ] && [ "$fault" != none ] || ! [[ $(tail -n 1 "$work/faulty") =~ failed$ ]]; then
+            echo "$program does not find the fault $fault"
+            failed=$((failed + 1))
+        elif [ "$fault" = none ] && ! grep -q ' 0 failed$' "$work/faulty"; then
+            echo "$program fails over doors without a fault"
+            failed=$((failed + 1))
+        else passed=$((passed + 1)); fi
+    done
+}
+controls door_test_faulty always-only never-only only-swapped only-and-lighter only-and-refused only-and-built repeat-at-an-end repeat-above other-rows-swapped other-rows-lacking other-next-row \
+    paths-from-one paths-last-column paths-past-the-matrix paths-refusal-as-done
+
+# Working tables, in the same way; the faults are those that faulty_work.c names.
+"$build/work_test" 50000 | tee "$work/working"
+add "$work/working"
+controls work_test_faulty $(sed -n 's/.*fault("\([^"]*\)").*/\1/p' tests/faulty_work.c)
 
 # The import, on texts whose answers a plain reader gives: the door, in a thread of 1 MiB, and the program, run under the kit's loader as rt does.
 python3 -B tests/stp/generate.py "$work/texts"
@@ -54,10 +64,12 @@ memory() { # PROGRAM WORDS..
 }
 if command -v valgrind >/dev/null; then
     memory "$build/door_test" 150
+    memory "$build/work_test" 1000 exact
     memory "$build/import_test" "$work/texts" 20
     for words in 'draw console/examples/t2.txt' 'build tests/console/build-refused11.txt' 'check tests/console/check-refused4.txt' \
         'build tests/console/build-stp-edges.txt' 'build tests/console/build-stp-price-above.txt' 'draw console/examples/grant.txt' 'table console/examples/street.stp' \
-        'explain console/examples/t2.txt' 'explain tests/console/explain-rings.txt' 'page console/examples/yard.txt' 'page tests/console/explain-ring.txt'; do
+        'explain console/examples/t2.txt' 'explain tests/console/explain-rings.txt' 'page console/examples/yard.txt' 'page tests/console/explain-ring.txt' \
+        'strike console/examples/struck.txt 1' 'merge console/examples/struck.txt' 'add console/examples/struck.txt 2 4 7' 'page console/examples/struck.txt'; do
         valgrind -q --error-exitcode=9 --leak-check=full --errors-for-leak-kinds=definite "$build/star" $words >"$work/valgrind" 2>&1
         if [ $? != 9 ]; then passed=$((passed + 1)); else
             echo "valgrind found a fault in star $words"
@@ -70,6 +82,8 @@ fi
 star=$(realpath "$build/star")
 bash tests/console.sh "$star" | tee "$work/console"
 add "$work/console"
+bash tests/changes.sh "$star" | tee "$work/changes"
+add "$work/changes"
 python3 -B tests/picture.py "$star" | tee "$work/picture"
 add "$work/picture"
 python3 -B tests/page.py "$star" | tee "$work/page"

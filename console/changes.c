@@ -1,0 +1,128 @@
+/* The commands that change a table file: strike, add and merge. The doors of working tables say where a trench goes and which numbers change; the
+   lines of the file follow. */
+#include <string.h>
+
+#include "commands.h"
+#include "edit.h"
+#include "refusal.h"
+#include "status.h"
+
+static struct edit edit;
+static uint32_t numbers[STAR_MAX_ROWS];
+
+static int refused(const struct message *words) {
+    fprintf(stderr, "%s\n", words->text);
+    return EXIT_REFUSED;
+}
+
+static int misused(const char *what, const char *word) {
+    fprintf(stderr, "star: %s '%s'; 'star --help' says how it is used\n", what, word);
+    return EXIT_USAGE;
+}
+
+/* A file with more trenches than a working table has rows is refused as any table of its size. */
+static int too_many(const struct table *t) {
+    struct star_answer a = {STAR_REFUSED, STAR_TOO_MANY_ROWS, 0, 0, 0, 0};
+    struct message words = {{0}, 0};
+    if (t->m <= STAR_MAX_ROWS) return 0;
+    refusal_words(&words, t, a);
+    return refused(&words);
+}
+
+static int write_edit(const struct table *t, struct output *o) {
+    FILE *to = output_open(o);
+    if (!to) return EXIT_UNWRITTEN;
+    edit_write(to, t, &edit);
+    return EXIT_PASSED;
+}
+
+int command_strike(struct table *t, const struct options *with, struct output *o) {
+    struct message words = {{0}, 0};
+    int i, status = too_many(t);
+    if (status != 0) return status;
+    if (with->count == 0) return misused("the number of a trench follows the file of", "strike");
+    for (i = 0; i < with->count; i++) {
+        struct span word = {with->words[i], strlen(with->words[i])};
+        uint32_t trench;
+        if (!text_number(word, &trench)) return misused("a trench is named by its number, from 1 on, and not by", with->words[i]);
+        if (table_strike(t, trench).kind != STAR_PASSED) {
+            refusal_of_strike(&words, t, trench);
+            return refused(&words);
+        }
+        edit.strike[trench - 1] = 1;
+    }
+    return write_edit(t, o);
+}
+
+/* Tells the numbers of trenches that have new ones. */
+static void tell_numbers(const struct table *t) {
+    struct message words = {{0}, 0};
+    size_t i;
+    if (t->strikes == 0) say(&words, "No trench is struck: the file is as it was.");
+    else say_count(&words, t->strikes, "struck trench is gone.", "struck trenches are gone.");
+    fprintf(stderr, "%s\n", words.text);
+    for (i = table_next(t, 0); i <= t->m; i = table_next(t, i))
+        if (numbers[i - 1] != i) fprintf(stderr, "trench %zu is now trench %u\n", i, (unsigned)numbers[i - 1]);
+}
+
+/* The words LEFT RIGHT PRICE as a trench and as the line of it. */
+static int new_trench(const struct options *with, struct trench *new, struct message *as) {
+    struct span word[3];
+    uint32_t end[2];
+    int i;
+    if (with->count != 3) return misused("two junctions and a price follow the file of", "add");
+    for (i = 0; i < 3; i++) word[i].at = with->words[i], word[i].len = strlen(with->words[i]);
+    for (i = 0; i < 2; i++)
+        if (!text_number(word[i], &end[i]) || end[i] < 1 || end[i] > STAR_MAX_JUNCTIONS) return misused("a junction is a number from 1 to 255, and not", with->words[i]);
+    if (!price_read(word[2], new->price)) return misused("a price is " PRICE_TEXT ", and not", with->words[2]);
+    new->left = (uint8_t)end[0];
+    new->right = (uint8_t)end[1];
+    say(as, "%u %u %s 0", (unsigned)end[0], (unsigned)end[1], with->words[2]);
+    return 0;
+}
+
+int command_add(struct table *t, const struct options *with, struct output *o) {
+    struct message words = {{0}, 0}, line = {{0}, 0};
+    struct trench new;
+    struct star_answer a;
+    size_t at, last = t->m;
+    int status = new_trench(with, &new, &line);
+    if (status == 0) status = too_many(t);
+    if (status != 0) return status;
+    a = table_add(t, &new, numbers);
+    if (a.kind != STAR_PASSED) {
+        refusal_words(&words, t, a);
+        return refused(&words);
+    }
+    at = (size_t)a.amount;
+    while (last > 0 && t->struck[last - 1]) last--;
+    edit.line = line.text;
+    edit.merge = at <= last; /* the table was packed first */
+    edit.instead = !edit.merge && at <= t->m ? at : 0;
+    edit.n = t->n;
+    if (new.left > edit.n) edit.n = new.left;
+    if (new.right > edit.n) edit.n = new.right;
+    status = write_edit(t, o);
+    if (status != 0) return status;
+    if (edit.merge) tell_numbers(t);
+    fprintf(stderr, "trench %zu is new\n", at);
+    return EXIT_PASSED;
+}
+
+int command_merge(struct table *t, const struct options *with, struct output *o) {
+    struct message words = {{0}, 0};
+    struct star_answer a;
+    int status = too_many(t);
+    (void)with;
+    if (status != 0) return status;
+    a = table_merge(t, numbers);
+    if (a.kind != STAR_PASSED) {
+        refusal_words(&words, t, a);
+        return refused(&words);
+    }
+    edit.merge = 1;
+    edit.n = t->n;
+    status = write_edit(t, o);
+    if (status == 0) tell_numbers(t);
+    return status;
+}

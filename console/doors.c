@@ -1,0 +1,82 @@
+/* Asks the doors about a table: those of working tables where a trench is struck, and else the plain ones, which also see that a table has too many
+   trenches. */
+#include <string.h>
+
+#include "table.h"
+
+#define COLUMNS(t, m) (t)->left, (m), (t)->right, (m), (t)->weight, PRICE_BYTES * (m)
+
+/* The rows in use, as the doors take them; 0 where the table has none struck, or too many trenches. */
+static int working(const struct table *t, uint64_t in_use[STAR_COLUMN_WORDS]) {
+    size_t i;
+    memset(in_use, 0, 8 * STAR_COLUMN_WORDS);
+    if (t->m > STAR_MAX_ROWS) return 0;
+    for (i = table_next(t, 0); i <= t->m; i = table_next(t, i)) star_set_in_use(in_use, i, 1);
+    return t->strikes > 0;
+}
+
+static size_t kept(const struct table *t) { return t->m < KEPT ? t->m : KEPT; }
+
+struct star_answer table_cst(const struct table *t) {
+    uint8_t answer[STAR_ANSWER_BYTES];
+    uint64_t in_use[STAR_COLUMN_WORDS];
+    if (working(t, in_use)) star_work_cst(t->n, in_use, STAR_COLUMN_WORDS, COLUMNS(t, STAR_MAX_ROWS), t->mark, STAR_MAX_ROWS, answer, sizeof answer);
+    else star_cst(t->n, COLUMNS(t, kept(t)), t->mark, kept(t), answer, sizeof answer);
+    return star_read_answer(answer);
+}
+
+struct star_answer table_other(const struct table *t) {
+    uint8_t answer[STAR_ANSWER_BYTES];
+    uint64_t in_use[STAR_COLUMN_WORDS];
+    if (working(t, in_use)) star_work_other(t->n, in_use, STAR_COLUMN_WORDS, COLUMNS(t, STAR_MAX_ROWS), t->mark, STAR_MAX_ROWS, answer, sizeof answer);
+    else star_other(t->n, COLUMNS(t, kept(t)), t->mark, kept(t), answer, sizeof answer);
+    return star_read_answer(answer);
+}
+
+struct star_answer table_paths(const struct table *t, uint32_t from, uint64_t *matrix, size_t words) {
+    uint8_t answer[STAR_ANSWER_BYTES];
+    uint64_t in_use[STAR_COLUMN_WORDS];
+    if (working(t, in_use))
+        star_work_paths(t->n, in_use, STAR_COLUMN_WORDS, COLUMNS(t, STAR_MAX_ROWS), t->mark, STAR_MAX_ROWS, from, matrix, words, answer, sizeof answer);
+    else star_paths(t->n, COLUMNS(t, kept(t)), t->mark, kept(t), from, matrix, words, answer, sizeof answer);
+    return star_read_answer(answer);
+}
+
+struct star_answer table_mst1(struct table *t) {
+    uint8_t answer[STAR_ANSWER_BYTES];
+    uint64_t in_use[STAR_COLUMN_WORDS];
+    if (working(t, in_use)) star_work_mst1(t->n, in_use, STAR_COLUMN_WORDS, COLUMNS(t, STAR_MAX_ROWS), t->mark, STAR_MAX_ROWS, answer, sizeof answer);
+    else star_mst1(t->n, COLUMNS(t, kept(t)), t->mark, kept(t), answer, sizeof answer);
+    return star_read_answer(answer);
+}
+
+struct star_answer table_strike(struct table *t, size_t i) {
+    uint8_t answer[STAR_ANSWER_BYTES];
+    uint64_t in_use[STAR_COLUMN_WORDS];
+    struct star_answer a;
+    working(t, in_use);
+    star_strike(in_use, STAR_COLUMN_WORDS, i > UINT32_MAX ? UINT32_MAX : (uint32_t)i, answer, sizeof answer);
+    a = star_read_answer(answer);
+    if (a.kind == STAR_PASSED) t->struck[i - 1] = 1, t->strikes++, t->mark[i - 1] = 0;
+    return a;
+}
+
+struct star_answer table_add(const struct table *t, const struct trench *new, uint32_t *numbers) {
+    static struct table copy;
+    uint8_t answer[STAR_ANSWER_BYTES];
+    uint64_t in_use[STAR_COLUMN_WORDS];
+    copy = *t;
+    working(t, in_use);
+    star_add(in_use, STAR_COLUMN_WORDS, COLUMNS(&copy, STAR_MAX_ROWS), numbers, STAR_MAX_ROWS, new->left, new->right, star_get_price(new->price, 0), answer, sizeof answer);
+    return star_read_answer(answer);
+}
+
+struct star_answer table_merge(const struct table *t, uint32_t *numbers) {
+    static struct table copy;
+    uint8_t answer[STAR_ANSWER_BYTES];
+    uint64_t in_use[STAR_COLUMN_WORDS];
+    copy = *t;
+    working(t, in_use);
+    star_merge(in_use, STAR_COLUMN_WORDS, COLUMNS(&copy, STAR_MAX_ROWS), numbers, STAR_MAX_ROWS, answer, sizeof answer);
+    return star_read_answer(answer);
+}

@@ -1,0 +1,33 @@
+/* Writes a changed table file. */
+#include "edit.h"
+
+#include <inttypes.h>
+
+static void copy(FILE *to, const char *from, const char *end) { fwrite(from, 1, (size_t)(end - from), to); }
+
+/* One line of the file, with its end: that of trench i, or another one where i is 0. */
+static void line(FILE *to, const struct table *t, const struct edit *e, size_t i, const char *from, const char *end) {
+    if (i > 0 && i == e->instead) fprintf(to, "%s\n", e->line);
+    else if (i > 0 && e->merge && t->struck[i - 1]) return;
+    else if (i > 0 && e->strike[i - 1]) {
+        copy(to, from, t->row[i - 1].text.at);
+        fputs("struck ", to);
+        copy(to, t->row[i - 1].text.at, end);
+    } else copy(to, from, end);
+}
+
+void edit_write(FILE *to, const struct table *t, const struct edit *e) {
+    struct span rest = t->text, own;
+    size_t number = 0, i = 1;
+    char last = '\n';
+    if ((e->merge || e->instead > 0) && t->strikes > 0 && !t->told && e->n > 0) fprintf(to, "junctions %" PRIu32 "\n", e->n);
+    while (text_line(&rest, &own)) {
+        int trench = i <= t->m && t->row[i - 1].line == ++number;
+        line(to, t, e, trench ? i : 0, own.at, rest.at);
+        if (trench) i++;
+        last = rest.at[-1];
+    }
+    if (!e->line || e->instead > 0) return;
+    if (last != '\n' && last != '\r') fputs("\n", to);
+    fprintf(to, "%s\n", e->line);
+}

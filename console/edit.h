@@ -1,0 +1,18 @@
+/* Changes to a table file: lines that are struck, left out, replaced or added. All else stands as it did, comments too. */
+#ifndef CONSOLE_EDIT_H
+#define CONSOLE_EDIT_H
+
+#include "table.h"
+
+struct edit {
+    uint8_t strike[KEPT]; /* trench i at index i - 1: whether 'struck' is put before it */
+    int merge;            /* whether the lines of struck trenches are left out */
+    size_t instead;       /* the trench whose line is replaced by the new one; 0 for none: then a new one stands at the end */
+    const char *line;     /* the line of a new trench, NULL for none */
+    uint32_t n;           /* the number of junctions that a line 'junctions N' says, where lines are left out or replaced and none does */
+};
+
+/* Writes the table's file as it is after the changes. */
+void edit_write(FILE *to, const struct table *t, const struct edit *e);
+
+#endif

@@ -1,0 +1,25 @@
+# What the tests of the console have in common, to be read by bash: the program, a folder for its output, the examples, and what counts a test.
+set -u
+cd "$(dirname "${BASH_SOURCE[0]}")/.."
+star=("$@") passed=0 failed=0 work=$(mktemp -d)
+trap 'rm -rf "$work"' EXIT
+yard=console/examples/yard.txt dear=console/examples/yard-dear.txt grant=console/examples/grant.txt street=console/examples/street.stp struck=console/examples/struck.txt
+
+verdict() { # NAME STATUS: counts a test whose last command ended with STATUS
+    if [ "$2" = 0 ]; then passed=$((passed + 1)); else
+        echo "console $1 failed:"
+        sed -n 1,5p "$work/all" 2>/dev/null
+        failed=$((failed + 1))
+    fi
+}
+
+# Runs the console on a text, given as printf takes it, and holds its status and what it writes, on both streams, to what is expected.
+try() { # NAME STATUS PATTERN TEXT ARGUMENTS..
+    local name=$1 expected=$2 pattern=$3 text=$4 status
+    shift 4
+    printf "$text" | "${star[@]}" "$@" >"$work/out" 2>"$work/err"
+    status=$?
+    { cat "$work/out" "$work/err"; echo "exit $status"; } >"$work/all"
+    [ "$status" = "$expected" ] && grep -Eq -- "$pattern" "$work/all"
+    verdict "$name" $?
+}
