@@ -1,0 +1,60 @@
+// MatrixPath for C.
+use answer::Record;
+use answer::write_answer;
+use refusal::Outcome;
+ghost use mathlib.Core.Path.{_≡_};
+ghost use Rattle.answer.specs.Records.{fieldsOf};
+ghost use Rattle.refusal.specs.Outcomes.{refusalOf};
+ghost use Rattle.star.specs.Call.{callOf};
+ghost use Rattle.star.specs.Door.{doorReturns, pathFields, pathsDoor, pathsDoorMatrix};
+
+// The fields of MatrixPath's answer.
+pub fn of_paths(o: Outcome) -> Record
+    ensures { λ r. ⌜ fieldsOf r ≡ pathFields (refusalOf o) ⌝ }
+{
+    match o {
+        Outcome::Done => Record {
+            kind: 1,
+            number: 0,
+            out: 0,
+            into: 0,
+            amount: 0,
+        },
+        Outcome::Refused(r) => Record {
+            kind: 0,
+            number: r.number,
+            out: r.place,
+            into: 0,
+            amount: 0,
+        },
+    }
+}
+
+// MatrixPath through the door: the matrix is filled where nothing is refused, and stays as it is otherwise.
+#[no_mangle]
+pub extern "C" fn star_paths(
+    n: u32,
+    left: &[u8],
+    right: &[u8],
+    weight: &[u8],
+    mark: &[u8],
+    s: u32,
+    matrix: &mut [u64],
+    answer: &mut [u8],
+) -> u32
+    ensures returned { λ r. ⌜ r ≡ doorReturns (now (answer .entry)) ⌝ }
+    ensures answered { λ r.
+        let c = callOf n (now (left .entry)) (now (right .entry)) (now (weight .entry)) (now (mark .entry)) in
+        ⌜ now (answer .exit) ≡ pathsDoor c s (now (matrix .entry)) (now (answer .entry)) ⌝ }
+    ensures filled { λ r.
+        let c = callOf n (now (left .entry)) (now (right .entry)) (now (weight .entry)) (now (mark .entry)) in
+        ⌜ now (matrix .exit) ≡ pathsDoorMatrix c s (now (matrix .entry)) (now (answer .entry)) ⌝ }
+{
+    if answer.len() != 16 {
+        return 0;
+    }
+    let o = path::matrix_path(n, left, right, weight, mark, s, matrix);
+    let x = of_paths(o);
+    write_answer(answer, x);
+    1
+}
