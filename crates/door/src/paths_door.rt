@@ -18,6 +18,7 @@ pub fn of_paths(o: Outcome) -> Record
             number: 0,
             out: 0,
             into: 0,
+            only: 0,
             amount: 0,
         },
         Outcome::Refused(r) => Record {
@@ -25,6 +26,7 @@ pub fn of_paths(o: Outcome) -> Record
             number: r.number,
             out: r.place,
             into: 0,
+            only: 0,
             amount: 0,
         },
     }
