@@ -112,7 +112,7 @@ pub few-rows : (n m : ℕ) → none ≡ refusal (badVertices n ∷ tooManyRows m
 unfolding tooManyRows
 few-rows n m e = ltb-false maxRows m (cause-none _ 2 0 (none-head _ _ (none-tail (badVertices n) _ (sym e))))
 
--- causes 1 to 4, and with them cause 6, by the checks that seek them
+-- causes 1 to 4 and 15, and with them cause 6, by the checks that seek them
 pub table-in-order : (c : Call) → refusal (tableCauses c) ≡ orElse (refusal (badVertices (c .n) ∷ tooManyRows (rowsOf c) ∷ [])) (orElse (badLengths c) (refusal (rowCauses c)))
 unfolding tableCauses refusal
 table-in-order c = refusal-both (badVertices (c .n) ∷ tooManyRows (rowsOf c) ∷ []) (badLengths c ∷ rowCauses c)

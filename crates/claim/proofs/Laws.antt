@@ -3,20 +3,15 @@
 use Prim.Native.Nat.{ℕ, _≤_}
 use borrow.Author.Tests.{leb-true, leb-false, le-leb}
 use lib.Dec.{leb}
-use lib.IntN.{ℤ}
 use lib.ListN.{length}
-use mathlib.Core.Bool.{Bool, true, false, cond, and-false}
+use mathlib.Core.Bool.{Bool, true, false, cond}
 use mathlib.Core.List.{List}
-use mathlib.Core.Path.{_≡_, refl, fun-ext}
+use mathlib.Core.Path.{_≡_, refl}
 use native.Mathlib.Omega.{arith}
 use Rattle.claim.specs.Claims.{claimRows}
-use Rattle.rowset.proofs.Integers.{total-cut}
-use Rattle.rowset.proofs.Laws.{refuted, upTo-in, both-inside}
-use Rattle.rowset.specs.Integers.{total}
 use Rattle.rowset.specs.Searches.{equalTo}
-use Rattle.rowset.specs.Sets.{empty, upTo, both}
+use Rattle.rowset.specs.Sets.{empty, both}
 use Rattle.slice.specs.Slices.{size}
-use Rattle.star.proofs.Claims.{marked-row}
 use Rattle.star.specs.Call.{marked}
 use Rattle.table.proofs.Loads.{load-long, load-taken, loaded-refused, loaded-taken}
 use Rattle.table.specs.Loads.{loadedRow}
@@ -34,17 +29,7 @@ match-claim l X = go (leb (length l) size) refl
         let h = leb-false (length l) size e in
         rw (loaded-refused 1 l 1 (load-long 1 l (omega arith)))
 
--- ── Claims and tables that fit a slice ──
-
 -- the rows of a claim that fits a slice are those that it marks
 pub claimRows-marked : (l : List ℕ) → length l ≤ size → claimRows l ≡ marked l
 unfolding claimRows
 claimRows-marked l h = rw (le-leb (length l) size h)
-
--- a total over the rows of a claim that fits a slice
-pub claimRows-total : (l : List ℕ) (w : ℕ → ℤ) → length l ≤ size → total size w (claimRows l) ≡ total (length l) w (marked l)
-claimRows-total l w h = rw (claimRows-marked l h) (total-cut size (length l) w (marked l) h (λ i q. refuted (marked l i) (λ m. omega (arith, marked-row l i m))))
-
--- the rows of a table that fits a slice
-pub rows-fit : (m : ℕ) → m ≤ size → both (upTo size) (upTo m) ≡ upTo m
-rows-fit m h = both-inside size (upTo m) (λ i e. let r = upTo-in m i e in (r .0, omega arith))

@@ -10,7 +10,6 @@ ghost use Rattle.star.specs.Call.{claimOf};
 ghost use Rattle.claim.specs.Claims.{claimRows};
 use checks::row_weight;
 use slice::Slice;
-pub use slice::rows::rows_to;
 
 // 2 ^ 31: the first of 32 bits.
 const OFFSET: u32 = 2147483648;

@@ -13,9 +13,9 @@ use lib.Signed.{_≤ℤ_}
 use native.Mathlib.Omega.{arith}
 use Rattle.graph.specs.Tree.{onPath}
 use Rattle.refusal.specs.declared.Refusal.{Refusal}
-use Rattle.rowset.proofs.Integers.{integers}
+use Rattle.rowset.proofs.Integers.{integers, total-cut}
 use Rattle.rowset.proofs.Laws.{refuted, clash, upTo-in, in-upTo, any-cut, any-found, uppermost-cut, uppermost-ext, uppermost-some, uppermost-zero, xor-self}
-use Rattle.rowset.proofs.Members.{without-in}
+use Rattle.rowset.proofs.Members.{both-in, without-in}
 use Rattle.rowset.proofs.Searches.{greaterThan-in, sameAs-in}
 use Rattle.rowset.specs.Bytes.{inRow}
 use Rattle.rowset.specs.Integers.{fromBits, total}
@@ -27,14 +27,14 @@ use Rattle.matrix.specs.Matrix.{matrixColumn}
 use Rattle.slice.specs.Slices.{size}
 use Rattle.table.proofs.Loads.{load-taken, loaded-taken}
 use Rattle.table.specs.Loads.{loadedRow}
-use Rattle.star.proofs.Accepted.{none-head, none-tail, none-both, none-nil, Taken, taken, sound}
-use Rattle.star.proofs.Claims.{marked-row}
-use Rattle.star.specs.Call.{Call, rowsOf, graphOf, weightOf, marked, claimWeight}
+use Rattle.star.proofs.Accepted.{none-head, none-tail, none-both, none-nil, Taken, taken, used-row, sound}
+use Rattle.star.specs.Accepted.{Row}
+use Rattle.star.specs.Call.{Call, rowsOf, used, graphOf, weightOf, marked, claimed, claimWeight}
 use Rattle.star.specs.Cst.{refused, passed, lighter, between, heavier, improves, rowIn, rowOut, equals, replaces, equalIn, equalOut, only, judged, verdict, cst, rowsBeside, equalRows}
 use Rattle.star.specs.MatrixPath.{pathColumn, matrixPath, matrixOr, matrixAfter}
 use Rattle.star.specs.Refusals.{maxVertices, cstCauses, tableCauses, refusal}
 use Rattle.checks.proofs.Laws.{uppermost-bound}
-use Rattle.claim.proofs.Laws.{claimRows-marked, claimRows-total, rows-fit}
+use Rattle.claim.proofs.Laws.{claimRows-marked}
 use Rattle.claim.specs.Claims.{claimRows}
 use Rattle.cst.proofs.Refused.{path-refusal}
 use Rattle.cst.proofs.Sets.{passed-over, stopped, exhausted}
@@ -140,6 +140,11 @@ none-front : (xs ys : List (Option Refusal)) → refusal (xs ++ ys) ≡ none →
 none-front [] ys e = none-nil
 none-front (x ∷ xs) ys e = none-both x xs (none-head x (xs ++ ys) e) (none-front xs ys (none-tail x (xs ++ ys) e))
 
+-- a row that the claim marks is a row in use
+claimed-row : (c : Call) (k : ℕ) → claimed c k ≡ true → Row c k
+unfolding claimed
+claimed-row c k h = used-row c k (both-in (used c) (marked (c .mark)) k h .0)
+
 module _ (c : Call) (e : refusal (cstCauses c) ≡ none) where
   -- its table is an accepted one
   accepted : Taken c
@@ -150,8 +155,8 @@ module _ (c : Call) (e : refusal (cstCauses c) ≡ none) where
   column-row : (j k : ℕ) → pathColumn c 1 j k ≡ true → (1 ≤ k) × (k ≤ rowsOf c)
   unfolding pathColumn onPath
   column-row j k h =
-      let (l, u) = marked-row (c .mark) k (and-eq-true-iff _ _ .0 h .0) in
-      (l, omega (arith, accepted .mark-length))
+      let (l, u, x) = claimed-row c k (and-eq-true-iff _ _ .0 h .0) in
+      (l, u)
 
   -- MatrixPath's matrix of 4,080 words has the path columns: a slice holds all their rows
   walked : (R : List ℕ) → length R ≡ columnWords * maxVertices → Walked c (matrixAfter c 1 R)
@@ -190,12 +195,23 @@ module _ (c : Call) (e : refusal (cstCauses c) ≡ none) where
       let t = accepted in
       loaded-taken 4 (c .weight) (load-taken 4 (c .weight) (omega (arith, t .weight-length, t .few-rows)) (omega (arith, t .weight-length)))
 
-  unmarked : without (both (upTo size) (upTo (rowsOf c))) (claimRows (c .mark)) ≡ without (upTo (rowsOf c)) (marked (c .mark))
-  unmarked = rw (rows-fit (rowsOf c) (accepted .few-rows), claimRows-marked (c .mark) (rw (accepted .mark-length) (accepted .few-rows)))
+  marks : both (both (upTo (c .m)) (c .inUse)) (claimRows (c .mark)) ≡ claimed c
+  unfolding claimed used
+  marks = rw (claimRows-marked (c .mark) (rw (accepted .mark-length) (accepted .few-rows)))
 
-  marked-weight : total size (weightIn (c .weight)) (claimRows (c .mark)) ≡ claimWeight c
+  unmarked : without (both (upTo (c .m)) (c .inUse)) (both (both (upTo (c .m)) (c .inUse)) (claimRows (c .mark))) ≡ without (used c) (claimed c)
+  unfolding used
+  unmarked = rw marks
+
+  marked-weight : total size (weightIn (c .weight)) (both (both (upTo (c .m)) (c .inUse)) (claimRows (c .mark))) ≡ claimWeight c
   unfolding claimWeight weightOf
-  marked-weight = rw (← accepted .mark-length) (claimRows-total (c .mark) (weightIn (c .weight)) (rw (accepted .mark-length) (accepted .few-rows)))
+  marked-weight = rw marks (total-cut size (rowsOf c) (weightOf c) (claimed c) (accepted .few-rows) above)
+    where
+      above : (i : ℕ) → rowsOf c < i → claimed c i ≡ false
+      above i u =
+          refuted _ (λ h.
+          let (l, p, x) = claimed-row c i h in
+          omega arith)
 
 module _ (c : Call) (matrix : List ℕ) (w : Walked c matrix) where
   module _ (search : Search) (inside : Selected search) where
@@ -204,36 +220,43 @@ module _ (c : Call) (matrix : List ℕ) (w : Walked c matrix) where
     found i = search (weightOf c) (weightOf c i) (between c i)
 
     abbrev sought : ℕ → Bool
-    sought i = without (upTo (rowsOf c)) (marked (c .mark)) i && any (rowsOf c) (found i)
+    sought i = without (used c) (claimed c) i && any (rowsOf c) (found i)
 
-    -- what the matrix gives for a row of the table is that
-    found-read : (i : ℕ) → 1 ≤ i → i ≤ rowsOf c → foundOn search (weightIn (c .weight)) (weightIn (c .weight) i) matrix (c .left) (c .right) i ≡ found i
+    -- what the matrix gives for a row in use is that
+    found-read : (i : ℕ) → used c i ≡ true → foundOn search (weightIn (c .weight)) (weightIn (c .weight) i) matrix (c .left) (c .right) i ≡ found i
     unfolding foundOn between weightOf graphOf
-    found-read i l u =
+    found-read i r =
         let ok = sound c (accepted c (w .unrefused)) in
-        let r = in-upTo (rowsOf c) i l u in
         rw (w .columns (inRow 1 (c .left) i) (ok .left i r .0) (ok .left i r .1), w .columns (inRow 1 (c .right) i) (ok .right i r .0) (ok .right i r .1))
 
     -- the uppermost unmarked row with such a row comes in
-    row-in : rowWith search matrix (c .left) (c .right) (c .weight) (without (upTo (rowsOf c)) (marked (c .mark))) ≡ uppermost (rowsOf c) sought
+    row-in : rowWith search matrix (c .left) (c .right) (c .weight) (without (used c) (claimed c)) ≡ uppermost (rowsOf c) sought
     unfolding rowWith both someOn
-    row-in =
-        let few = accepted c (w .unrefused) .few-rows in
-        uppermost-cut size (rowsOf c) _ few outside
-        ∙ uppermost-ext (rowsOf c) _ sought (λ i l u. rw (found-read i l u, any-cut size (rowsOf c) (found i) few (found-above c (w .unrefused) search inside i)))
+    row-in = uppermost-cut size (rowsOf c) _ few outside ∙ uppermost-ext (rowsOf c) _ sought (λ i l u. same i (without (used c) (claimed c) i) refl)
       where
-        outside : (i : ℕ) → rowsOf c < i → (without (upTo (rowsOf c)) (marked (c .mark)) i && someOn search matrix (c .left) (c .right) (c .weight) i) ≡ false
-        outside i u = refuted _ (λ t. omega (arith, upTo-in (rowsOf c) i (without-in _ _ i (and-eq-true-iff _ _ .0 t .0) .0) .1))
+        few : rowsOf c ≤ size
+        few = accepted c (w .unrefused) .few-rows
+
+        outside : (i : ℕ) → rowsOf c < i → (without (used c) (claimed c) i && someOn search matrix (c .left) (c .right) (c .weight) i) ≡ false
+        outside i u =
+            refuted _ (λ t.
+            let (l, p, x) = used-row c i (without-in _ _ i (and-eq-true-iff _ _ .0 t .0) .0) in
+            omega arith)
+
+        same : (i : ℕ) (b : Bool) → without (used c) (claimed c) i ≡ b
+            → (b && any size (foundOn search (weightIn (c .weight)) (weightIn (c .weight) i) matrix (c .left) (c .right) i)) ≡ (b && any (rowsOf c) (found i))
+        same i true h = rw (found-read i (without-in _ _ i h .0)) (any-cut size (rowsOf c) (found i) few (found-above c (w .unrefused) search inside i))
+        same i false h = refl
 
     -- and the uppermost of what is found for it goes out
     row-out : (j : ℕ) → uppermost (rowsOf c) sought ≡ suc j → firstOn search matrix (c .left) (c .right) (c .weight) (suc j) ≡ uppermost (rowsOf c) (found (suc j))
     unfolding firstOn
     row-out j h =
-        rw (found-read (suc j) (omega arith) (uppermost-some (rowsOf c) j sought h .1))
+        rw (found-read (suc j) (without-in _ _ (suc j) (and-eq-true-iff _ _ .0 (uppermost-some (rowsOf c) j sought h .0) .0) .0))
         (uppermost-cut size (rowsOf c) (found (suc j)) (accepted c (w .unrefused) .few-rows) (found-above c (w .unrefused) search inside (suc j)))
 
   -- so CST's answer is passed or lighter, by the exchange that is found among the unmarked rows
-  module _ (x : Exchange) (lighter-is : x ≡ firstLighter matrix (c .left) (c .right) (c .weight) (without (both (upTo size) (upTo (rowsOf c))) (claimRows (c .mark)))) where
+  module _ (x : Exchange) (lighter-is : x ≡ firstLighter matrix (c .left) (c .right) (c .weight) (without (both (upTo (c .m)) (c .inUse)) (both (both (upTo (c .m)) (c .inUse)) (claimRows (c .mark))))) where
     into-is : x .into ≡ rowIn c
     unfolding firstLighter exchangeOf rowIn improves heavier
     into-is = rw (lighter-is, unmarked c (w .unrefused)) (row-in greaterThan greater-selected)
@@ -267,7 +290,7 @@ module _ (c : Call) (matrix : List ℕ) (w : Walked c matrix) where
     lightens n = let e = lighter-answer n in (e, rw (← e))
 
     -- else passed, with the weight of the marked rows, and yes where no exchange of equal rows is found
-    module _ (y : Equal) (equal-is : y ≡ firstEqual matrix (c .left) (c .right) (c .weight) (without (both (upTo size) (upTo (rowsOf c))) (claimRows (c .mark)))) where
+    module _ (y : Equal) (equal-is : y ≡ firstEqual matrix (c .left) (c .right) (c .weight) (without (both (upTo (c .m)) (c .inUse)) (both (both (upTo (c .m)) (c .inUse)) (claimRows (c .mark))))) where
       equal-into : y .into ≡ equalIn c
       unfolding firstEqual equalIn replaces equals
       equal-into = rw (equal-is, unmarked c (w .unrefused)) (row-in sameAs equal-selected)
@@ -280,7 +303,7 @@ module _ (c : Call) (matrix : List ℕ) (w : Walked c matrix) where
       unfolding equalIn equalOut replaces equals
       equal-row j h = row-out sameAs equal-selected j h ∙ ap (λ k. uppermost (rowsOf c) (equals c k)) (sym h)
 
-      passed-answer : x .into ≡ 0 → passed (total size (weightIn (c .weight)) (claimRows (c .mark))) (eqb (y .into) 0) ≡ cst c
+      passed-answer : x .into ≡ 0 → passed (total size (weightIn (c .weight)) (both (both (upTo (c .m)) (c .inUse)) (claimRows (c .mark)))) (eqb (y .into) 0) ≡ cst c
       unfolding cst verdict judged only
       passed-answer e = rw (w .unrefused, marked-weight c (w .unrefused), ← into-is, e, equal-into)
 
@@ -296,7 +319,7 @@ module _ (c : Call) (matrix : List ℕ) (w : Walked c matrix) where
               rw (out, equal-into, ne-eqb (equalIn c) 0 (λ t. omega (arith, equal-into)))
 
       pub passes : x .into ≡ 0
-          → (passed (total size (weightIn (c .weight)) (claimRows (c .mark))) (eqb (y .into) 0) ≡ cst c)
+          → (passed (total size (weightIn (c .weight)) (both (both (upTo (c .m)) (c .inUse)) (claimRows (c .mark)))) (eqb (y .into) 0) ≡ cst c)
           × (record { out = y .out; into = y .into } ≡ equalRows c)
       unfolding equalRows
       passes e = let a = passed-answer e in (a, rw (← a) (rows-beside _))

@@ -1,4 +1,5 @@
 // CST, the tree checker: its verdict on the claim that a table's marked rows are a least spanning tree.
+ghost use mathlib.Core.Bool.{Bool};
 ghost use mathlib.Core.Path.{_≡_};
 ghost use Prim.Native.Nat.{ℕ, _-_, _≤_};
 ghost use lib.Signed.{_≤ℤ_};
@@ -8,7 +9,7 @@ ghost use Rattle.rowset.specs.Integers.{fromBits};
 ghost use Rattle.rowset.specs.Searches.{greaterThan, sameAs};
 ghost use Rattle.slice.specs.Slices.{size, component};
 ghost use Rattle.star.specs.Cst.{cst, equalRows};
-ghost use Rattle.star.specs.Call.{Call, callOf};
+ghost use Rattle.star.specs.Call.{Call, tableOf, callOf, workOf};
 ghost use Rattle.table.specs.Loads.{loadedRow};
 ghost use Rattle.cst.specs.steps.Paths.{weightIn, integersAfter, foundOn, exchangeOf, remembered, firstLighter, firstEqual, Walked};
 ghost use Rattle.cst.specs.steps.Records.{recordOf};
@@ -21,6 +22,9 @@ use refusal::Outcome;
 use refusal::Refusal;
 use slice::Slice;
 use slice::difference;
+use slice::rows::rows_among;
+use slice::rows::rows_to;
+use slice::words::rows_in_use;
 
 // The exchange that makes a claim lighter: the marked row that goes out, the unmarked row that comes in, and how much less the claim then weighs.
 pub struct Exchange {
@@ -148,14 +152,23 @@ fn first_found(matrix: &[u64], left: &[u8], right: &[u8], weight: &[u8], rows: S
 }
 
 // The verdict on a claim that is a spanning tree, by its path matrix from vertex 1. The weight column is one that can be loaded.
-fn judge(matrix: &[u64], left: &[u8], right: &[u8], weight: &[u8], mark: &[u8]) -> Checked
+fn judge(
+    matrix: &[u64],
+    m: usize,
+    rows: Slice,
+    left: &[u8],
+    right: &[u8],
+    weight: &[u8],
+    mark: &[u8],
+) -> Checked
     requires { ⌜ loadedRow 4 (now weight) ≡ inRow 4 (now weight) ⌝ }
     ensures { λ r.
-        let call : ℕ → Call = λ n. callOf n (now (left .entry)) (now (right .entry)) (now (weight .entry)) (now (mark .entry)) in
-        ⌜ ((n : ℕ) → Walked (call n) (now (matrix .entry)) → (answerOf (r .verdict) ≡ cst (call n)) × (equalRowsOf r ≡ equalRows (call n))) ⌝ }
+        let call : ℕ → Bool → Call = λ n whole. tableOf n m whole (component rows) (now (left .entry)) (now (right .entry)) (now (weight .entry)) (now (mark .entry)) in
+        ⌜ ((n : ℕ) (whole : Bool) → Walked (call n whole) (now (matrix .entry)) → (answerOf (r .verdict) ≡ cst (call n whole)) × (equalRowsOf r ≡ equalRows (call n whole))) ⌝ }
 {
-    let marked = claim::claim_rows(mark);
-    let unmarked = difference::without(claim::rows_to(left.len()), marked);
+    let used = rows_among(m, rows);
+    let marked = claim::claim_rows(mark, used);
+    let unmarked = difference::without(used, marked);
     let found = first_found(matrix, left, right, weight, unmarked);
     let lighter = found.lighter;
     if lighter.into != 0 {
@@ -190,7 +203,38 @@ fn record_of(answer: Outcome) -> Refusal
     refusal
 }
 
-// CST with the exchange: the verdict on the claim, and beside a pass that is not the only one the rows of an exchange that gives another tree of the same weight. Where MatrixPath refuses, its refusal is handed on unread.
+// CST over a table of m rows, of which those of a slice are in use: the verdict on the claim, and beside a pass that is not the only one the rows of an exchange that gives another tree of the same weight.
+// Where MatrixPath refuses, its refusal is handed on unread.
+pub fn cst_rows(
+    n: u32,
+    m: usize,
+    whole: bool,
+    rows: Slice,
+    left: &[u8],
+    right: &[u8],
+    weight: &[u8],
+    mark: &[u8],
+) -> Checked
+    ensures verdict { λ r.
+        let c = tableOf n m whole (component rows) (now (left .entry)) (now (right .entry)) (now (weight .entry)) (now (mark .entry)) in
+        ⌜ answerOf (r .verdict) ≡ cst c ⌝ }
+    ensures rows { λ r.
+        let c = tableOf n m whole (component rows) (now (left .entry)) (now (right .entry)) (now (weight .entry)) (now (mark .entry)) in
+        ⌜ equalRowsOf r ≡ equalRows c ⌝ }
+{
+    let mut own = [0u64; path::ALL_WORDS];
+    let answer = path::matrix_path_rows(n, m, whole, rows, left, right, weight, mark, 1, &mut own);
+    let Outcome::Done = answer else {
+        return Checked {
+            verdict: Verdict::Refused(record_of(answer)),
+            out: 0,
+            into: 0,
+        };
+    };
+    judge(&own, m, rows, left, right, weight, mark)
+}
+
+// CST with the exchange over a plain table: a row for each byte of the left column, all in use.
 pub fn cst_other(n: u32, left: &[u8], right: &[u8], weight: &[u8], mark: &[u8]) -> Checked
     ensures verdict { λ r.
         let c = callOf n (now (left .entry)) (now (right .entry)) (now (weight .entry)) (now (mark .entry)) in
@@ -199,24 +243,53 @@ pub fn cst_other(n: u32, left: &[u8], right: &[u8], weight: &[u8], mark: &[u8]) 
         let c = callOf n (now (left .entry)) (now (right .entry)) (now (weight .entry)) (now (mark .entry)) in
         ⌜ equalRowsOf r ≡ equalRows c ⌝ }
 {
-    let mut own = [0u64; path::ALL_WORDS];
-    let answer = path::matrix_path(n, left, right, weight, mark, 1, &mut own);
-    let Outcome::Done = answer else {
-        return Checked {
-            verdict: Verdict::Refused(record_of(answer)),
-            out: 0,
-            into: 0,
-        };
-    };
-    judge(&own, left, right, weight, mark)
+    let m = left.len();
+    cst_rows(n, m, true, rows_to(m), left, right, weight, mark)
 }
 
-// CST: the verdict on the claim.
+// CST over a plain table: the verdict on the claim.
 pub fn cst(n: u32, left: &[u8], right: &[u8], weight: &[u8], mark: &[u8]) -> Verdict
     ensures { λ r.
         let c = callOf n (now (left .entry)) (now (right .entry)) (now (weight .entry)) (now (mark .entry)) in
         ⌜ answerOf r ≡ cst c ⌝ }
 {
     let checked = cst_other(n, left, right, weight, mark);
+    checked.verdict
+}
+
+// CST with the exchange over a working table: 1,024 rows, and the rows in use lent as sixteen words.
+pub fn work_cst_other(
+    n: u32,
+    words: &[u64],
+    left: &[u8],
+    right: &[u8],
+    weight: &[u8],
+    mark: &[u8],
+) -> Checked
+    ensures verdict { λ r.
+        let c = workOf n (now (words .entry)) (now (left .entry)) (now (right .entry)) (now (weight .entry)) (now (mark .entry)) in
+        ⌜ answerOf (r .verdict) ≡ cst c ⌝ }
+    ensures rows { λ r.
+        let c = workOf n (now (words .entry)) (now (left .entry)) (now (right .entry)) (now (weight .entry)) (now (mark .entry)) in
+        ⌜ equalRowsOf r ≡ equalRows c ⌝ }
+{
+    let whole = words.len() == slice::WORDS;
+    cst_rows(n, slice::SIZE, whole, rows_in_use(words), left, right, weight, mark)
+}
+
+// CST over a working table: the verdict on the claim.
+pub fn work_cst(
+    n: u32,
+    words: &[u64],
+    left: &[u8],
+    right: &[u8],
+    weight: &[u8],
+    mark: &[u8],
+) -> Verdict
+    ensures { λ r.
+        let c = workOf n (now (words .entry)) (now (left .entry)) (now (right .entry)) (now (weight .entry)) (now (mark .entry)) in
+        ⌜ answerOf r ≡ cst c ⌝ }
+{
+    let checked = work_cst_other(n, words, left, right, weight, mark);
     checked.verdict
 }

@@ -1,8 +1,7 @@
 -- The sixteen bytes mean what they should: what is read back is the answer's own fields, and over an accepted table demand 3 says what they are worth.
 -- Assumes nothing.
-use Prim.Native.Nat.{ℕ, _+_, _*_, _/_, _%_, _^_, _≤_, _<_}
-use borrow.Author.Tests.{ltb-false, eqb-true, eq-eqb, ne-eqb}
-use lib.Dec.{eqb}
+use Prim.Native.Nat.{ℕ, _+_, _*_, _/_, _%_, _≤_, _<_}
+use borrow.Author.Tests.{ltb-false, eq-eqb, ne-eqb}
 use lib.IntN.{ℤ}
 use lib.ListN.{length}
 use lib.Signed.{mag}
@@ -11,7 +10,6 @@ use mathlib.Core.List.{List, [], _∷_, _++_}
 use mathlib.Core.Logic.{_↔_, _⊎_, inl, inr, ⊎-elim}
 use mathlib.Core.Option.{Option, none, some}
 use mathlib.Core.Path.{_≡_, refl, sym, ap, _∙_, subst}
-use native.Mathlib.Decide.{ℕ-discrete}
 use native.Mathlib.Omega.{arith}
 use Rattle.demand3.proofs.Demand3.{apart, passed-lighter, built-accepted, demand3}
 use Rattle.demand3.proofs.Only.{only-holds}
@@ -24,10 +22,10 @@ use Rattle.rowset.proofs.Signed.{bits-back, bits-small, total-small}
 use Rattle.rowset.specs.Bytes.{little, inRow}
 use Rattle.rowset.specs.Integers.{toBits, total}
 use Rattle.rowset.specs.Sets.{uppermost}
-use Rattle.star.proofs.Accepted.{some-cons, some-cause, some-causeAt, none-nil, cause-none, none-head, accepted-means}
+use Rattle.star.proofs.Accepted.{some-cons, some-cause, some-causeAt, none-nil, cause-none, accepted-means}
 use Rattle.star.specs.Accepted.{AcceptedTable}
 use Rattle.star.specs.Call.{Call, rowsOf, weightOf, claimWeight, withClaim}
-use Rattle.star.specs.Cst.{Answer, refused, passed, lighter, verdict, cst, EqualRows, equalRows}
+use Rattle.star.specs.Cst.{Answer, refused, passed, lighter, verdict, cst, equalRows}
 use Rattle.star.specs.Door.{Fields, fields, builtFields, fieldsBeside, otherFields, bytesOf, fieldBytes, readBack, wellLent, doorReturns, answerAfter, cstDoor, mst1Door, otherDoor, mst1DoorMarks}
 use Rattle.star.specs.Mst1.{BuildAnswer, unbuilt, treeBuilt, built, mst1, builtMarks, mst1Marks}
 use Rattle.star.specs.Refusals.{maxRows, cause, causeAt, badVertices, tooManyRows, badLengths, badEnds, badRow, repeats, repeatedRow, tableCauses, cstCauses, mst1Causes, orElse, refusal, Accepted}

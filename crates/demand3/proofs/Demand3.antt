@@ -1,48 +1,53 @@
 -- Demand 3 holds: over every accepted table, what CST answers on a claim and what MST1 builds are what they should be.
 -- Assumes nothing.
-use Prim.Native.Nat.{ℕ, zero, suc, _+_, _*_, _≤_, _<_}
-use mathlib.Core.Bool.{Bool, true, false, not, _||_}
+use Prim.Native.Nat.{ℕ, zero, suc, _≤_}
+use mathlib.Core.Bool.{Bool, true, false, not, _&&_, _||_, and-assoc, or-true, or-false, and-eq-true-iff}
 use mathlib.Core.List.{List, [], _∷_}
-use mathlib.Core.Logic.{_↔_, _⊎_, inl, inr, ⊎-elim}
+use mathlib.Core.Logic.{_⊎_, ⊎-elim}
 use mathlib.Core.Option.{Option, none, some}
-use mathlib.Core.Path.{_≡_, refl, sym, ap, _∙_, subst, subst₃}
+use mathlib.Core.Path.{_≡_, refl, sym, ap, _∙_, fun-ext, subst, subst₃}
 use borrow.Author.Tests.{ltb-true, ltb-false, le-ltb, eqb-true, eqb-false, eq-eqb, not-true, not-false}
-use lib.Dec.{eqb, ltb}
+use lib.Dec.{eqb}
 use lib.IntN.{ℤ, pos, natAbs, _-ℤ_}
 use lib.ListN.{length, length-set}
 use lib.Signed.{_≤ℤ_}
-use native.Mathlib.Decide.{decLe}
 use native.Mathlib.Omega.{arith}
 use Rattle.graph.proofs.Joined.{unjoined-place, unjoined-none}
 use Rattle.graph.proofs.Reach.{walk-joined}
 use Rattle.graph.specs.Builder.{Fragment, tree}
-use Rattle.graph.specs.Graph.{Graph, Sound, Inside, Walk, joined}
+use Rattle.graph.specs.Graph.{Sound, Inside, joined}
 use Rattle.graph.specs.Least.{Least}
 use Rattle.graph.specs.Tree.{SpanningTree, exchange}
 use Rattle.refusal.specs.declared.Refusal.{Refusal}
-use Rattle.rowset.proofs.Laws.{uppermost-none, uppermost-some, uppermost-zero, in-upTo, upTo-in}
+use Rattle.rowset.proofs.Laws.{both-subset, uppermost-none, uppermost-some, uppermost-zero}
+use Rattle.rowset.proofs.Members.{both-in}
 use Rattle.rowset.proofs.Integers.{integers, plus, minus, difference, pos-parts}
 use Rattle.rowset.proofs.Signed.{difference-small}
 use Rattle.rowset.specs.Bytes.{inRow}
 use Rattle.rowset.specs.Integers.{total}
-use Rattle.rowset.specs.Sets.{upTo, uppermost, count}
+use Rattle.rowset.specs.Sets.{both, put, takeOut, uppermost, count}
 use Rattle.graph.proofs.Builder.{built-spanning, built-least, not-built}
 use Rattle.graph.proofs.Exchange.{exchange-weight}
+use Rattle.graph.proofs.Path.{and-never}
 use Rattle.graph.proofs.Least.{Lighter, good-least, least-good}
-use Rattle.star.proofs.Accepted.{none-head, none-tail, none-both, none-nil, refusal-append, cause-none, none-cause, causeAt-none, none-causeAt, some-cons, some-cause, some-causeAt, Taken, taken, sound}
+use Rattle.star.proofs.Accepted.{none-head, none-tail, none-both, none-nil, refusal-append, cause-none, none-cause, causeAt-none, none-causeAt, some-cons, some-cause, some-causeAt, Taken, taken, used-row, row-used, sound}
 use Rattle.demand3.proofs.Checker.{none-good, good-none, found-lighter}
-use Rattle.star.proofs.Claims.{byte-outside, marked-row, marked-claimOf, claimOf-length, claimOf-bytes, marked-exchanged, exchanged-bytes}
+use Rattle.star.proofs.Claims.{marked-claimOf, claimOf-length, claimOf-bytes, marked-exchanged, exchanged-bytes}
 use Rattle.star.specs.Accepted.{Row}
-use Rattle.star.specs.Call.{Call, rowsOf, graphOf, weightOf, marked, claimWeight, withClaim, claimOf, exchanged}
+use Rattle.star.specs.Call.{Call, rowsOf, used, graphOf, weightOf, marked, claimed, claimWeight, withClaim, claimOf, exchanged}
 use Rattle.star.specs.Cst.{Answer, refused, passed, lighter, rowIn, rowOut, only, judged, verdict, cst}
-use Rattle.demand3.specs.Demand3.{ClaimTree, LeastClaim, WorthExchange, ZeroOrOne, RightCount, Fault, bad-byte, bad-count, cut-off, Holds, Demand3}
+use Rattle.demand3.specs.Demand3.{ClaimTree, LeastClaim, WorthExchange, ZeroOrOne, Fault, bad-byte, bad-count, cut-off, Demand3}
 use Rattle.star.specs.Mst1.{BuildAnswer, unbuilt, treeBuilt, chosenRows, treeRows, built, mst1, builtMarks, mst1Marks}
-use Rattle.star.specs.Refusals.{cause, causeAt, badVertices, tooManyRows, badLengths, badRow, badEnds, repeats, repeatedRow, badClaim, badCount, unjoined, noTree, isNone, tableCauses, cstCauses, mst1Causes, refusal, orElse, Accepted}
+use Rattle.star.specs.Refusals.{cause, badVertices, tooManyRows, badLengths, badRow, badEnds, repeats, repeatedRow, wrongByte, badClaim, badCount, unjoined, noTree, isNone, tableCauses, cstCauses, mst1Causes, refusal, orElse, Accepted}
 
--- position 0 holds no byte
-byte-none : (l : List ℕ) → inRow 1 l 0 ≡ 0
-unfolding inRow
-byte-none l = refl
+-- the exchange within a set that has the row that comes in
+both-exchange : (p q : ℕ → Bool) (e f : ℕ) → p f ≡ true → both p (exchange q e f) ≡ exchange (both p q) e f
+unfolding both exchange put takeOut
+both-exchange p q e f h = fun-ext (λ i. at i (eqb i f) refl)
+  where
+    at : (i : ℕ) (t : Bool) → eqb i f ≡ t → (p i && (q i && not (eqb i e) || t)) ≡ (p i && q i && not (eqb i e) || t)
+    at i true u = rw (eqb-true i f u, h, or-true (q f && not (eqb f e)))
+    at i false u = rw (or-false (q i && not (eqb i e)), or-false (p i && q i && not (eqb i e)), and-assoc (p i) (q i) (not (eqb i e)))
 
 -- a refusal is not none, and the answers are told apart
 pub apart : (r : Refusal) → _≡_ {A = Option Refusal} (some r) none → ⊥
@@ -68,9 +73,9 @@ none-some : {j : ℕ} → _≡_ {A = ℕ} (suc j) 0 → ⊥
 none-some e = omega arith
 
 -- the rows that the claim marks are rows of the table
-marked-inside : (c : Call) → length (c .mark) ≡ rowsOf c → Inside (graphOf c) (marked (c .mark))
-unfolding graphOf
-marked-inside c e i h = in-upTo (rowsOf c) i (marked-row (c .mark) i h .0) (subst (λ n. i ≤ n) e (marked-row (c .mark) i h .1))
+claimed-inside : (c : Call) → Inside (graphOf c) (claimed c)
+unfolding graphOf claimed
+claimed-inside c i h = both-in (used c) (marked (c .mark)) i h .0
 
 -- the causes that CST seeks after the table's own
 claim-causes : (c : Call) → Accepted c → refusal (cstCauses c) ≡ refusal (badClaim c ∷ badCount c ∷ unjoined c 1 ∷ [])
@@ -83,16 +88,16 @@ module _ (c : Call) (a : Accepted c) where
 
   -- a claim that is not refused is a spanning tree
   tree-of : refusal (cstCauses c) ≡ none → ClaimTree c
-  unfolding graphOf badClaim badCount unjoined
+  unfolding graphOf badClaim wrongByte badCount unjoined
   tree-of e =
       record {
         bytes = t .mark-length;
         zero-or-one = small;
         spanning =
             record {
-              inside = marked-inside c (t .mark-length);
+              inside = claimed-inside c;
               marks = eqb-true _ _ (not-false _ (cause-none _ 9 0 (none-head _ _ e₂)));
-              reached = unjoined-none (graphOf c) ok (marked (c .mark)) (marked-inside c (t .mark-length)) 1 (omega arith) (t .some-vertex) (causeAt-none 10 _ (none-head _ _ (none-tail _ _ e₂)));
+              reached = unjoined-none (graphOf c) ok (claimed c) (claimed-inside c) 1 (omega arith) (t .some-vertex) (causeAt-none 10 _ (none-head _ _ (none-tail _ _ e₂)));
             };
       }
     where
@@ -105,32 +110,31 @@ module _ (c : Call) (a : Accepted c) where
       e₂ : refusal (badCount c ∷ unjoined c 1 ∷ []) ≡ none
       e₂ = none-tail _ _ e₁
 
-      small : (i : ℕ) → inRow 1 (c .mark) i ≤ 1
-      small zero = omega (arith, byte-none (c .mark))
-      small (suc j) =
-          elim (decLe (suc j) (rowsOf c)) [
-            | yes h ↦ ltb-false 1 _ (uppermost-none (rowsOf c) (λ i. ltb 1 (inRow 1 (c .mark) i)) (causeAt-none 6 _ (none-head _ _ e₁)) (suc j) (omega arith) h)
-            | no h ↦ omega (arith, byte-outside (c .mark) (suc j) (omega (arith, t .mark-length)))
-          ]
+      small : ZeroOrOne c
+      small i r =
+          ltb-false 1 _
+          (rw (row-used c i r) at (uppermost-none (rowsOf c) (wrongByte (used c) (c .mark)) (causeAt-none 6 _ (none-head _ _ e₁)) i (r .0) (r .1)))
 
   -- and a spanning tree is not refused
   not-refused : ClaimTree c → refusal (cstCauses c) ≡ none
-  unfolding graphOf badClaim badCount unjoined
+  unfolding graphOf badClaim wrongByte badCount unjoined
   not-refused t =
       claim-causes c a
       ∙ none-both (badClaim c) _ (none-causeAt 6 bytes)
       (none-both (badCount c) _ (none-cause _ 9 0 marks) (none-both (unjoined c 1) _ (none-causeAt 10 joins) none-nil))
     where
-      bytes : uppermost (rowsOf c) (λ i. ltb 1 (inRow 1 (c .mark) i)) ≡ 0
-      bytes = uppermost-zero (rowsOf c) (λ i. ltb 1 (inRow 1 (c .mark) i)) (λ i l u. le-ltb 1 _ (t .zero-or-one i))
+      bytes : uppermost (rowsOf c) (wrongByte (used c) (c .mark)) ≡ 0
+      bytes =
+          uppermost-zero (rowsOf c) (wrongByte (used c) (c .mark))
+          (λ i l u. and-never (used c i) _ (λ e. le-ltb 1 _ (t .zero-or-one i (used-row c i e))))
 
-      marks : not (eqb (suc (count (rowsOf c) (marked (c .mark)))) (c .n)) ≡ false
+      marks : not (eqb (suc (count (rowsOf c) (claimed c))) (c .n)) ≡ false
       marks = ap not (eq-eqb _ _ (t .spanning .marks))
 
-      joins : uppermost (c .n) (λ v. not (joined (graphOf c) (marked (c .mark)) 1 v)) ≡ 0
+      joins : uppermost (c .n) (λ v. not (joined (graphOf c) (claimed c) 1 v)) ≡ 0
       joins =
-          uppermost-zero (c .n) (λ v. not (joined (graphOf c) (marked (c .mark)) 1 v))
-          (λ v l u. ap not (walk-joined (graphOf c) ok (marked (c .mark)) (t .spanning .inside) 1 (omega arith) (taken c a .some-vertex) v (t .spanning .reached v l u)))
+          uppermost-zero (c .n) (λ v. not (joined (graphOf c) (claimed c) 1 v))
+          (λ v l u. ap not (walk-joined (graphOf c) ok (claimed c) (t .spanning .inside) 1 (omega arith) (taken c a .some-vertex) v (t .spanning .reached v l u)))
 
   -- the three forms of CST's answer
   data Judged : Type 0 where
@@ -151,26 +155,28 @@ module _ (c : Call) (a : Accepted c) where
       go (some r) e = declined r (ap (verdict c) e) (λ t. apart r (sym e ∙ not-refused t))
 
   -- a claim is least among claims exactly where its rows are least among sets of rows
-  least-claim : ClaimTree c → Least (graphOf c) (weightOf c) (marked (c .mark)) → LeastClaim c
-  unfolding graphOf weightOf claimWeight
-  least-claim t l = record { tree = t; least = λ other o. l .least (marked other) (o .spanning) }
+  least-claim : ClaimTree c → Least (graphOf c) (weightOf c) (claimed c) → LeastClaim c
+  unfolding used graphOf weightOf claimWeight
+  least-claim t l = record { tree = t; least = λ other o. l .least (claimed (withClaim c other)) (o .spanning) }
 
   -- the claim that marks the rows of a spanning tree
-  claim-rows : (S : ℕ → Bool) → SpanningTree (graphOf c) S → marked (claimOf (rowsOf c) S) ≡ S
-  unfolding graphOf
-  claim-rows S t = marked-claimOf (rowsOf c) S (λ i e. upTo-in (rowsOf c) i (t .inside i e))
+  claim-rows : (S : ℕ → Bool) → SpanningTree (graphOf c) S → claimed (withClaim c (claimOf (rowsOf c) S)) ≡ S
+  unfolding used graphOf claimed
+  claim-rows S t =
+      ap (both (used c)) (marked-claimOf (rowsOf c) S (λ i e. let (l, h, x) = used-row c i (t .inside i e) in (l, h)))
+      ∙ both-subset (used c) S (t .inside)
 
   claim-tree : (S : ℕ → Bool) → SpanningTree (graphOf c) S → ClaimTree (withClaim c (claimOf (rowsOf c) S))
-  unfolding graphOf
+  unfolding used graphOf
   claim-tree S t =
       record {
         bytes = claimOf-length (rowsOf c) S;
-        zero-or-one = claimOf-bytes (rowsOf c) S;
+        zero-or-one = λ i r. claimOf-bytes (rowsOf c) S i;
         spanning = subst (λ (Q : ℕ → Bool). SpanningTree (graphOf c) Q) (sym (claim-rows S t)) t;
       }
 
-  pub claim-least : LeastClaim c → Least (graphOf c) (weightOf c) (marked (c .mark))
-  unfolding graphOf weightOf claimWeight
+  pub claim-least : LeastClaim c → Least (graphOf c) (weightOf c) (claimed c)
+  unfolding used graphOf weightOf claimWeight
   claim-least l =
       record {
         tree = l .tree .spanning;
@@ -180,45 +186,50 @@ module _ (c : Call) (a : Accepted c) where
             (l .least _ (claim-tree S t));
       }
 
-  -- the exchange of two rows as an exchange of bytes: which rows it marks, and that it is a spanning tree where the rows are
-  pub exchanged-rows : ClaimTree c → (out into : ℕ) → marked (c .mark) out ≡ true → Row c into → marked (exchanged (c .mark) out into) ≡ exchange (marked (c .mark)) out into
-  exchanged-rows t out into m r =
-      let (lo, ho) = marked-row (c .mark) out m in
-      marked-exchanged (c .mark) out into lo ho (r .0) (rw (t .bytes) (r .1))
+  -- a marked row of the claim is a row in use whose byte is 1, and an unmarked row in use is one whose byte is not
+  pub out-row : (out : ℕ) → claimed c out ≡ true → Row c out × (marked (c .mark) out ≡ true)
+  unfolding claimed
+  out-row out m = let (u, k) = both-in (used c) (marked (c .mark)) out m in (used-row c out u, k)
 
-  pub exchanged-tree : ClaimTree c → (out into : ℕ) → marked (c .mark) out ≡ true → Row c into → SpanningTree (graphOf c) (exchange (marked (c .mark)) out into) → ClaimTree (withClaim c (exchanged (c .mark) out into))
-  unfolding graphOf
-  exchanged-tree t out into m r s =
-      let (lo, ho) = marked-row (c .mark) out m in
+  pub unmarked-byte : (into : ℕ) → used c into ≡ true → claimed c into ≡ false → marked (c .mark) into ≡ false
+  unfolding claimed both
+  unmarked-byte into u k = rw u at k
+
+  -- the exchange of two rows as an exchange of bytes: which rows it marks, and that it is a spanning tree where the rows are
+  pub exchanged-rows : ClaimTree c → (out into : ℕ) → Row c out → Row c into → claimed (withClaim c (exchanged (c .mark) out into)) ≡ exchange (claimed c) out into
+  unfolding used claimed
+  exchanged-rows t out into o r =
+      ap (both (used c)) (marked-exchanged (c .mark) out into (o .0) (rw (t .bytes) (o .1)) (r .0) (rw (t .bytes) (r .1)))
+      ∙ both-exchange (used c) (marked (c .mark)) out into (row-used c into r)
+
+  pub exchanged-tree : ClaimTree c → (out into : ℕ) → Row c out → Row c into → SpanningTree (graphOf c) (exchange (claimed c) out into) → ClaimTree (withClaim c (exchanged (c .mark) out into))
+  unfolding used graphOf
+  exchanged-tree t out into o r s =
       record {
         bytes = length-exchanged (c .mark) out into ∙ t .bytes;
-        zero-or-one = exchanged-bytes (c .mark) out into lo ho (r .0) (rw (t .bytes) (r .1)) (t .zero-or-one);
-        spanning = subst (λ (Q : ℕ → Bool). SpanningTree (graphOf c) Q) (sym (exchanged-rows t out into m r)) s;
+        zero-or-one = λ i h. exchanged-bytes (c .mark) out into (o .0) (rw (t .bytes) (o .1)) (r .0) (rw (t .bytes) (r .1)) i (t .zero-or-one i h);
+        spanning = subst (λ (Q : ℕ → Bool). SpanningTree (graphOf c) Q) (sym (exchanged-rows t out into o r)) s;
       }
 
-  -- a marked row is a row of the table
-  pub out-row : ClaimTree c → (out : ℕ) → marked (c .mark) out ≡ true → Row c out
-  out-row t out m = let (l, h) = marked-row (c .mark) out m in (l, rw (t .bytes) at h)
-
   -- what a lighter exchange of rows says of the claim's bytes
-  worth : ClaimTree c → (out into : ℕ) → Lighter (graphOf c) (weightOf c) (marked (c .mark)) out into → WorthExchange c out into (natAbs (weightOf c out -ℤ weightOf c into))
-  unfolding graphOf weightOf claimWeight
+  worth : ClaimTree c → (out into : ℕ) → Lighter (graphOf c) (weightOf c) (claimed c) out into → WorthExchange c out into (natAbs (weightOf c out -ℤ weightOf c into))
+  unfolding used graphOf weightOf claimWeight
   worth t out into l =
       record {
         claim-tree = t;
-        out-row = out-row t out (l .out-marked);
+        out-row = o;
         in-row = i;
-        out-marked = l .out-marked;
-        in-unmarked = l .in-unmarked;
-        tree = exchanged-tree t out into (l .out-marked) i (l .tree);
+        out-marked = out-row out (l .out-marked) .1;
+        in-unmarked = unmarked-byte into (l .in-row) (l .in-unmarked);
+        tree = exchanged-tree t out into o i (l .tree);
         weight =
-            rw (exchanged-rows t out into (l .out-marked) i) (omega (
+            rw (exchanged-rows t out into o i) (omega (
               arith,
               integers,
-              exchange-weight (graphOf c) ok (marked (c .mark)) (t .spanning) w out into (l .out-marked) (l .in-row) (l .in-unmarked),
-              plus (total (rowsOf c) w (exchange (marked (c .mark)) out into)) (w out),
-              plus (total (rowsOf c) w (marked (c .mark))) (w into),
-              plus (total (rowsOf c) w (exchange (marked (c .mark)) out into)) (pos (natAbs (w out -ℤ w into))),
+              exchange-weight (graphOf c) ok (claimed c) (t .spanning) w out into (l .out-marked) (l .in-row) (l .in-unmarked),
+              plus (total (rowsOf c) w (exchange (claimed c) out into)) (w out),
+              plus (total (rowsOf c) w (claimed c)) (w into),
+              plus (total (rowsOf c) w (exchange (claimed c) out into)) (pos (natAbs (w out -ℤ w into))),
               difference (w out) (w into) less,
               minus (w out) (w into),
             ));
@@ -232,8 +243,11 @@ module _ (c : Call) (a : Accepted c) where
       less : w into ≤ℤ w out
       less = omega (arith, integers, l .saves)
 
+      o : Row c out
+      o = out-row out (l .out-marked) .0
+
       i : Row c into
-      i = upTo-in (rowsOf c) into (l .in-row)
+      i = used-row c into (l .in-row)
 
   -- the two forms of MST1's answer
   data Grown : Type 0 where
@@ -261,7 +275,7 @@ module _ (c : Call) (a : Accepted c) where
       elim judgement [
         | declined r x n ↦ absurd (n (l .tree))
         | approved t z x ↦ x
-        | faulted t j z x ↦ absurd (none-some (sym z ∙ good-none c ok (t .spanning) (least-good (graphOf c) ok (weightOf c) (marked (c .mark)) (t .spanning) (claim-least l))))
+        | faulted t j z x ↦ absurd (none-some (sym z ∙ good-none c ok (t .spanning) (least-good (graphOf c) ok (weightOf c) (claimed c) (t .spanning) (claim-least l))))
       ]
 
   pub passed-least : (weight : ℤ) (alone : Bool) → cst c ≡ passed weight alone → LeastClaim c × (weight ≡ claimWeight c) × (alone ≡ only c)
@@ -269,7 +283,7 @@ module _ (c : Call) (a : Accepted c) where
   passed-least weight alone e =
       elim judgement [
         | declined r x n ↦ absurd (refused-passed x e)
-        | approved t z x ↦ (least-claim t (good-least (graphOf c) ok (weightOf c) (marked (c .mark)) (t .spanning) (none-good c ok (t .spanning) z)), cc, cc)
+        | approved t z x ↦ (least-claim t (good-least (graphOf c) ok (weightOf c) (claimed c) (t .spanning) (none-good c ok (t .spanning) z)), cc, cc)
         | faulted t j z x ↦ absurd (passed-lighter e x)
       ]
 
@@ -283,8 +297,8 @@ module _ (c : Call) (a : Accepted c) where
         | faulted t j z x ↦ (_, _, _, x)
       ]
 
-  found : (t : ClaimTree c) (j : ℕ) → rowIn c ≡ suc j → Lighter (graphOf c) (weightOf c) (marked (c .mark)) (rowOut c) (suc j)
-  found t j z = subst (λ (i : ℕ). Lighter (graphOf c) (weightOf c) (marked (c .mark)) (rowOut c) i) z (found-lighter c ok (t .spanning) j z)
+  found : (t : ClaimTree c) (j : ℕ) → rowIn c ≡ suc j → Lighter (graphOf c) (weightOf c) (claimed c) (rowOut c) (suc j)
+  found t j z = subst (λ (i : ℕ). Lighter (graphOf c) (weightOf c) (claimed c) (rowOut c) i) z (found-lighter c ok (t .spanning) j z)
 
   -- and an exchange that comes back is worth it
   lighter-worth : (out into saving : ℕ) → cst c ≡ lighter out into saving → WorthExchange c out into saving
@@ -311,7 +325,7 @@ module _ (c : Call) (a : Accepted c) where
 
   -- and says why the claim is no spanning tree
   fault-of : (r : Refusal) → cst c ≡ refused r → Fault c r
-  unfolding graphOf badClaim badCount unjoined
+  unfolding graphOf badClaim wrongByte badCount unjoined
   fault-of r e = ⊎-elim byte (λ h. ⊎-elim (marks (h .0)) (λ k. ⊎-elim (apart₁ (h .0) (k .0)) (λ z. absurd (nothing (z .1))) (some-cons _ _ r (k .1))) (some-cons _ _ r (h .1))) (some-cons _ _ r causes)
     where
       t : Taken c
@@ -324,16 +338,21 @@ module _ (c : Call) (a : Accepted c) where
       nothing h = apart r (sym h ∙ none-nil)
 
       bytes : ℕ → Bool
-      bytes i = ltb 1 (inRow 1 (c .mark) i)
+      bytes = wrongByte (used c) (c .mark)
+
+      -- at a row in use the byte alone decides
+      told : (i : ℕ) → Row c i → bytes i ≡ false → inRow 1 (c .mark) i ≤ 1
+      told i r e = ltb-false 1 _ (rw (row-used c i r) at e)
 
       byte : badClaim c ≡ some r → Fault c r
       byte h =
           let (j, u, q) = some-causeAt 6 _ r h in
           let (bad, low, above) = uppermost-some (rowsOf c) j bytes u in
-          subst (Fault c) q (bad-byte (suc j) (omega arith, low) (ltb-true 1 _ bad) (λ k row less. ltb-false 1 _ (above k (row .0) (omega arith))))
+          let (here, large) = and-eq-true-iff (used c (suc j)) _ .0 bad in
+          subst (Fault c) q (bad-byte (suc j) (used-row c (suc j) here) (ltb-true 1 _ large) (λ k row less. told k row (above k (row .0) (omega arith))))
 
       clean : badClaim c ≡ none → ZeroOrOne c
-      clean h i row = ltb-false 1 _ (uppermost-none (rowsOf c) bytes (causeAt-none 6 _ h) i (row .0) (row .1))
+      clean h i row = told i row (uppermost-none (rowsOf c) bytes (causeAt-none 6 _ h) i (row .0) (row .1))
 
       marks : badClaim c ≡ none → badCount c ≡ some r → Fault c r
       marks h k =
@@ -343,7 +362,7 @@ module _ (c : Call) (a : Accepted c) where
       apart₁ : badClaim c ≡ none → badCount c ≡ none → unjoined c 1 ≡ some r → Fault c r
       apart₁ h k z =
           let (j, u, q) = some-causeAt 10 _ r z in
-          let (none₁, low, others) = unjoined-place (graphOf c) ok (marked (c .mark)) (marked-inside c (t .mark-length)) 1 (omega arith) (t .some-vertex) j u in
+          let (none₁, low, others) = unjoined-place (graphOf c) ok (claimed c) (claimed-inside c) 1 (omega arith) (t .some-vertex) j u in
           subst (Fault c) q
           (cut-off (clean h) (eqb-true _ _ (not-false _ (cause-none _ 9 0 k))) (suc j) (omega arith, low) none₁ (λ v vertex less. others v (vertex .0) (omega arith)))
 
@@ -369,10 +388,10 @@ module _ (c : Call) (a : Accepted c) where
 
   -- the builder refuses exactly where there is no spanning tree
   no-tree : mst1 c ≡ unbuilt (record { number = 11; place = 0 }) → (other : List ℕ) → ClaimTree (withClaim c other) → ⊥
-  unfolding graphOf
+  unfolding used graphOf
   no-tree e other t =
       elim growth [
-        | ungrown z x ↦ not-built (graphOf c) ok (weightOf c) z (marked other) (t .spanning)
+        | ungrown z x ↦ not-built (graphOf c) ok (weightOf c) z (claimed (withClaim c other)) (t .spanning)
         | grown f z x k ↦ unbuilt-built e x
       ]
 
@@ -391,22 +410,22 @@ module _ (c : Call) (a : Accepted c) where
 
 -- another claim of m bytes leaves the table accepted
 accepted-claim : (c : Call) (l : List ℕ) → length l ≡ length (c .mark) → Accepted c → Accepted (withClaim c l)
-unfolding tableCauses badVertices tooManyRows badLengths badRow badEnds repeatedRow repeats
+unfolding used tableCauses badVertices tooManyRows badLengths badRow badEnds repeatedRow repeats
 accepted-claim c l e a = rw e a
 
 -- a least tree that was grown is passed as a claim, with its weight
 grown-passed : (c : Call) (a : Accepted c) (f : Fragment) → tree (graphOf c) (weightOf c) ≡ some f → (alone : Bool) × (cst (withClaim c (claimOf (rowsOf c) (f .chosen))) ≡ passed (total (rowsOf c) (weightOf c) (f .chosen)) alone)
-unfolding graphOf weightOf claimWeight
+unfolding used graphOf weightOf claimWeight
 grown-passed c a f z = (only d, least-passed d b least ∙ ap (λ S. passed (total (rowsOf c) (weightOf c) S) (only d)) rows)
   where
     t : SpanningTree (graphOf c) (f .chosen)
     t = built-spanning (graphOf c) (ok c a) (weightOf c) f z
 
-    rows : marked (claimOf (rowsOf c) (f .chosen)) ≡ f .chosen
-    rows = claim-rows c a (f .chosen) t
-
     d : Call
     d = withClaim c (claimOf (rowsOf c) (f .chosen))
+
+    rows : claimed d ≡ f .chosen
+    rows = claim-rows c a (f .chosen) t
 
     b : Accepted d
     b = accepted-claim c (claimOf (rowsOf c) (f .chosen)) (claimOf-length (rowsOf c) (f .chosen) ∙ sym (taken c a .mark-length)) a

@@ -1,40 +1,36 @@
 -- The checker tells the only cheapest tree: yes exactly where no other claim is a spanning tree of the same weight, and no with an exchange that gives one.
 -- Assumes nothing.
-use Prim.Native.Nat.{ℕ, zero, suc, _≤_, _<_}
+use Prim.Native.Nat.{ℕ, zero, suc, _≤_}
 use borrow.Author.Tests.{eqb-true, eqb-false, eq-eqb}
 use lib.Dec.{eqb}
-use lib.IntN.{ℤ}
-use lib.ListN.{length, getD}
-use lib.Seq.{ext-getD}
 use mathlib.Core.Bool.{Bool, true, false, and-eq-true-iff}
 use mathlib.Core.List.{List}
 use mathlib.Core.Path.{_≡_, refl, sym, _∙_, ap}
 use native.Mathlib.Omega.{arith}
 use Rattle.demand3.proofs.Checker.{between-path}
-use Rattle.demand3.proofs.Demand3.{ok, claim-least, exchanged-rows, exchanged-tree, out-row, passed-least}
-use Rattle.demand3.specs.Demand3.{ClaimTree, LeastClaim}
-use Rattle.demand3.specs.Only.{NoOther, EqualExchange, OnlyMeans, OnlyHolds}
+use Rattle.demand3.proofs.Demand3.{ok, claim-least, exchanged-rows, exchanged-tree, out-row, unmarked-byte, passed-least}
+use Rattle.demand3.specs.Demand3.{LeastClaim}
+use Rattle.demand3.specs.Only.{NoOther, EqualExchange, OnlyHolds}
 use Rattle.graph.proofs.Only.{unequalled-only, equal-exchange}
 use Rattle.graph.proofs.Path.{path-inside}
 use Rattle.graph.specs.Least.{Least}
 use Rattle.graph.specs.Only.{Unequalled}
-use Rattle.graph.specs.Tree.{SpanningTree, onPath, exchange}
-use Rattle.rowset.proofs.Laws.{clash, put-same, any-some, any-found, uppermost-none, uppermost-some, upTo-in}
+use Rattle.graph.specs.Tree.{onPath, exchange}
+use Rattle.rowset.proofs.Laws.{clash, put-same, any-some, any-found, uppermost-none, uppermost-some}
 use Rattle.rowset.proofs.Searches.{sameAs-in, in-sameAs}
-use Rattle.rowset.proofs.Members.{without-in, in-without}
+use Rattle.rowset.proofs.Members.{both-in, without-in, in-without}
 use Rattle.rowset.specs.Bytes.{inRow}
-use Rattle.rowset.specs.Integers.{total}
-use Rattle.rowset.specs.Sets.{upTo, without, uppermost, takeOut}
-use Rattle.star.proofs.Claims.{inRow-byte, marked-byte}
+use Rattle.rowset.specs.Sets.{both, without, takeOut}
+use Rattle.star.proofs.Accepted.{used-row, row-used}
 use Rattle.star.specs.Accepted.{Row}
-use Rattle.star.specs.Call.{Call, rowsOf, graphOf, weightOf, marked, claimWeight, withClaim, exchanged}
-use Rattle.star.specs.Cst.{passed, between, equals, replaces, equalIn, equalOut, only, cst, rowsBeside, equalRows}
+use Rattle.star.specs.Call.{Call, rowsOf, used, graphOf, weightOf, marked, claimed, claimWeight, withClaim, exchanged}
+use Rattle.star.specs.Cst.{between, equals, replaces, equalIn, equalOut, only, rowsBeside, equalRows}
 use Rattle.star.specs.Refusals.{Accepted}
 
--- claims of zeros and ones that mark the same rows are the same bytes
-same-bytes : (l k : List ℕ) → length l ≡ length k → ((i : ℕ) → inRow 1 l i ≤ 1) → ((i : ℕ) → inRow 1 k i ≤ 1) → marked l ≡ marked k → l ≡ k
-same-bytes l k e hl hk m =
-    ext-getD 0 l k e (λ j h. bit (getD l j 0) (getD k j 0) (rw inRow-byte at (hl (suc j))) (rw inRow-byte at (hk (suc j))) (sym (marked-byte l j) ∙ ap (λ (p : ℕ → Bool). p (suc j)) m ∙ marked-byte k j))
+-- bytes of zeros and ones that mark alike are the same
+same-byte : (l k : List ℕ) (i : ℕ) → inRow 1 l i ≤ 1 → inRow 1 k i ≤ 1 → marked l i ≡ marked k i → inRow 1 l i ≡ inRow 1 k i
+unfolding marked
+same-byte l k i = bit (inRow 1 l i) (inRow 1 k i)
   where
     bit : (x y : ℕ) → x ≤ 1 → y ≤ 1 → eqb x 1 ≡ eqb y 1 → x ≡ y
     bit x y hx hy q = go (eqb y 1) refl
@@ -45,7 +41,7 @@ same-bytes l k e hl hk m =
 
 module _ (c : Call) (a : Accepted c) (least : LeastClaim c) where
   abbrev S : ℕ → Bool
-  S = marked (c .mark)
+  S = claimed c
 
   rows-least : Least (graphOf c) (weightOf c) S
   rows-least = claim-least c a least
@@ -69,44 +65,50 @@ module _ (c : Call) (a : Accepted c) (least : LeastClaim c) where
       let (lf, uf) = ok c a .position f r in
       let (le, ue) = ok c a .position e (least .tree .spanning .inside e (path-inside (graphOf c) (ok c a) S (least .tree .spanning) _ _ e path)) in
       clash
-      (rw (in-without (upTo (rowsOf c)) S f r out) (any-some (rowsOf c) e (equals c f) le ue (in-equals e f r path same)))
+      (rw (in-without (used c) S f r out) (any-some (rowsOf c) e (equals c f) le ue (in-equals e f r path same)))
       (uppermost-none (rowsOf c) (replaces c) none f lf uf)
 
   -- and where there is one, the exchange gives another tree of the same weight
   found-equal : (j : ℕ) → equalIn c ≡ suc j → EqualExchange c (equalOut c) (equalIn c)
-  unfolding equalIn equalOut replaces graphOf claimWeight weightOf
+  unfolding used equalIn equalOut replaces graphOf claimWeight weightOf
   found-equal j u =
-      let (new, some) = and-eq-true-iff (without (upTo (rowsOf c)) S (suc j)) _ .0 (uppermost-some (rowsOf c) j (replaces c) u .0) in
-      let (r, out) = without-in (upTo (rowsOf c)) S (suc j) new in
+      let (new, some) = and-eq-true-iff (without (used c) S (suc j)) _ .0 (uppermost-some (rowsOf c) j (replaces c) u .0) in
+      let (r, out) = without-in (used c) S (suc j) new in
       let (k, v) = any-found (rowsOf c) (equals c (suc j)) some in
       let (path, same) = equals-in (suc k) (suc j) r (uppermost-some (rowsOf c) k (equals c (suc j)) v .0) in
       let m = path-inside (graphOf c) (ok c a) S (least .tree .spanning) _ _ (suc k) path in
       let (t, w) = equal-exchange (graphOf c) (ok c a) (weightOf c) S rows-least (suc k) (suc j) r out path same in
-      let i : Row c (suc j) = upTo-in (rowsOf c) (suc j) r in
+      let i : Row c (suc j) = used-row c (suc j) r in
+      let (o, byte) = out-row c a (suc k) m in
       rw (u, v) (record {
-        out-row = out-row c a (least .tree) (suc k) m;
+        out-row = o;
         in-row = i;
-        out-marked = m;
-        in-unmarked = out;
-        tree = exchanged-tree c a (least .tree) (suc k) (suc j) m i t;
-        weight = rw (exchanged-rows c a (least .tree) (suc k) (suc j) m i) w;
+        out-marked = byte;
+        in-unmarked = unmarked-byte c a (suc j) r out;
+        tree = exchanged-tree c a (least .tree) (suc k) (suc j) o i t;
+        weight = rw (exchanged-rows c a (least .tree) (suc k) (suc j) o i) w;
       })
 
   -- no other tree of the same weight, as sets of rows and as claims
   none-other : equalIn c ≡ 0 → NoOther c
-  unfolding claimWeight weightOf graphOf
-  none-other none other t same =
-      same-bytes other (c .mark) (t .bytes ∙ sym (least .tree .bytes)) (t .zero-or-one) (least .tree .zero-or-one)
-      (unequalled-only (graphOf c) (ok c a) (weightOf c) S rows-least (none-unequalled none) (marked other) (t .spanning) same)
+  unfolding used both claimed claimWeight weightOf graphOf
+  none-other none other t same i r =
+      same-byte other (c .mark) i (t .zero-or-one i r) (least .tree .zero-or-one i r) (alike i r)
+    where
+      rows : claimed (withClaim c other) ≡ S
+      rows = unequalled-only (graphOf c) (ok c a) (weightOf c) S rows-least (none-unequalled none) (claimed (withClaim c other)) (t .spanning) same
+
+      alike : (i : ℕ) → Row c i → marked other i ≡ marked (c .mark) i
+      alike i r = rw (row-used c i r) at (ap (λ (p : ℕ → Bool). p i) rows)
 
   -- an equal exchange is another claim
   another : (out into : ℕ) → EqualExchange c out into → NoOther c → ⊥
-  unfolding exchange
+  unfolding used exchange marked claimed
   another out into x n =
       clash
-      (ap (λ (l : List ℕ). marked l into) (sym (n (exchanged (c .mark) out into) (x .tree) (x .weight)))
-      ∙ ap (λ (p : ℕ → Bool). p into) (exchanged-rows c a (least .tree) out into (x .out-marked) (x .in-row))
-      ∙ put-same (takeOut S out) into)
+      (ap (λ b. eqb b 1) (sym (n (exchanged (c .mark) out into) (x .tree) (x .weight) into (x .in-row)))
+      ∙ both-in (used c) (marked (exchanged (c .mark) out into)) into
+      (ap (λ (p : ℕ → Bool). p into) (exchanged-rows c a (least .tree) out into (x .out-row) (x .in-row)) ∙ put-same (takeOut S out) into) .1)
       (x .in-unmarked)
 
   pub yes-none : only c ≡ true → NoOther c

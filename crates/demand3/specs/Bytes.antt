@@ -1,5 +1,6 @@
 -- From the sixteen bytes of an answer to the trees of the columns: what a call through the doors star_cst, star_other and star_mst1 returns and leaves,
 -- and what the bytes mean. A C programmer who believes this statement need read nothing else. The doors' contracts state it of themselves.
+-- c is the call's columns: `callOf` for a plain table and `workOf` for a working one, whose rows are those in use. Which tables are accepted says star/Accepted.
 -- Cites definitions alone; the proof is proofs/Bytes.antt. Assumes nothing.
 use Prim.Native.Nat.{ℕ, _≤_}
 use mathlib.Core.List.{List}

@@ -14,23 +14,27 @@ use Rattle.refusal.specs.declared.Refusal.{Refusal}
 use Rattle.rowset.specs.Bytes.{inRow}
 use Rattle.rowset.specs.Sets.{count}
 use Rattle.star.specs.Accepted.{Vertex, Row}
-use Rattle.star.specs.Call.{Call, rowsOf, graphOf, marked, claimWeight, withClaim, exchanged}
+use Rattle.star.specs.Call.{Call, rowsOf, graphOf, marked, claimed, claimWeight, withClaim, exchanged}
 use Rattle.star.specs.Cst.{refused, passed, lighter, cst}
 use Rattle.star.specs.Mst1.{unbuilt, treeBuilt, mst1, mst1Marks}
 use Rattle.star.specs.Refusals.{Accepted}
 
--- the claim is a spanning tree: m bytes, 0 and 1 only, exactly n − 1 marks, every vertex joined to vertex 1 by a walk over marked rows
+-- at rows in use the bytes of the claim are 0 and 1 only
+abbrev pub ZeroOrOne : Call → Type 0
+ZeroOrOne c = (i : ℕ) → Row c i → inRow 1 (c .mark) i ≤ 1
+
+-- the claim is a spanning tree: m bytes, 0 and 1 only, exactly n − 1 marks, every vertex joined to vertex 1 by a walk over marked rows. Bytes at rows not in use do not matter
 pub record ClaimTree (c : Call) : Type 0 where
   pub bytes : length (c .mark) ≡ rowsOf c
-  pub zero-or-one : (i : ℕ) → inRow 1 (c .mark) i ≤ 1
-  pub spanning : SpanningTree (graphOf c) (marked (c .mark))
+  pub zero-or-one : ZeroOrOne c
+  pub spanning : SpanningTree (graphOf c) (claimed c)
 
 -- the claim is a spanning tree, and every spanning tree of the table weighs at least as much
 pub record LeastClaim (c : Call) : Type 0 where
   pub tree : ClaimTree c
   pub least : (other : List ℕ) → ClaimTree (withClaim c other) → claimWeight c ≤ℤ claimWeight (withClaim c other)
 
--- what an exchange is worth: out and in are rows, out is marked and in is not, and the exchange is a spanning tree, lighter by exactly the saving, a number of 1 to 4,294,967,295
+-- what an exchange is worth: out and in are rows in use, out is marked and in is not, and the exchange is a spanning tree, lighter by exactly the saving, a number of 1 to 4,294,967,295
 pub record WorthExchange (c : Call) (out into saving : ℕ) : Type 0 where
   pub claim-tree : ClaimTree c
   pub out-row : Row c out
@@ -42,23 +46,20 @@ pub record WorthExchange (c : Call) (out into saving : ℕ) : Type 0 where
   pub positive : 0 < saving
   pub small : saving ≤ 4294967295
 
--- the bytes of a claim are 0 and 1 only, and it has exactly n − 1 marks
-abbrev pub ZeroOrOne : Call → Type 0
-ZeroOrOne c = (i : ℕ) → Row c i → inRow 1 (c .mark) i ≤ 1
-
+-- the claim has exactly n − 1 marks
 abbrev pub RightCount : Call → Type 0
-RightCount c = suc (count (rowsOf c) (marked (c .mark))) ≡ c .n
+RightCount c = suc (count (rowsOf c) (claimed c)) ≡ c .n
 
 -- why a claim over an accepted table is no spanning tree, by the refusal's number and place
 pub data Fault (c : Call) : Refusal → Type 0 where
-  -- 6: the byte of row i is neither 0 nor 1, and no such row stands above it
+  -- 6: the byte of row i, a row in use, is neither 0 nor 1, and no such row stands above it
   bad-byte : (i : ℕ) → Row c i → 1 < inRow 1 (c .mark) i → ((k : ℕ) → Row c k → k < i → inRow 1 (c .mark) k ≤ 1)
       → Fault c (record { number = 6; place = i })
   -- 9: the marks are not n − 1
   bad-count : ZeroOrOne c → (RightCount c → ⊥) → Fault c (record { number = 9; place = 0 })
   -- 10: n − 1 marks, but no walk over marked rows leads from vertex 1 to vertex v, and v is the smallest such vertex
-  cut-off : ZeroOrOne c → RightCount c → (v : ℕ) → Vertex c v → (Walk (graphOf c) (marked (c .mark)) 1 v → ⊥)
-      → ((u : ℕ) → Vertex c u → u < v → Walk (graphOf c) (marked (c .mark)) 1 u)
+  cut-off : ZeroOrOne c → RightCount c → (v : ℕ) → Vertex (c .n) v → (Walk (graphOf c) (claimed c) 1 v → ⊥)
+      → ((u : ℕ) → Vertex (c .n) u → u < v → Walk (graphOf c) (claimed c) 1 u)
       → Fault c (record { number = 10; place = v })
 
 -- demand 3, at one accepted table and claim

@@ -7,15 +7,17 @@ use mathlib.Core.Logic.{_↔_}
 use mathlib.Core.Path.{_≡_}
 use lib.IntN.{ℤ}
 use Rattle.demand3.specs.Demand3.{ClaimTree}
+use Rattle.rowset.specs.Bytes.{inRow}
 use Rattle.star.specs.Accepted.{Row}
 use Rattle.star.specs.Call.{Call, marked, claimWeight, withClaim, exchanged}
 use Rattle.star.specs.Cst.{passed, cst, equalRows}
 use Rattle.star.specs.Refusals.{Accepted}
 
--- no other claim is a spanning tree of the same weight: one that is has the same bytes
+-- no other claim is a spanning tree of the same weight: one that is has the same bytes at the rows in use
 abbrev pub NoOther : Call → Type 0
 NoOther c =
-    (other : List ℕ) → ClaimTree (withClaim c other) → claimWeight (withClaim c other) ≡ claimWeight c → other ≡ c .mark
+    (other : List ℕ) → ClaimTree (withClaim c other) → claimWeight (withClaim c other) ≡ claimWeight c
+    → (i : ℕ) → Row c i → inRow 1 other i ≡ inRow 1 (c .mark) i
 
 -- an exchange that gives another spanning tree of the same weight
 pub record EqualExchange (c : Call) (out into : ℕ) : Type 0 where

@@ -8,3 +8,6 @@ pub mod Builder
 pub mod Meaning
 pub mod Trail
 pub mod Only
+pub mod Renumbered
+pub mod LeastTotal
+pub mod Stretch

@@ -9,6 +9,7 @@ use mathlib.Core.Logic.{⊎-elim}
 use mathlib.Core.Path.{_≡_, refl, sym, ap, fun-ext, _∙_}
 use native.Mathlib.Omega.{arith}
 use Rattle.rowset.proofs.Laws.{put-same, put-keeps, put-cases, uppermost-none, uppermost-some, count-put, count-empty, count-monotone, count-bound, count-full, xor-false-same}
+pub use Rattle.rowset.proofs.Members.{same-truth}
 use Rattle.graph.specs.Graph.{Graph, Sound, Inside, Walk, stay, ahead, back, crosses, withEnds, step, grow, joined}
 use Rattle.rowset.specs.Sets.{empty, both, put, uppermost, count}
 
@@ -59,12 +60,6 @@ pub record FarEnd (g : Graph) (Q : ℕ → Bool) (i : ℕ) : Type 0 where
   pub inside : Q near ≡ true
   pub outside : Q far ≡ false
   pub added : withEnds g Q i ≡ put Q far
-
--- two truth values that imply each other are equal
-pub same-truth : (x y : Bool) → (x ≡ true → y ≡ true) → (y ≡ true → x ≡ true) → x ≡ y
-same-truth true y h k = sym (h refl)
-same-truth false true h k = k refl
-same-truth false false h k = refl
 
 -- what belongs to a set adds nothing to it
 put-in : (p : ℕ → Bool) (k : ℕ) → p k ≡ true → put p k ≡ p

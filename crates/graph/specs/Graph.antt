@@ -32,6 +32,10 @@ pub data Walk (g : Graph) (S : ℕ → Bool) (s : ℕ) : ℕ → Type 0 where
   ahead : (i : ℕ) → S i ≡ true → Walk g S s (g .a i) → Walk g S s (g .b i)
   back : (i : ℕ) → S i ≡ true → Walk g S s (g .b i) → Walk g S s (g .a i)
 
+-- a connected graph: its rows join every vertex to vertex 1
+abbrev pub Connected : Graph → Type 0
+Connected g = (v : ℕ) → 1 ≤ v → v ≤ g .n → Walk g (g .rows) 1 v
+
 -- row i has exactly one end in the vertex set Q
 unfoldable pub crosses : Graph → (ℕ → Bool) → ℕ → Bool
 crosses g Q i = xor (Q (g .a i)) (Q (g .b i))

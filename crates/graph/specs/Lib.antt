@@ -5,3 +5,6 @@ pub mod Builder
 pub mod Meaning
 pub mod steps
 pub mod Only
+pub mod Renumbered
+pub mod LeastTotal
+pub mod Stretch

@@ -77,14 +77,18 @@ pub in-upTo : (m i : ℕ) → 1 ≤ i → i ≤ m → upTo m i ≡ true
 unfolding upTo
 in-upTo m i l u = rw (le-leb 1 i l, le-leb i m u)
 
+-- a subset of a set is what belongs to both
+pub both-subset : (p q : ℕ → Bool) → ((i : ℕ) → q i ≡ true → p i ≡ true) → both p q ≡ q
+unfolding both
+both-subset p q h = fun-ext λ i. go i (q i) refl
+  where
+    go : (i : ℕ) (b : Bool) → q i ≡ b → (p i && b) ≡ b
+    go i true e = rw (h i e)
+    go i false e = and-false (p i)
+
 -- a set of positions of 1 to m is not changed where it is cut to them
 pub both-inside : (m : ℕ) (p : ℕ → Bool) → ((i : ℕ) → p i ≡ true → (1 ≤ i) × (i ≤ m)) → both (upTo m) p ≡ p
-unfolding both
-both-inside m p h = fun-ext λ i. go i (p i) refl
-  where
-    go : (i : ℕ) (b : Bool) → p i ≡ b → (upTo m i && p i) ≡ p i
-    go i true e = rw (in-upTo m i (h i e .0) (h i e .1))
-    go i false e = rw (e, and-false (upTo m i))
+both-inside m p h = both-subset (upTo m) p (λ i e. in-upTo m i (h i e .0) (h i e .1))
 
 -- ── What is computed over 1 to m depends only on the positions 1 to m ──
 

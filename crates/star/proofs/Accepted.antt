@@ -3,7 +3,7 @@
 use Prim.Native.Nat.{ℕ, zero, suc, _+_, _*_, _-_, _≤_, _<_}
 use mathlib.Core.Bool.{Bool, true, false, not, _&&_, _||_, and-eq-true-iff, or-true}
 use mathlib.Core.List.{List, [], _∷_, _++_}
-use mathlib.Core.Logic.{_↔_, _≢_, _⊎_, inl, inr, ⊎-elim}
+use mathlib.Core.Logic.{_⊎_, inl, inr}
 use mathlib.Core.Option.{Option, none, some}
 use mathlib.Core.Path.{_≡_, refl, sym, ap, _∙_}
 use borrow.Author.Tests.{ltb-true, ltb-false, le-ltb, eqb-false, eqb-true, eq-eqb, ne-eqb, not-false}
@@ -11,15 +11,15 @@ use lib.Dec.{eqb, ltb}
 use lib.ListN.{length}
 use native.Mathlib.Omega.{arith}
 use Rattle.graph.proofs.Path.{and-never}
-use Rattle.graph.specs.Graph.{Graph, Sound}
+use Rattle.graph.specs.Graph.{Sound}
 use Rattle.refusal.specs.declared.Refusal.{Refusal}
 use Rattle.rowset.specs.Bytes.{inRow}
-use Rattle.rowset.specs.Sets.{upTo, any, uppermost}
+use Rattle.rowset.specs.Sets.{upTo, any}
 use Rattle.rowset.specs.Words.{inWords}
 use Rattle.rowset.proofs.Laws.{refuted, clash, both-inside, any-none, none-any, uppermost-none, uppermost-zero, in-upTo, upTo-in}
 use Rattle.rowset.proofs.Members.{both-in, in-both}
 use Rattle.star.specs.Accepted.{Row, SamePair, GoodRows, AcceptedTable, AcceptedMeans, PlainMeans, WorkingMeans}
-use Rattle.star.specs.Call.{Call, callOf, rowsOf, used, graphOf}
+use Rattle.star.specs.Call.{Call, callOf, workOf, rowsOf, used, graphOf}
 use Rattle.star.specs.Refusals.{maxVertices, maxRows, cause, causeAt, badVertices, tooManyRows, badLengths, wrongEnds, wrongRow, badEnds, badRow, samePair, repeatsAbove, repeats, repeatedRow, tableCauses, orElse, refusal, Accepted}
 
 -- a disjunction that fails
@@ -206,6 +206,16 @@ pub used-plain : (n : ℕ) (left right weight mark : List ℕ) → used (callOf 
 unfolding used
 used-plain n left right weight mark = both-inside (length left) (upTo (length left)) (upTo-in (length left))
 
+-- a component that words hold is one of 1,024
+words-row : (words : List ℕ) (i : ℕ) → inWords words i ≡ true → (1 ≤ i) × (i ≤ 1024)
+unfolding inWords
+words-row words i e = upTo-in 1024 i (and-eq-true-iff (upTo 1024 i) _ .0 e .0)
+
+-- the rows in use of a working table are those that its words hold
+pub used-work : (n : ℕ) (words left right weight mark : List ℕ) → used (workOf n words left right weight mark) ≡ inWords words
+unfolding used
+used-work n words left right weight mark = both-inside 1024 (inWords words) (words-row words)
+
 -- the graph of an accepted table is sound
 pub sound : (c : Call) → Taken c → Sound (graphOf c)
 unfolding graphOf badEnds wrongRow
@@ -375,11 +385,6 @@ plain-means n left right weight mark = (
     good-rows = same-rows (λ i r. (r .0, r .1)) (p .good-rows);
   },
 )
-
--- a component that words hold is one of 1,024
-words-row : (words : List ℕ) (i : ℕ) → inWords words i ≡ true → (1 ≤ i) × (i ≤ 1024)
-unfolding inWords
-words-row words i e = upTo-in 1024 i (and-eq-true-iff (upTo 1024 i) _ .0 e .0)
 
 pub working-means : WorkingMeans
 working-means n words left right weight mark = (

@@ -1,22 +1,20 @@
 -- Claims as bytes and as sets of rows: the claim of a set marks that set, and the exchange of bytes is the exchange of rows.
 -- Assumes nothing.
-use Prim.Native.Nat.{ℕ, zero, suc, pred, _+_, _*_, _-_, _≤_, _<_}
+use Prim.Native.Nat.{ℕ, zero, suc, _+_, _-_, _≤_, _<_}
 use mathlib.Core.Bool.{Bool, true, false, cond, not, _&&_, _||_, false≢true, and-true, and-false, or-true, or-false}
-use mathlib.Core.List.{List, [], _∷_}
+use mathlib.Core.List.{List}
 use mathlib.Core.Logic.{_≢_}
 use mathlib.Core.Path.{_≡_, refl, sym, ap, _∙_, fun-ext, subst}
-use borrow.Author.Tests.{eqb-true, eqb-false, eq-eqb, ne-eqb}
+use borrow.Author.Tests.{eq-eqb, ne-eqb}
 use lib.Dec.{eqb, eqb·zero-suc, eqb·suc-suc}
 use lib.ListN.{length, getD, set, length-set, List·getD-eq-default}
 use lib.Seq.{getD-set-same, getD-set-other}
 use native.Mathlib.Decide.{ℕ-discrete, decLe}
 use native.Mathlib.Nat.{one-mul, add-zero, zero-add}
-use native.Mathlib.Numerals.{sub-one}
 use native.Mathlib.Omega.{arith}
 use Rattle.graph.specs.Tree.{exchange}
 use Rattle.rowset.specs.Bytes.{little, inRow}
 use Rattle.rowset.specs.Sets.{put, takeOut}
-use Rattle.rowset.proofs.Laws.{put-same, put-other, takeOut-same, takeOut-other}
 use Rattle.star.specs.Call.{marked, claimFrom, claimOf, exchanged}
 
 -- a column of one byte a row
@@ -126,14 +124,14 @@ marked-exchanged l (suc o) (suc f) lo ho li hi = fun-ext at
         rw (marked-byte (exchanged l (suc o) (suc f)) j, exchanged-byte l o f j ho hi, marked-byte l j, eqb·suc-suc j o, eqb·suc-suc j f)
         (bits (eqb j f) (eqb j o) (getD l j 0))
 
-pub exchanged-bytes : (l : List ℕ) (out into : ℕ) → 1 ≤ out → out ≤ length l → 1 ≤ into → into ≤ length l → ((i : ℕ) → inRow 1 l i ≤ 1) → (i : ℕ) → inRow 1 (exchanged l out into) i ≤ 1
+pub exchanged-bytes : (l : List ℕ) (out into : ℕ) → 1 ≤ out → out ≤ length l → 1 ≤ into → into ≤ length l → (i : ℕ) → inRow 1 l i ≤ 1 → inRow 1 (exchanged l out into) i ≤ 1
 unfolding inRow
-exchanged-bytes l zero into lo ho li hi h i = absurd (omega arith)
-exchanged-bytes l (suc o) zero lo ho li hi h i = absurd (omega arith)
-exchanged-bytes l (suc o) (suc f) lo ho li hi h zero = omega arith
-exchanged-bytes l (suc o) (suc f) lo ho li hi h (suc j) =
+exchanged-bytes l zero into lo ho li hi i h = absurd (omega arith)
+exchanged-bytes l (suc o) zero lo ho li hi i h = absurd (omega arith)
+exchanged-bytes l (suc o) (suc f) lo ho li hi zero h = omega arith
+exchanged-bytes l (suc o) (suc f) lo ho li hi (suc j) h =
     rw (inRow-byte (exchanged l (suc o) (suc f)) j, exchanged-byte l o f j ho hi)
-    (bits (eqb j f) (eqb j o) (getD l j 0) (rw (inRow-byte l j) at (h (suc j))))
+    (bits (eqb j f) (eqb j o) (getD l j 0) (rw (inRow-byte l j) at h))
   where
     bits : (p q : Bool) (x : ℕ) → x ≤ 1 → cond p 1 (cond q 0 x) ≤ 1
     bits true q x k = omega arith

@@ -9,7 +9,7 @@ use lib.ListN.{replicate}
 use Rattle.rowset.specs.Words.{matrixWords}
 use Rattle.star.specs.Call.{Call, callOf, withClaim, exchanged}
 use Rattle.star.specs.Cst.{passed, lighter}
-use Rattle.star.specs.Door.{Fields, fieldBytes, readBack, doorReturns, cstDoor, mst1Door, mst1DoorMarks, pathsDoor, pathsDoorMatrix}
+use Rattle.star.specs.Door.{fieldBytes, readBack, doorReturns, cstDoor, mst1Door, mst1DoorMarks, pathsDoor, pathsDoorMatrix}
 use Rattle.star.specs.MatrixPath.{pathColumn}
 use Rattle.star.specs.Mst1.{treeBuilt}
 use Rattle.star.specs.Trials.{Result, checked, built, checks, builds, small, yard, column}

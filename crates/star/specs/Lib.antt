@@ -10,3 +10,5 @@ pub mod RefusalTrials
 pub mod AnswerTrials
 pub mod SignedTrials
 pub mod OnlyTrials
+pub mod RepeatTrials
+pub mod WorkTrials

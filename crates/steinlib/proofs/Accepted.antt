@@ -13,7 +13,7 @@ use lib.ListN.{length, take, drop, length-append, length-take, length-drop}
 use lib.Seq.{take-at, drop-at}
 use native.Mathlib.Omega.{arith}
 use Rattle.refusal.specs.declared.Refusal.{Refusal}
-use Rattle.star.specs.Call.{callOf}
+use Rattle.star.specs.Call.{callOf, used}
 use Rattle.star.specs.Door.{bytesOf}
 use Rattle.star.specs.Refusals.{maxVertices, maxRows, cause, badVertices, tooManyRows, badLengths, badEnds, badRow, repeats, repeatedRow, rowCauses, tableCauses, orElse, refusal, Accepted}
 use Rattle.star.proofs.Accepted.{none-head, none-tail, none-both, cause-none, none-cause}
@@ -201,7 +201,7 @@ checked t l r w e =
 -- the rows that were read, with any claim of as many bytes, are an accepted table
 read-accepted : (t : Read) (l r w : ℕ) → Fit t → Checked t l r w → (claim : List ℕ) → length claim ≡ t .rows →
     Accepted (callOf (t .nodes) (t .left) (t .right) (t .weight) claim)
-unfolding tableCauses tooManyRows badLengths badRow badEnds repeatedRow repeats tableOf
+unfolding used tableCauses tooManyRows badLengths badRow badEnds repeatedRow repeats tableOf
 read-accepted t l r w f k claim h =
     none-both _ _ (k .good-count) (none-both _ _ few (none-both _ _ lengths (k .good-rows)))
   where
@@ -222,12 +222,14 @@ read-accepted t l r w f k claim h =
 
     lengths :
         cause
-        (not (eqb (length (t .right)) (length (t .left))) || not (eqb (length claim) (length (t .left)))
+        (not true || not (eqb (length (t .left)) (length (t .left)))
+        || not (eqb (length (t .right)) (length (t .left)))
+        || not (eqb (length claim) (length (t .left)))
         || not (eqb (length (t .weight)) (4 * length (t .left))))
         3
         0
         ≡ none
-    lengths = none-cause _ 3 0 (rw (eq-eqb _ _ rights, eq-eqb _ _ marks, eq-eqb _ _ weights))
+    lengths = none-cause _ 3 0 (rw (eq-eqb (length (t .left)) _ refl, eq-eqb _ _ rights, eq-eqb _ _ marks, eq-eqb _ _ weights))
 
 -- a lent column with the rows that were read in front
 module _ (column lent : List ℕ) (k : ℕ) (h : length column ≡ k) (u : k ≤ length lent) where

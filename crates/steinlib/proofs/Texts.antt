@@ -14,12 +14,12 @@ use native.Mathlib.Omega.{arith}
 use Rattle.rowset.specs.Bytes.{little, inRow}
 use Rattle.rowset.specs.Integers.{toBits}
 use Rattle.refusal.specs.declared.Refusal.{Refusal}
-use Rattle.rowset.specs.Sets.{upTo, any, uppermost}
+use Rattle.rowset.specs.Sets.{any, uppermost}
 use Rattle.rowset.proofs.Laws.{in-upTo, uppermost-zero, uppermost-is}
-use Rattle.star.specs.Call.{Call, callOf, rowsOf}
+use Rattle.star.specs.Call.{Call, callOf, rowsOf, used}
 use Rattle.star.specs.Door.{bytesOf}
-use Rattle.star.specs.Refusals.{maxRows, cause, causeAt, badVertices, tooManyRows, badEnds, badRow, repeatsAbove, repeats, repeatedRow, orElse, refusal}
-use Rattle.star.proofs.Accepted.{none-both, none-nil, refusal-append}
+use Rattle.star.specs.Refusals.{maxRows, cause, causeAt, badVertices, tooManyRows, wrongRow, badEnds, badRow, repeatsAbove, repeats, repeatedRow, orElse, refusal}
+use Rattle.star.proofs.Accepted.{row-used, none-both, none-nil, refusal-append}
 use Rattle.steinlib.specs.Import.{maxText, untaken, taken, bounded, readText, tableOf, badColumns, badEdges, importCauses, sizes, answered, imported, columnsOf}
 use Rattle.steinlib.specs.Reader.{Read, opening, lines, whole, nothingRead, withGraph, withNodes, withEdges, endOf, withRow, when, counted, numberThen, priceThen, nextSection, named, graphLine, next, isClosed, follow, readFrom}
 use Rattle.steinlib.specs.Trials.{spaced, LengthsHold, linesOf, counting, RowsHold}
@@ -171,14 +171,14 @@ equal-rows : ℕ → List ℕ → Call
 equal-rows k mark = callOf 2 (replicate k 1) (replicate k 2) (threes k) mark
 
 good-rows : (k : ℕ) (mark : List ℕ) → badRow (equal-rows k mark) ≡ none
-unfolding equal-rows badRow causeAt badEnds
+unfolding equal-rows badRow causeAt badEnds wrongRow
 good-rows k mark = rw (uppermost-zero (rowsOf (equal-rows k mark)) (badEnds (equal-rows k mark)) good)
   where
     good : (i : ℕ) → 1 ≤ i → i ≤ rowsOf (equal-rows k mark) → badEnds (equal-rows k mark) i ≡ false
     good zero l u = absurd (omega arith)
     good (suc i) l u =
         let h : i < k = omega (arith, length-replicate {A = ℕ} k 1) in
-        rw (row-byte 1 k i h, row-byte 2 k i h)
+        rw (row-byte 1 k i h, row-byte 2 k i h) (and-false (used (equal-rows k mark) (suc i)))
 
 -- and the second of them repeats the first
 repeated-rows : (k : ℕ) (mark : List ℕ) → 2 ≤ k → repeatedRow (equal-rows k mark) ≡ some (record { number = 15; place = 2 })
@@ -188,14 +188,17 @@ repeated-rows k mark h = rw (uppermost-is (rowsOf (equal-rows k mark)) 1 (repeat
     rows : 2 ≤ rowsOf (equal-rows k mark)
     rows = omega (arith, length-replicate {A = ℕ} k 1)
 
+    row : (i : ℕ) → 1 ≤ i → i ≤ rowsOf (equal-rows k mark) → used (equal-rows k mark) i ≡ true
+    row i l u = row-used (equal-rows k mark) i (l, u, in-upTo (rowsOf (equal-rows k mark)) i l u)
+
     second : repeats (equal-rows k mark) 2 ≡ true
     second =
-        rw (in-upTo (rowsOf (equal-rows k mark)) 2 (omega arith) rows, in-upTo (rowsOf (equal-rows k mark)) 1 (omega arith) (omega (arith, rows)), row-byte 1 k 0 (omega arith), row-byte 1 k 1 (omega arith), row-byte 2 k 0 (omega arith), row-byte 2 k 1 (omega arith))
+        rw (row 2 (omega arith) rows, row 1 (omega arith) (omega (arith, rows)), row-byte 1 k 0 (omega arith), row-byte 1 k 1 (omega arith), row-byte 2 k 0 (omega arith), row-byte 2 k 1 (omega arith))
 
     first : (i : ℕ) → 1 ≤ i → i ≤ 1 → repeats (equal-rows k mark) i ≡ false
     first i l u =
         let z : i ≡ 1 = omega arith in
-        rw z (and-false (upTo (rowsOf (equal-rows k mark)) 1))
+        rw z (and-false (used (equal-rows k mark) 1))
 
 -- what is read before the lines of E
 begun : ℕ → ℕ → Read

@@ -7,7 +7,7 @@ use mathlib.Core.Option.{Option, none, some}
 use lib.Dec.{eqb, ltb}
 use lib.ListN.{length, drop}
 use Rattle.refusal.specs.declared.Refusal.{Refusal}
-use Rattle.star.specs.Call.{Call}
+use Rattle.star.specs.Call.{Call, callOf}
 use Rattle.star.specs.Refusals.{maxRows, cause, badVertices, tooManyRows, rowCauses, refusal}
 use Rattle.steinlib.specs.Reader.{Read, Reading, broken, whole, opening, nothingRead, readFrom}
 use Rattle.words.specs.Text.{words}
@@ -26,7 +26,7 @@ readText text = bounded (ltb maxText (length text)) text
 
 -- the table that was read. No mark is read; the left column stands in for the marks, which the check of the rows does not look at
 unfoldable pub tableOf : Read → Call
-tableOf r = record { n = r .nodes; left = r .left; right = r .right; weight = r .weight; mark = r .left }
+tableOf r = callOf (r .nodes) (r .left) (r .right) (r .weight) (r .left)
 
 -- 3: the lent columns are not 1,024, 1,024 and 4,096 bytes
 unfoldable pub badColumns : ℕ → ℕ → ℕ → Option Refusal

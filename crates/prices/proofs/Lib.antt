@@ -1,0 +1,4 @@
+pub mod Quote
+pub mod Lacking
+pub mod Breaking
+pub mod Trials
