@@ -11,9 +11,12 @@ use mathlib.Core.Option.{Option, none, some}
 use mathlib.Core.Path.{_≡_, refl, sym, ap, _∙_}
 use native.Mathlib.Omega.{arith}
 use Rattle.refusal.specs.declared.Refusal.{Refusal}
+use Rattle.rowset.specs.Sets.{upTo, both}
+use Rattle.star.specs.Call as call
 use Rattle.star.specs.Call.{Call, callOf}
 use Rattle.star.specs.Refusals.{maxRows, cause, badVertices, tooManyRows, badLengths, rowCauses, tableCauses, orElse, refusal}
 use Rattle.star.proofs.Accepted.{none-head, none-tail, none-cons, none-both, none-nil, none-cause, cause-none, refusal-append}
+use Rattle.star.proofs.Plain.{few-plain}
 use Rattle.steinlib.specs.Import.{tableOf, badColumns, badEdges, importCauses, untaken, taken, sizes, answered, filled, columnsOf}
 use Rattle.steinlib.specs.Reader.{Read, Reading, broken, whole}
 use Rattle.reader.specs.Readings.{finished}
@@ -35,9 +38,9 @@ module _ (n m : ℕ) (size : none ≡ refusal (badVertices n ∷ tooManyRows m �
   few-rows = ltb-false maxRows m (cause-none _ 2 0 (none-head _ _ (none-tail _ _ (sym size))))
 
   module _ (left right weight : List ℕ) (l : length left ≡ m) (r : length right ≡ m) (w : length weight ≡ 4 * m) where
-    pub table-rows : refusal (tableCauses (callOf n left right weight left)) ≡ refusal (rowCauses (callOf n left right weight left))
+    lengths-right : refusal (tableCauses (callOf n left right weight left)) ≡ refusal (rowCauses (callOf n left right weight left))
     unfolding tableCauses badLengths
-    table-rows = refusal-append (badVertices n ∷ tooManyRows (length left) ∷ badLengths c ∷ []) (rowCauses c)
+    lengths-right = refusal-append (badVertices n ∷ tooManyRows (length left) ∷ badLengths c ∷ []) (rowCauses c)
         (none-both _ _ (none-head _ _ (sym size)) (none-both _ _ (rw l (none-head _ _ (none-tail _ _ (sym size)))) (none-both _ _ lengths none-nil)))
       where
         c : Call
@@ -45,6 +48,10 @@ module _ (n m : ℕ) (size : none ≡ refusal (badVertices n ∷ tooManyRows m �
 
         lengths : badLengths c ≡ none
         lengths = none-cause _ 3 0 (rw (l, r, w, eq-eqb m m refl, eq-eqb (4 * m) (4 * m) refl))
+
+    -- and all m rows are in use
+    pub table-rows : (rows : ℕ → Bool) → rows ≡ both (upTo maxRows) (upTo m) → refusal (tableCauses (call.tableOf n m true rows left right weight left)) ≡ refusal (rowCauses (callOf n left right weight left))
+    table-rows rows e = ap (λ (x : Call). refusal (tableCauses x)) (rw e (few-plain n m left right weight left few-rows l)) ∙ lengths-right
 
 -- what the lent columns' lengths say
 module _ (l r w : ℕ) where

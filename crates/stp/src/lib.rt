@@ -60,8 +60,12 @@ fn rows_check(
     }
     let m = found[LINES] as usize;
     let end = 4 * m;
+    let rows = slice::rows::rows_to(m);
     checks::table_check(
         found[NODES],
+        m,
+        true,
+        rows,
         &left[..m],
         &right[..m],
         &weight[..end],

@@ -24,12 +24,13 @@ returns c =
 returns-2 : tie.Need-returns-2
 unfolding tableOf readOf
 returns-2 c =
-    let e = c .before .before .before .before .before in
+    let r = c .before .before .before .before .before in
+    let e = r .before in
     let s = e .before .before .before .before .before .before in
     let p = s .pre in
     let few = few-rows _ _ (p .0) in
     c .table-check .ensures
-    ∙ table-rows _ _ (p .0) _ _ _ (length-take-le _ _ (omega arith)) (length-take-le _ _ (omega arith)) (length-take-le _ _ (omega arith))
+    ∙ table-rows _ _ (p .0) _ _ _ (length-take-le _ _ (omega arith)) (length-take-le _ _ (omega arith)) (length-take-le _ _ (omega arith)) _ (r .rows-to .ensures)
     ∙ sym (none-cons _ _ (columns-right _ _ _ (e .before .before .if1 .left) (eqb-true _ _ (not-false _ (e .before .if2 .left))) (eqb-true _ _ (not-false _ (e .if3 .left)))))
 
 -- there are at most 1,024 rows, so each part is inside its column
@@ -45,10 +46,11 @@ rows-check-spec =
     (λ c. search needs)
     (λ c. search needs)
     (λ c. let few = rows (c .before .before .before .before .before .before) in record { fits = omega arith })
+    (λ c κs. search needs)
     (λ c. search needs)
-    (λ c. let few = rows (c .before .before .before .before .before .before .before) in let p = c .before .before .before .before .before .before .before .pre .1 in sym (length-take-le _ _ (omega arith)))
     (λ c. let few = rows (c .before .before .before .before .before .before .before .before) in let p = c .before .before .before .before .before .before .before .before .pre .1 in sym (length-take-le _ _ (omega arith)))
     (λ c. let few = rows (c .before .before .before .before .before .before .before .before .before) in let p = c .before .before .before .before .before .before .before .before .before .pre .1 in sym (length-take-le _ _ (omega arith)))
     (λ c. let few = rows (c .before .before .before .before .before .before .before .before .before .before) in let p = c .before .before .before .before .before .before .before .before .before .before .pre .1 in sym (length-take-le _ _ (omega arith)))
+    (λ c. let few = rows (c .before .before .before .before .before .before .before .before .before .before .before) in let p = c .before .before .before .before .before .before .before .before .before .before .before .pre .1 in sym (length-take-le _ _ (omega arith)))
     (λ c κs. search needs)
     returns-2)
