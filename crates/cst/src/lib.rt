@@ -274,7 +274,16 @@ pub fn work_cst_other(
         ⌜ equalRowsOf r ≡ equalRows c ⌝ }
 {
     let whole = words.len() == slice::WORDS;
-    cst_rows(n, slice::SIZE, whole, rows_in_use(words), left, right, weight, mark)
+    cst_rows(
+        n,
+        slice::SIZE,
+        whole,
+        rows_in_use(words),
+        left,
+        right,
+        weight,
+        mark,
+    )
 }
 
 // CST over a working table: the verdict on the claim.

@@ -266,5 +266,16 @@ pub fn work_matrix_path(
         ⌜ (refusalOf o ≡ matrixPath c s (now (r .entry))) × (now (r .exit) ≡ matrixAfter c s (now (r .entry))) ⌝ }
 {
     let whole = words.len() == WORDS;
-    matrix_path_rows(n, slice::SIZE, whole, rows_in_use(words), left, right, weight, mark, s, r)
+    matrix_path_rows(
+        n,
+        slice::SIZE,
+        whole,
+        rows_in_use(words),
+        left,
+        right,
+        weight,
+        mark,
+        s,
+        r,
+    )
 }

@@ -30,6 +30,13 @@ too-many n m h = go (badVertices n) refl
     go (some r) e = (r, λ whole inUse left right weight mark later. rw e)
     go none e = (record { number = 2; place = 0 }, λ whole inUse left right weight mark later. rw (e, lt-ltb maxRows m h))
 
+-- up to 1,024 rows the calls are one
+pub few-plain : (n m : ℕ) (left right weight mark : List ℕ) → m ≤ maxRows → length left ≡ m
+    → tableOf n m true (both (upTo maxRows) (upTo m)) left right weight mark ≡ callOf n left right weight mark
+few-plain n m left right weight mark h e =
+    rw e (ap (λ (p : ℕ → Bool). tableOf n m true p left right weight mark)
+    (both-inside maxRows (upTo m) (λ i x. let b = upTo-in m i x in (b .0, omega arith))))
+
 module _ (n : ℕ) (left right weight mark : List ℕ) where
   -- the plain call with the rows in use cut to 1 to 1,024
   abbrev pub cutRows : Call
@@ -38,22 +45,16 @@ module _ (n : ℕ) (left right weight mark : List ℕ) where
   abbrev plain : Call
   plain = callOf n left right weight mark
 
-  -- up to 1,024 rows the calls are one
-  same-call : length left ≤ maxRows → cutRows ≡ plain
-  same-call h =
-      ap (λ (p : ℕ → Bool). tableOf n (length left) true p left right weight mark)
-      (both-inside maxRows (upTo (length left)) (λ i e. let b = upTo-in (length left) i e in (b .0, omega arith)))
-
   -- what is the same where both are refused is the same
   same : {A : Type 0} (f : Call → A)
       → ((r : Refusal) → ((later : List (Option Refusal)) → refusal (tableCauses cutRows ++ later) ≡ some r) → ((later : List (Option Refusal)) → refusal (tableCauses plain ++ later) ≡ some r) → f cutRows ≡ f plain)
       → f cutRows ≡ f plain
   same f refused =
       elim (decLe (length left) maxRows) [
-        | yes h ↦ ap f (same-call h)
+        | yes h ↦ ap f (few-plain n (length left) left right weight mark h refl)
         | no h ↦
-          let t = too-many n (length left) (omega arith) in
-          refused (t .0) (t .1 true _ left right weight mark) (t .1 true _ left right weight mark)
+            let t = too-many n (length left) (omega arith) in
+            refused (t .0) (t .1 true _ left right weight mark) (t .1 true _ left right weight mark)
       ]
 
   pub plain-cst : cst cutRows ≡ cst plain

@@ -10,9 +10,10 @@ returns c =
     let w = c .before .before .before in
     let rows = w .before .before .before .before .before .before .before .before in
     let among = rows .before in
-    let ends = among .before in
-    (rw (c .joined-check .ensures, w .walk .ensures .0, ends .before .ends-of .ensures, ends .ends-of2 .ensures, rows .claim-rows .ensures, among .rows-among .ensures),
-    w .walk .ensures .1 ∙ rw (ends .before .ends-of .ensures, ends .ends-of2 .ensures, rows .claim-rows .ensures, among .rows-among .ensures))
+    let ends = among .before in (
+      rw (c .joined-check .ensures, w .walk .ensures .0, ends .before .ends-of .ensures, ends .ends-of2 .ensures, rows .claim-rows .ensures, among .rows-among .ensures),
+      w .walk .ensures .1 ∙ rw (ends .before .ends-of .ensures, ends .ends-of2 .ensures, rows .claim-rows .ensures, among .rows-among .ensures),
+    )
 
 pub claim-walk-spec : {M : Type 1} → statement M
 claim-walk-spec =
