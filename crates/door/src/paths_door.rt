@@ -1,36 +1,9 @@
 // MatrixPath for C.
-use answer::Record;
 use answer::write_answer;
-use refusal::Outcome;
+use crate::outcome::of_outcome;
 ghost use mathlib.Core.Path.{_≡_};
-ghost use Rattle.answer.specs.Records.{fieldsOf};
-ghost use Rattle.refusal.specs.Outcomes.{refusalOf};
 ghost use Rattle.star.specs.Call.{callOf};
-ghost use Rattle.star.specs.Door.{doorReturns, pathFields, pathsDoor, pathsDoorMatrix};
-
-// The fields of MatrixPath's answer.
-pub fn of_paths(o: Outcome) -> Record
-    ensures { λ r. ⌜ fieldsOf r ≡ pathFields (refusalOf o) ⌝ }
-{
-    match o {
-        Outcome::Done => Record {
-            kind: 1,
-            number: 0,
-            out: 0,
-            into: 0,
-            only: 0,
-            amount: 0,
-        },
-        Outcome::Refused(r) => Record {
-            kind: 0,
-            number: r.number,
-            out: r.place,
-            into: 0,
-            only: 0,
-            amount: 0,
-        },
-    }
-}
+ghost use Rattle.star.specs.Door.{doorReturns, pathsDoor, pathsDoorMatrix};
 
 // MatrixPath through the door: the matrix is filled where nothing is refused, and stays as it is otherwise.
 #[no_mangle]
@@ -56,7 +29,7 @@ pub extern "C" fn star_paths(
         return 0;
     }
     let o = path::matrix_path(n, left, right, weight, mark, s, matrix);
-    let x = of_paths(o);
+    let x = of_outcome(o);
     write_answer(answer, x);
     1
 }

@@ -145,4 +145,5 @@ LastWord =
 
 -- the theorem: each trial gives what it should
 abbrev pub AnswerTrialsHold : Type 0
-AnswerTrialsHold = (given ≡ expected) × (givenBytes ≡ expectedBytes) × OtherClaim × ReadBack × LaterWords × LastWord × (givenPaths ≡ expectedPaths)
+AnswerTrialsHold =
+    (given ≡ expected) × (givenBytes ≡ expectedBytes) × OtherClaim × ReadBack × LaterWords × LastWord × (givenPaths ≡ expectedPaths)

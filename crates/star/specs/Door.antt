@@ -7,6 +7,7 @@ use mathlib.Core.Option.{Option, none, some}
 use lib.Dec.{eqb}
 use lib.IntN.{ℤ, pos}
 use lib.ListN.{length}
+use Rattle.refusal.specs.declared.Refusal.{Refusal}
 use Rattle.rowset.specs.Bytes.{little}
 use Rattle.rowset.specs.Integers.{fromBits, toBits}
 use Rattle.star.specs.Call.{Call}
@@ -85,14 +86,14 @@ otherDoor c answer = answerAfter answer (otherFields c)
 unfoldable pub mst1DoorMarks : Call → List ℕ → List ℕ
 mst1DoorMarks c answer = cond (wellLent answer) (mst1Marks c) (c .mark)
 
--- the fields of MatrixPath's answer: done is kind 1 and all else 0; a refusal is told as CST's
-unfoldable pub pathFields : Option Refusal → Fields
-pathFields none = record { kind = 1; number = 0; out = 0; into = 0; only = 0; amount = pos 0 }
-pathFields (some r) = fields (refused r)
+-- the fields of what is done or refused, MatrixPath's among them: done is kind 1 and all else 0; a refusal is told as CST's
+unfoldable pub outcomeFields : Option Refusal → Fields
+outcomeFields none = record { kind = 1; number = 0; out = 0; into = 0; only = 0; amount = pos 0 }
+outcomeFields (some r) = fields (refused r)
 
 -- the lent answer after MatrixPath from s was called through the door, with R lent as its matrix
 unfoldable pub pathsDoor : Call → ℕ → List ℕ → List ℕ → List ℕ
-pathsDoor c s R answer = answerAfter answer (pathFields (matrixPath c s R))
+pathsDoor c s R answer = answerAfter answer (outcomeFields (matrixPath c s R))
 
 -- R after that call
 unfoldable pub pathsDoorMatrix : Call → ℕ → List ℕ → List ℕ → List ℕ

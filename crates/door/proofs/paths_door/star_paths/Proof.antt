@@ -1,4 +1,4 @@
--- `door::paths_door::star_paths` meets its contract: what MatrixPath, `of_paths` and `write_answer` promise, one after the other. Assumes nothing.
+-- `door::paths_door::star_paths` meets its contract: what MatrixPath, `of_outcome` and `write_answer` promise, one after the other. Assumes nothing.
 use borrow.Author.Needs.{needs}
 use borrow.Author.Tests.{eq-eqb, ne-eqb}
 use lib.ListN.{length}
@@ -6,7 +6,7 @@ use mathlib.Core.Path.{refl, ap, _∙_}
 use native.Mathlib.Omega.{arith}
 use Rattle.door.proofs.paths_door.star_paths.Statement.{statement}
 use Rattle.door.proofs.paths_door.star_paths.Tie as tie
-use Rattle.star.specs.Door.{answerAfter, wellLent, doorReturns, pathFields, pathsDoor, pathsDoorMatrix}
+use Rattle.star.specs.Door.{answerAfter, wellLent, doorReturns, outcomeFields, pathsDoor, pathsDoorMatrix}
 
 returns : tie.Need-returns
 unfolding doorReturns wellLent pathsDoor answerAfter pathsDoorMatrix
@@ -17,7 +17,7 @@ unfolding doorReturns wellLent pathsDoor pathsDoorMatrix
 returns-2 c =
     rw (eq-eqb (length (c .before .before .before .before .before .before .before .before .before .before .before .before .before .before .before .before .args .answer .now)) 16 (omega arith)) (
       refl,
-      (c .before .before .write-answer .ensures ∙ ap (answerAfter _) (c .before .before .before .before .of-paths .ensures ∙ ap pathFields (c .before .before .before .before .before .before .before .matrix-path .ensures .0)), c .before .before .before .before .before .before .before .matrix-path .ensures .1),
+      (c .before .before .write-answer .ensures ∙ ap (answerAfter _) (c .before .before .before .before .of-outcome .ensures ∙ ap outcomeFields (c .before .before .before .before .before .before .before .matrix-path .ensures .0)), c .before .before .before .before .before .before .before .matrix-path .ensures .1),
     )
 
 pub star-paths-spec : {M : Type 1} → statement M
