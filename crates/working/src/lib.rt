@@ -4,7 +4,7 @@ ghost use Prim.Native.Nat.{suc, _+_, _-_, _*_, _<_, _≤_};
 ghost use mathlib.Core.Bool.{cond};
 ghost use mathlib.Core.List.{_++_};
 ghost use mathlib.Core.Path.{_≡_};
-ghost use lib.ListN.{length, take, drop, getD, replicate};
+ghost use lib.ListN.{length, take, drop, replicate};
 ghost use Rattle.refusal.specs.Outcomes.{refusalOf};
 ghost use Rattle.rowset.specs.Sets.{put, count};
 ghost use Rattle.rowset.specs.Words.{columnWords, inWords};
@@ -19,6 +19,7 @@ use refusal::Refusal;
 use slice::SIZE;
 use slice::Slice;
 use slice::WORDS;
+use slice::words::rows_in_use;
 
 // The bytes of a row in the left and the right column, and in the weight column.
 const END: usize = 1;
@@ -39,29 +40,6 @@ fn because(number: u32) -> Refusal
         number: number,
         place: 0,
     }
-}
-
-// Word k, 0 past the end.
-fn word_at(words: &[u64], k: usize) -> u64
-    ensures { λ r. ⌜ r ≡ getD (now (words .entry)) k 0 ⌝ }
-{
-    if k < words.len() {
-        return words[k];
-    }
-    0
-}
-
-// The rows in use as a slice; a component that is not there is 0.
-pub fn rows_in_use(words: &[u64]) -> Slice
-    ensures { λ r. ⌜ component r ≡ inWords (now (words .entry)) ⌝ }
-{
-    let mut r = Slice::empty();
-    let mut k = 0;
-    while k < WORDS {
-        r.words[k] = word_at(words, k);
-        k += 1;
-    }
-    r
 }
 
 // The number of rows of a slice.
