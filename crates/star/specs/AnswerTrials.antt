@@ -9,10 +9,10 @@ use lib.ListN.{replicate}
 use Rattle.rowset.specs.Words.{matrixWords}
 use Rattle.star.specs.Call.{Call, callOf, withClaim, exchanged}
 use Rattle.star.specs.Cst.{passed, lighter}
-use Rattle.star.specs.Door.{fieldBytes, readBack, doorReturns, cstDoor, mst1Door, mst1DoorMarks}
+use Rattle.star.specs.Door.{fieldBytes, readBack, doorReturns, cstDoor, mst1Door, mst1DoorMarks, pathsDoor, pathsDoorMatrix}
 use Rattle.star.specs.MatrixPath.{pathColumn}
 use Rattle.star.specs.Mst1.{treeBuilt}
-use Rattle.star.specs.Trials.{Result, checked, built, checks, builds, small, yard}
+use Rattle.star.specs.Trials.{Result, checked, built, checks, builds, small, yard, column}
 
 -- weights that use all four bytes: 1-2 of weight 16,909,060, 2-3 of 2,147,483,647 and 1-3 of 2,147,483,646
 abbrev pub dear : List ℕ → Call
@@ -89,6 +89,38 @@ expectedBytes =
     ∷ (0 ∷ 1 ∷ 1 ∷ 1 ∷ 0 ∷ [])
     ∷ []
 
+-- MatrixPath through the door: the yard's tree 1, 2, 4 from vertex 3, with two words more than the matrix needs; from vertex 5; with one word too few;
+-- with the claim 1, 2, 5, where vertex 4 is joined neither to 3 nor to 1; and lent answers of fifteen and of seventeen bytes
+abbrev pub givenPaths : List (List ℕ)
+givenPaths =
+    pathsDoor (yard (1 ∷ 1 ∷ 0 ∷ 1 ∷ 0 ∷ [])) 3 (replicate 66 7) (nines 16)
+    ∷ pathsDoorMatrix (yard (1 ∷ 1 ∷ 0 ∷ 1 ∷ 0 ∷ [])) 3 (replicate 66 7) (nines 16)
+    ∷ pathsDoor (yard (1 ∷ 1 ∷ 0 ∷ 1 ∷ 0 ∷ [])) 5 (replicate 66 7) (nines 16)
+    ∷ pathsDoorMatrix (yard (1 ∷ 1 ∷ 0 ∷ 1 ∷ 0 ∷ [])) 5 (replicate 66 7) (nines 16)
+    ∷ pathsDoor (yard (1 ∷ 1 ∷ 0 ∷ 1 ∷ 0 ∷ [])) 3 (replicate 63 7) (nines 16)
+    ∷ pathsDoor (yard (1 ∷ 1 ∷ 0 ∷ 0 ∷ 1 ∷ [])) 3 (replicate 64 7) (nines 16)
+    ∷ pathsDoorMatrix (yard (1 ∷ 1 ∷ 0 ∷ 0 ∷ 1 ∷ [])) 3 (replicate 64 7) (nines 16)
+    ∷ pathsDoor (yard (1 ∷ 1 ∷ 0 ∷ 1 ∷ 0 ∷ [])) 3 (replicate 64 7) (nines 15)
+    ∷ pathsDoorMatrix (yard (1 ∷ 1 ∷ 0 ∷ 1 ∷ 0 ∷ [])) 3 (replicate 64 7) (nines 15)
+    ∷ pathsDoor (yard (1 ∷ 1 ∷ 0 ∷ 1 ∷ 0 ∷ [])) 3 (replicate 64 7) (nines 17)
+    ∷ pathsDoorMatrix (yard (1 ∷ 1 ∷ 0 ∷ 1 ∷ 0 ∷ [])) 3 (replicate 64 7) (nines 17)
+    ∷ []
+
+abbrev pub expectedPaths : List (List ℕ)
+expectedPaths =
+    (1 ∷ replicate 15 0)
+    ∷ (column 3 ++ (column 2 ++ (column 0 ++ (column 11 ++ (7 ∷ 7 ∷ [])))))
+    ∷ (0 ∷ 7 ∷ replicate 14 0)
+    ∷ replicate 66 7
+    ∷ (0 ∷ 8 ∷ replicate 14 0)
+    ∷ (0 ∷ 10 ∷ 4 ∷ replicate 13 0)
+    ∷ replicate 64 7
+    ∷ nines 15
+    ∷ replicate 64 7
+    ∷ nines 17
+    ∷ replicate 64 7
+    ∷ []
+
 -- the same table with another claim
 abbrev pub OtherClaim : Type 0
 OtherClaim = withClaim (yard []) (1 ∷ []) ≡ yard (1 ∷ [])
@@ -113,4 +145,5 @@ LastWord =
 
 -- the theorem: each trial gives what it should
 abbrev pub AnswerTrialsHold : Type 0
-AnswerTrialsHold = (given ≡ expected) × (givenBytes ≡ expectedBytes) × OtherClaim × ReadBack × LaterWords × LastWord
+AnswerTrialsHold =
+    (given ≡ expected) × (givenBytes ≡ expectedBytes) × OtherClaim × ReadBack × LaterWords × LastWord × (givenPaths ≡ expectedPaths)

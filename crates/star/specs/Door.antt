@@ -3,13 +3,16 @@
 use Prim.Native.Nat.{ℕ, zero, suc, _/_, _%_}
 use mathlib.Core.Bool.{Bool, true, false, cond}
 use mathlib.Core.List.{List, [], _∷_, _++_}
+use mathlib.Core.Option.{Option, none, some}
 use lib.Dec.{eqb}
 use lib.IntN.{ℤ, pos}
 use lib.ListN.{length}
+use Rattle.refusal.specs.declared.Refusal.{Refusal}
 use Rattle.rowset.specs.Bytes.{little}
 use Rattle.rowset.specs.Integers.{fromBits, toBits}
 use Rattle.star.specs.Call.{Call}
 use Rattle.star.specs.Cst.{Answer, refused, passed, lighter, cst, EqualRows, equalRows}
+use Rattle.star.specs.MatrixPath.{matrixPath, matrixAfter}
 use Rattle.star.specs.Mst1.{BuildAnswer, unbuilt, treeBuilt, mst1, mst1Marks}
 
 -- the fields of an answer: the kind, the refusal's number, out or the refusal's place, in, whether the tree is the only cheapest one, and the weight or the saving; a field that a kind lacks is 0
@@ -82,3 +85,16 @@ otherDoor c answer = answerAfter answer (otherFields c)
 -- the mark column after MST1 was called through the door; CST writes no mark
 unfoldable pub mst1DoorMarks : Call → List ℕ → List ℕ
 mst1DoorMarks c answer = cond (wellLent answer) (mst1Marks c) (c .mark)
+
+-- the fields of what is done or refused, MatrixPath's among them: done is kind 1 and all else 0; a refusal is told as CST's
+unfoldable pub outcomeFields : Option Refusal → Fields
+outcomeFields none = record { kind = 1; number = 0; out = 0; into = 0; only = 0; amount = pos 0 }
+outcomeFields (some r) = fields (refused r)
+
+-- the lent answer after MatrixPath from s was called through the door, with R lent as its matrix
+unfoldable pub pathsDoor : Call → ℕ → List ℕ → List ℕ → List ℕ
+pathsDoor c s R answer = answerAfter answer (outcomeFields (matrixPath c s R))
+
+-- R after that call
+unfoldable pub pathsDoorMatrix : Call → ℕ → List ℕ → List ℕ → List ℕ
+pathsDoorMatrix c s R answer = cond (wellLent answer) (matrixAfter c s R) R

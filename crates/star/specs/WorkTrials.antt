@@ -10,7 +10,7 @@ use lib.ListN.{replicate}
 use Rattle.rowset.specs.Trials.{these}
 use Rattle.star.specs.Call.{Call, tableOf, callOf, workOf}
 use Rattle.star.specs.Cst.{refused, passed, lighter, EqualRows, equalRows}
-use Rattle.star.specs.Door.{cstDoor, mst1Door, otherDoor, mst1DoorMarks}
+use Rattle.star.specs.Door.{cstDoor, mst1Door, otherDoor, mst1DoorMarks, pathsDoor, pathsDoorMatrix}
 use Rattle.star.specs.Mst1.{unbuilt, treeBuilt}
 use Rattle.star.specs.Trials.{Result, checked, built, filled, checks, builds, fills, small, because, column, yard, twice}
 
@@ -148,7 +148,7 @@ expectedWork =
     ∷ checked (refused (because 4 1))
     ∷ []
 
--- the sixteen bytes, and the marks, of calls on a working table
+-- the sixteen bytes, the marks and the matrix of calls on a working table, and answers of fifteen and seventeen bytes
 abbrev nines : ℕ → List ℕ
 nines k = replicate k 9
 
@@ -157,8 +157,14 @@ givenBytes =
     cstDoor (last lastRow (replicate 1023 7 ++ (1 ∷ []))) (nines 16)
     ∷ otherDoor (last lastRow (replicate 1023 7 ++ (1 ∷ []))) (nines 16)
     ∷ mst1Door (last lastRow (replicate 1024 7)) (nines 16)
+    ∷ mst1DoorMarks (last lastRow (replicate 1024 7)) (nines 16)
     ∷ mst1DoorMarks (last lastRow (replicate 1024 7)) (nines 15)
+    ∷ pathsDoor (last lastRow (replicate 1023 7 ++ (1 ∷ []))) 2 (replicate 33 8) (nines 16)
+    ∷ pathsDoorMatrix (last lastRow (replicate 1023 7 ++ (1 ∷ []))) 2 (replicate 33 8) (nines 16)
+    ∷ pathsDoorMatrix (last lastRow (replicate 1023 7 ++ (1 ∷ []))) 2 (replicate 33 8) (nines 17)
+    ∷ pathsDoor (last (replicate 16 0) (replicate 1023 7 ++ (1 ∷ []))) 2 (replicate 33 8) (nines 16)
     ∷ cstDoor (idle 1 15 1024 1024 4096 1024) (nines 16)
+    ∷ cstDoor (idle 1 15 1024 1024 4096 1024) (nines 17)
     ∷ []
 
 abbrev pub expectedBytes : List (List ℕ)
@@ -166,8 +172,14 @@ expectedBytes =
     (1 ∷ 0 ∷ 0 ∷ 0 ∷ 0 ∷ 0 ∷ 1 ∷ 0 ∷ 9 ∷ 0 ∷ 0 ∷ 0 ∷ 0 ∷ 0 ∷ 0 ∷ 0 ∷ [])
     ∷ (1 ∷ 0 ∷ 0 ∷ 0 ∷ 0 ∷ 0 ∷ 1 ∷ 0 ∷ 9 ∷ 0 ∷ 0 ∷ 0 ∷ 0 ∷ 0 ∷ 0 ∷ 0 ∷ [])
     ∷ (1 ∷ 0 ∷ 0 ∷ 0 ∷ 0 ∷ 0 ∷ 0 ∷ 0 ∷ 9 ∷ 0 ∷ 0 ∷ 0 ∷ 0 ∷ 0 ∷ 0 ∷ 0 ∷ [])
+    ∷ (replicate 1023 0 ++ (1 ∷ []))
     ∷ replicate 1024 7
+    ∷ (1 ∷ replicate 15 0)
+    ∷ (lastRow ++ (replicate 16 0 ++ (8 ∷ [])))
+    ∷ replicate 33 8
+    ∷ (0 ∷ 9 ∷ replicate 14 0)
     ∷ (0 ∷ 3 ∷ 0 ∷ 0 ∷ 0 ∷ 0 ∷ 0 ∷ 0 ∷ 0 ∷ 0 ∷ 0 ∷ 0 ∷ 0 ∷ 0 ∷ 0 ∷ 0 ∷ [])
+    ∷ nines 17
     ∷ []
 
 -- the theorem: each trial gives what it should

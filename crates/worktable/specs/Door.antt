@@ -3,21 +3,15 @@
 use Prim.Native.Nat.{ℕ}
 use mathlib.Core.Bool.{cond}
 use mathlib.Core.List.{List}
-use mathlib.Core.Option.{Option, none, some}
+use mathlib.Core.Option.{some}
 use lib.IntN.{pos}
-use Rattle.refusal.specs.declared.Refusal.{Refusal}
-use Rattle.star.specs.Door.{Fields, wellLent, answerAfter}
+use Rattle.star.specs.Door.{Fields, outcomeFields, wellLent, answerAfter}
 use Rattle.worktable.specs.Changes.{AddAnswer, unadded, addedAt, struckWords, merged, added, addAnswer}
 use Rattle.worktable.specs.Tables.{Working, strikeRefusal, mergeRefusal}
 
--- kind 0 is refused, with the number and the place; kind 1 is done, and all else is 0
-unfoldable pub outcomeFields : Option Refusal → Fields
-outcomeFields none = record { kind = 1; number = 0; out = 0; into = 0; only = 0; amount = pos 0 }
-outcomeFields (some r) = record { kind = 0; number = r .number; out = r .place; into = 0; only = 0; amount = pos 0 }
-
--- the same for an add, with the new row's position in bytes 8 to 15
+-- the fields of an add's answer: kind 1 has the new row's position for its amount; a refusal is told as CST's
 unfoldable pub addFields : AddAnswer → Fields
-addFields (unadded r) = record { kind = 0; number = r .number; out = r .place; into = 0; only = 0; amount = pos 0 }
+addFields (unadded r) = outcomeFields (some r)
 addFields (addedAt position) = record { kind = 1; number = 0; out = 0; into = 0; only = 0; amount = pos position }
 
 -- striking: the answer and the words
