@@ -4,7 +4,7 @@
 use Prim.Native.Nat.{ℕ, zero, suc, _+_, _*_, _-_, _≤_, _<_}
 use borrow.Author.Tests.{ltb-false}
 use lib.ListN.{length, getD, List·getD-eq-default}
-use mathlib.Core.Bool.{Bool, true, false, _&&_}
+use mathlib.Core.Bool.{Bool, true, false, _&&_, and-true, and-false}
 use mathlib.Core.List.{List, [], _∷_, _++_}
 use mathlib.Core.Logic.{⊎-elim}
 use mathlib.Core.Option.{Option, none, some}
@@ -148,3 +148,10 @@ module _ (m : ℕ) (X : ℕ → Bool) where
     pub marks-within : count m (both X (marked mark)) ≡ count m (both (both (upTo m) X) (marked mark))
     unfolding count both
     marks-within = sum-ext m _ _ _ _ (λ i l u. rw (in-upTo m i l u)) (λ i l u e. refl)
+
+-- a conjunction whose second part fails, or holds
+pub and-refuted : (b : Bool) {d : Bool} → d ≡ false → false ≡ (b && d)
+and-refuted b e = rw e (sym (and-false b))
+
+pub and-shown : {r b d : Bool} → d ≡ true → r ≡ b → r ≡ (b && d)
+and-shown {b = b} e h = rw e (h ∙ sym (and-true b))

@@ -158,10 +158,10 @@ fn wrong_ends(n: u32, a: u32, b: u32) -> bool
 fn wrong_row(n: u32, rows: Slice, left: &[u8], right: &[u8], k: usize) -> bool
     ensures { λ r. ⌜ r ≡ wrongRow (component rows) n (now (left .entry)) (now (right .entry)) k ⌝ }
 {
-    if !slice::get(rows, k) {
+    if !wrong_ends(n, row_byte(left, k) as u32, row_byte(right, k) as u32) {
         return false;
     }
-    wrong_ends(n, row_byte(left, k) as u32, row_byte(right, k) as u32)
+    slice::get(rows, k)
 }
 
 // The uppermost such row of 1 to m, 0 where there is none.
@@ -253,10 +253,10 @@ pub fn table_check(
 fn wrong_mark(rows: Slice, mark: &[u8], at: usize) -> bool
     ensures { λ r. ⌜ r ≡ wrongByte (component rows) (now (mark .entry)) at ⌝ }
 {
-    if !slice::get(rows, at) {
+    if row_byte(mark, at) <= 1 {
         return false;
     }
-    1 < row_byte(mark, at)
+    slice::get(rows, at)
 }
 
 // The uppermost of the rows of 1 to m whose claim byte is other than 0 and 1, 0 where there is none.
@@ -300,10 +300,10 @@ pub fn claim_check(
 fn marked_row(rows: Slice, mark: &[u8], row: usize) -> bool
     ensures { λ r. ⌜ r ≡ both (component rows) (marked (now (mark .entry))) row ⌝ }
 {
-    if !slice::get(rows, row) {
+    if row_byte(mark, row) != 1 {
         return false;
     }
-    row_byte(mark, row) == 1
+    slice::get(rows, row)
 }
 
 // The number of rows among the first m of a slice that the claim marks.

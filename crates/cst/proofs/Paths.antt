@@ -14,7 +14,7 @@ use native.Mathlib.Omega.{arith}
 use Rattle.graph.specs.Tree.{onPath}
 use Rattle.refusal.specs.declared.Refusal.{Refusal}
 use Rattle.rowset.proofs.Integers.{integers, total-cut}
-use Rattle.rowset.proofs.Laws.{refuted, clash, upTo-in, in-upTo, any-cut, any-found, uppermost-cut, uppermost-ext, uppermost-some, uppermost-zero, xor-self}
+use Rattle.rowset.proofs.Laws.{refuted, clash, in-upTo, any-cut, any-found, uppermost-cut, uppermost-ext, uppermost-some, uppermost-zero, xor-self}
 use Rattle.rowset.proofs.Members.{both-in, without-in}
 use Rattle.rowset.proofs.Searches.{greaterThan-in, sameAs-in}
 use Rattle.rowset.specs.Bytes.{inRow}

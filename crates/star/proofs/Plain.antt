@@ -5,9 +5,9 @@ use Prim.Native.Nat.{ℕ, _≤_, _<_}
 use borrow.Author.Tests.{lt-ltb}
 use lib.ListN.{length}
 use mathlib.Core.Bool.{Bool, true}
-use mathlib.Core.List.{List, [], _++_}
+use mathlib.Core.List.{List, _++_}
 use mathlib.Core.Option.{Option, none, some}
-use mathlib.Core.Path.{_≡_, refl, sym, ap, _∙_}
+use mathlib.Core.Path.{_≡_, refl, ap}
 use native.Mathlib.Decide.{decLe}
 use native.Mathlib.Omega.{arith}
 use Rattle.refusal.specs.declared.Refusal.{Refusal}
@@ -17,7 +17,7 @@ use Rattle.star.specs.Call.{Call, tableOf, callOf}
 use Rattle.star.specs.Cst.{verdict, cst, rowsBeside, equalRows}
 use Rattle.star.specs.MatrixPath.{matrixPath, matrixOr, matrixAfter}
 use Rattle.star.specs.Mst1.{built, mst1, builtMarks, mst1Marks}
-use Rattle.star.specs.Refusals.{maxRows, cause, badVertices, tooManyRows, tableCauses, beforeWalk, matrixPathCauses, cstCauses, mst1Causes, orElse, refusal}
+use Rattle.star.specs.Refusals.{maxRows, cause, badVertices, tooManyRows, tableCauses, matrixPathCauses, cstCauses, mst1Causes, orElse, refusal}
 
 -- more than 1,024 rows are refused, with the same number and place whatever else the table holds
 pub too-many : (n m : ℕ) → maxRows < m
