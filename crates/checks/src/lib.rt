@@ -220,10 +220,8 @@ fn rows_check(n: u32, m: usize, rows: Slice, left: &[u8], right: &[u8]) -> Outco
         ⌜ ((whole : Bool) (weight mark : List ℕ) → refusalOf r ≡ refusal (rowCauses (table whole weight mark))) ⌝ }
 {
     let ends = refused_at(4, first_bad_row(n, m, rows, left, right) as u32);
-    first(
-        ends,
-        refused_at(15, first_repeat(m, rows, left, right) as u32),
-    )
+    let repeats = refused_at(15, first_repeat(m, rows, left, right) as u32);
+    first(ends, repeats)
 }
 
 // Causes 1 to 4 and 15, of a table of m rows of which those of a slice are in use.
