@@ -32,7 +32,7 @@ nested-same g X F F′ t t′ h = fun-ext (λ i. same-truth (F i) (F′ i) (h i)
         absurd (t′ .ringless i e (walk-over-more (λ k on. takeOut-other F′ i k (λ s. clash on (ap F s ∙ q)) ∙ h k on) (t .joins (g .a i) (g .b i) .1 (ahead i (t′ .inside i e) stay))))
 
 -- the ends of a row that crosses a colouring have two colours
-crosses-apart : (g : Graph) (side : ℕ → Bool) (e : ℕ) → crosses g side e ≡ true → side (g .a e) ≢ side (g .b e)
+pub crosses-apart : (g : Graph) (side : ℕ → Bool) (e : ℕ) → crosses g side e ≡ true → side (g .a e) ≢ side (g .b e)
 unfolding crosses
 crosses-apart g side e c q = clash c (rw (q, xor-self))
 
