@@ -53,6 +53,12 @@ uncrossed-same : (g : Graph) (Q : ℕ → Bool) (i : ℕ) → crosses g Q i ≡ 
 unfolding crosses
 uncrossed-same g Q i c = xor-false-same _ _ c
 
+-- the first of two positions is none only where both are
+firstOf-none : (c d : ℕ) → firstOf c d ≡ 0 → (c ≡ 0) × (d ≡ 0)
+unfolding firstOf
+firstOf-none zero d e = (refl, e)
+firstOf-none (suc c) d e = absurd (omega arith)
+
 module _ (g : Graph) (ok : Sound g) (w : ℕ → ℤ) (X : ℕ → Bool) (rows : Inside g X) where
   -- before the first row
   nothing-invariant : Invariant g w X nothing
@@ -164,6 +170,79 @@ module _ (g : Graph) (ok : Sound g) (w : ℕ → ℤ) (X : ℕ → Bool) (rows :
   grown-invariant zero = nothing-invariant
   grown-invariant (suc k) = next-invariant (grown g w X k) (grown-invariant k)
 
-  -- where no row is left to add, what has grown is a least forest
+  -- where no row is left to add, each row of X has both ends in the vertices
+  next-none : (Q : ℕ → Bool) → nextRow g w X Q ≡ 0 → (i : ℕ) → X i ≡ true → (Q (g .a i) ≡ true) × (Q (g .b i) ≡ true)
+  unfolding nextRow
+  next-none Q e i x =
+      let (c, d) = firstOf-none _ _ e in
+      let same = uncrossed-same g Q i (none-in (crosses g Q) c i x) in
+      let on = go (Q (g .a i)) refl same (none-in (misses g Q) d i x) in
+      (on, sym same ∙ on)
+    where
+      go : (b : Bool) → Q (g .a i) ≡ b → Q (g .a i) ≡ Q (g .b i) → misses g Q i ≡ false → Q (g .a i) ≡ true
+      go true q same m = q
+      go false q same m = clash (in-misses g Q i q (sym same ∙ q)) m
+
+  -- then what has grown is a least forest
   whole : (f : Fragment) → Invariant g w X f → nextRow g w X (f .vertices) ≡ 0 → LeastForest g w X (f .chosen)
-  whole f inv none = ?
+  whole f inv none =
+      record {
+        forest = forest;
+        least = λ S t.
+            let (T, tT, le, has) = inv .matched S t in
+            omega (arith, integers, ap (total (g .m) w) (nested-same g X (f .chosen) T forest tT has));
+      }
+    where
+      inside : (i : ℕ) → f .chosen i ≡ true → X i ≡ true
+      inside i h = inv .row i h .0
+
+      rejoined : (i : ℕ) → X i ≡ true → Walk g (f .chosen) (g .a i) (g .b i)
+      rejoined i x =
+          let (l, r) = next-none (f .vertices) none i x in
+          inv .joins (g .a i) (g .b i) l r (ahead i x stay)
+
+      forest : Forest g X (f .chosen)
+      forest = record { inside = inside; ringless = inv .ringless; joins = λ u v. (walk-over-more inside, walk-replaced rejoined) }
+
+  -- the next row brings in a vertex
+  next-brings : (Q : ℕ → Bool) (j : ℕ) → nextRow g w X Q ≡ suc j → count (g .n) Q < count (g .n) (withEnds g Q (suc j))
+  unfolding nextRow withEnds firstOf
+  next-brings Q j e = go (cheapest g w (both X (crosses g Q))) refl (cheapest g w (both X (misses g Q))) refl e
+    where
+      more : (v : ℕ) → (1 ≤ v) × (v ≤ g .n) → Q v ≡ false → put (put Q (g .a (suc j))) (g .b (suc j)) v ≡ true → count (g .n) Q < count (g .n) (put (put Q (g .a (suc j))) (g .b (suc j)))
+      more v (l, u) out on = count-fewer (g .n) v Q _ l u on out (λ i h. put-keeps _ _ i (put-keeps Q _ i h))
+
+      go : (c : ℕ) → cheapest g w (both X (crosses g Q)) ≡ c → (d : ℕ) → cheapest g w (both X (misses g Q)) ≡ d → firstOf c d ≡ suc j → count (g .n) Q < count (g .n) (put (put Q (g .a (suc j))) (g .b (suc j)))
+      go zero ec d ed s =
+          let (r, m) = both-in X _ (suc j) (cheapest-some g ok w (both X (misses g Q)) j (ed ∙ s) .0) in
+          more (g .a (suc j)) (ok .left (suc j) (rows (suc j) r)) (misses-in g Q (suc j) m .0) (put-keeps _ _ _ (put-same Q (g .a (suc j))))
+      go (suc i) ec d ed s =
+          let (r, c) = both-in X _ (suc j) (cheapest-some g ok w (both X (crosses g Q)) j (ec ∙ s) .0) in
+          let z = crossing-far-end g Q j c in
+          more (z .far) (joins-vertex ok (rows (suc j) r) (z .joins)) (z .outside) (ap (λ (P : ℕ → Bool). P (z .far)) (z .added) ∙ put-same Q (z .far))
+
+  -- where a row is left to add after k rows, there are k vertices or more
+  grown-counts : (k j : ℕ) → nextRow g w X (grown g w X k .vertices) ≡ suc j → k ≤ count (g .n) (grown g w X k .vertices)
+  unfolding grown withRow
+  grown-counts zero j e = omega arith
+  grown-counts (suc k) j e = go (grown-counts k) (nextRow g w X (grown g w X k .vertices)) refl e
+    where
+      f : Fragment
+      f = grown g w X k
+
+      go : ((i : ℕ) → nextRow g w X (f .vertices) ≡ suc i → k ≤ count (g .n) (f .vertices)) → (r : ℕ) → nextRow g w X (f .vertices) ≡ r → nextRow g w X (withRow g f r .vertices) ≡ suc j → suc k ≤ count (g .n) (withRow g f r .vertices)
+      go before zero q e = absurd (omega arith)
+      go before (suc i) q e = omega (arith, before i q, next-brings (f .vertices) i q)
+
+  -- so after n rows no row is left to add
+  pub grown-closed : nextRow g w X (grown g w X (g .n) .vertices) ≡ 0
+  grown-closed = go (nextRow g w X (grown g w X (g .n) .vertices)) refl
+    where
+      go : (r : ℕ) → nextRow g w X (grown g w X (g .n) .vertices) ≡ r → nextRow g w X (grown g w X (g .n) .vertices) ≡ 0
+      go zero e = e
+      go (suc j) e = omega (arith, grown-counts (g .n) j e, next-brings _ j e, count-bound (g .n) (withEnds g (grown g w X (g .n) .vertices) (suc j)))
+
+  -- what has grown is a least forest
+  pub grown-least : LeastForest g w X (grownForest g w X)
+  unfolding grownForest
+  grown-least = whole (grown g w X (g .n)) (grown-invariant (g .n)) grown-closed
