@@ -72,7 +72,7 @@ module _ (g : Graph) (ok : Sound g) (w : ℕ → ℤ) (S : ℕ → Bool) (tree :
   own-cut e i h = cut-crossed-once g ok S tree 1 e i (omega arith) (ok .vertex) h
 
   -- a row of a good tree is no heavier than any row of the graph that crosses its cut
-  cut-light : Good g w S → (e f : ℕ) → g .rows f ≡ true → crosses g (λ v. onPath g S 1 v e) f ≡ true → w e ≤ℤ w f
+  pub cut-light : Good g w S → (e f : ℕ) → g .rows f ≡ true → crosses g (λ v. onPath g S 1 v e) f ≡ true → w e ≤ℤ w f
   cut-light good e f r c = go (S f) refl
     where
       go : (x : Bool) → S f ≡ x → w e ≤ℤ w f
