@@ -30,8 +30,8 @@ takeOut-more F F′ i k h t =
 ringless-fewer : {g : Graph} {F F′ : ℕ → Bool} → ((i : ℕ) → F′ i ≡ true → F i ≡ true) → Ringless g F → Ringless g F′
 ringless-fewer {F = F} {F′ = F′} h r i e p = r i (h i e) (walk-over-more (λ k t. takeOut-more F′ F i k (h k) t) p)
 
--- a walk through row i from one end of row k to the other joins the ends of i over the other rows and k
-through-ends : {g : Graph} {S S′ : ℕ → Bool} {k i : ℕ} → Walk g S′ (g .a k) (g .b k) → ((j : ℕ) → takeOut S i j ≡ true → S′ j ≡ true) → Through g S (g .a k) (g .b k) i → Walk g S′ (g .a i) (g .b i)
+-- where one walk goes through row i, another between the same vertices joins the ends of i
+pub through-ends : {g : Graph} {S S′ : ℕ → Bool} {u v i : ℕ} → Walk g S′ u v → ((j : ℕ) → takeOut S i j ≡ true → S′ j ≡ true) → Through g S u v i → Walk g S′ (g .a i) (g .b i)
 through-ends p h t =
     joined-ends (t .joins) (walk-then (walk-back (walk-over-more h (t .before))) (walk-then p (walk-back (walk-over-more h (t .after)))))
 

@@ -10,11 +10,11 @@ use mathlib.Core.Bool.{Bool, true, false, xor, not, and-eq-true-iff}
 use mathlib.Core.Logic.{_≢_, ⊎-elim}
 use mathlib.Core.Path.{_≡_, refl, sym, _∙_, ap, fun-ext}
 use native.Mathlib.Omega.{arith}
-use Rattle.forest.proofs.Exchange.{exchange-forest}
+use Rattle.forest.proofs.Exchange.{through-ends, exchange-forest}
 use Rattle.forest.proofs.Walks.{Through, around-or-through, crossed-through}
-use Rattle.forest.specs.Forest.{Forest, LeastForest, GoodForest}
+use Rattle.forest.specs.Forest.{Ringless, Forest, LeastForest, GoodForest}
 use Rattle.graph.proofs.Exchange.{swapped-weight}
-use Rattle.graph.proofs.Reach.{same-truth, walk-over-more, walk-joined}
+use Rattle.graph.proofs.Reach.{same-truth, walk-over-more, joined-walk, walk-joined}
 use Rattle.graph.specs.Graph.{Graph, Sound, Inside, Walk, stay, ahead, crosses, joined}
 use Rattle.graph.specs.Tree.{onPath, exchange}
 use Rattle.rowset.proofs.Integers.{integers, plus}
@@ -43,6 +43,11 @@ pub record CutForest (g : Graph) (w : ℕ → ℤ) (X F side : ℕ → Bool) (e 
   pub weight : total (g .m) w set ≤ℤ total (g .m) w F
   pub brought : set e ≡ true
   pub kept : (i : ℕ) → F i ≡ true → crosses g side i ≡ false → set i ≡ true
+
+-- a row that a walk over a set without a ring goes through is on the path
+pub through-on-path : (g : Graph) (F : ℕ → Bool) → Ringless g F → (u v e : ℕ) → Through g F u v e → onPath g F u v e ≡ true
+unfolding onPath
+through-on-path g F r u v e t = rw (t .row, refuted _ (λ h. r e (t .row) (through-ends (joined-walk g (takeOut F e) u v h) (λ j s. s) t)))
 
 module _ (g : Graph) (ok : Sound g) (w : ℕ → ℤ) (X : ℕ → Bool) (rows : Inside g X) where
   -- what the exchange of a row of X does to the weight of a forest of X
