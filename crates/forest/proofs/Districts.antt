@@ -15,8 +15,9 @@ use mathlib.Core.Path.{_≡_, refl, sym, _∙_, ap, subst, fun-ext}
 use native.Mathlib.Decide.{ℕ-discrete}
 use native.Mathlib.Nat.{lt-of-not-le}
 use native.Mathlib.Omega.{arith}
-use Rattle.forest.proofs.Growing.{grown-least}
-use Rattle.forest.proofs.Least.{crosses-apart, through-on-path, least-good-forest}
+use Rattle.forest.proofs.Good.{through-on-path, least-good-forest}
+use Rattle.forest.proofs.Growing.{grows-least}
+use Rattle.forest.proofs.Least.{crosses-apart}
 use Rattle.forest.proofs.Walks.{walk-replaced, crossed-through}
 use Rattle.forest.specs.Districts.{run, risesTo, forestsAfter, forests, within, districts, EachRun, Districts, DistrictsHold}
 use Rattle.forest.specs.Forest.{Forest, LeastForest}
@@ -77,7 +78,7 @@ rises-first m p q ends e =
 module _ (g : Graph) (ok : Sound g) (w : ℕ → ℤ) where
   -- a run's grown forest is a least forest of it
   run-least : (p q : ℕ) → LeastForest g w (run g p q) (grownForest g w (run g p q))
-  run-least p q = grown-least g ok w (run g p q) (λ i h. run-in g p q i h .0)
+  run-least p q = grows-least g ok w (run g p q) (λ i h. run-in g p q i h .0)
 
   -- the rows of the forests after p are rows of the graph after p
   after-in : (p : ℕ) (ends : List ℕ) → risesTo (g .m) p ends ≡ true → (i : ℕ) → forestsAfter g w p ends i ≡ true → (g .rows i ≡ true) × (p < i)
@@ -242,6 +243,7 @@ module _ (g : Graph) (ok : Sound g) (w : ℕ → ℤ) (ends : List ℕ) (rises :
 pub districts-hold : DistrictsHold
 districts-hold g ok w ends rises =
     record {
+      rows-alone = forests-inside g ok w ends rises;
       of-runs = each-run g ok w ends rises;
       from-forests = λ f e. built g ok w ends rises f e .tree .inside;
       least-tree = λ f e. good-least g ok w (f .chosen) (spanning g ok w ends rises f e) (good g ok w ends rises f e);

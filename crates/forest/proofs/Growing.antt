@@ -1,6 +1,6 @@
 -- The growing of a forest.
 -- Defines: Invariant (what holds of what has grown after each row).
--- Main statements: the invariant holds after each row (grown-invariant); after n rows no row is left to add (grown-closed); what has grown is a least forest (grown-least).
+-- Main statements: the invariant holds after each row (grown-invariant); after n rows no row is left to add (grown-closed); what has grown is a least forest (grows-least).
 -- Assumes nothing.
 use Prim.Native.Nat.{ℕ, zero, suc, _≤_, _<_}
 use borrow.Author.Tests.{not-true}
@@ -14,13 +14,13 @@ use Rattle.forest.proofs.Exchange.{ringless-put}
 use Rattle.forest.proofs.Least.{nested-same, crosses-apart, cut-forest}
 use Rattle.forest.proofs.Walks.{walk-replaced}
 use Rattle.forest.specs.Forest.{Ringless, Forest, LeastForest}
-use Rattle.forest.specs.Growing.{misses, nextRow, withRow, grown, grownForest}
+use Rattle.forest.specs.Growing.{misses, nextRow, withRow, grown, grownForest, GrowsLeast}
 use Rattle.graph.proofs.Builder.{joins-crosses, joins-inside, cheapest-some, cheapest-none}
 use Rattle.graph.proofs.Reach.{Joins, rightward, crossing-far-end, joins-vertex, walk-along, walk-then, walk-back, walk-over-more, walk-one-side}
 use Rattle.graph.specs.Builder.{Fragment, nothing, cheapest}
 use Rattle.graph.specs.Graph.{Graph, Sound, Inside, Walk, stay, ahead, crosses, withEnds}
 use Rattle.rowset.proofs.Integers.{integers}
-use Rattle.rowset.proofs.Laws.{clash, refuted, put-same, put-other, put-keeps, put-cases, count-bound, xor-false-same, xor-self}
+use Rattle.rowset.proofs.Laws.{clash, refuted, upwards, put-same, put-other, put-keeps, put-cases, count-bound, xor-false-same, xor-self}
 use Rattle.rowset.proofs.Members.{put-all, both-in, in-both, count-fewer}
 use Rattle.rowset.specs.Integers.{total}
 use Rattle.rowset.specs.Sets.{empty, both, put, count, firstOf}
@@ -242,7 +242,12 @@ module _ (g : Graph) (ok : Sound g) (w : ℕ → ℤ) (X : ℕ → Bool) (rows :
       go zero e = e
       go (suc j) e = omega (arith, grown-counts (g .n) j e, next-brings _ j e, count-bound (g .n) (withEnds g (grown g w X (g .n) .vertices) (suc j)))
 
-  -- what has grown is a least forest
-  pub grown-least : LeastForest g w X (grownForest g w X)
-  unfolding grownForest
-  grown-least = whole (grown g w X (g .n)) (grown-invariant (g .n)) grown-closed
+pub grows-least : GrowsLeast
+unfolding grownForest
+grows-least g ok w X rows = whole g ok w X rows (grown g w X (g .n)) (grown-invariant g ok w X rows (g .n)) (grown-closed g ok w X rows)
+
+-- where no row is left to add after k rows, the growing may end
+pub grown-ended : (g : Graph) (w : ℕ → ℤ) (X : ℕ → Bool) (k : ℕ) → k ≤ g .n → nextRow g w X (grown g w X k .vertices) ≡ 0 → grownForest g w X ≡ grown g w X k .chosen
+unfolding grownForest grown withRow
+grown-ended g w X k l e =
+    ap (λ (f : Fragment). f .chosen) (upwards (λ j. grown g w X j ≡ grown g w X k) k (g .n) l refl (λ j _ _ same. rw (same, e)))

@@ -1,6 +1,6 @@
--- Least forests.
+-- Forests beside each other.
 -- Defines: CutForest (a forest with a row exchanged in across a colouring).
--- Main statements: a forest inside another of the same rows is the same forest (nested-same); the cut property (cut-forest); a least forest is good (least-good-forest).
+-- Main statements: a forest inside another of the same rows is the same forest (nested-same); the cut property (cut-forest).
 -- Assumes nothing.
 use Prim.Native.Nat.{ℕ}
 use lib.IntN.{ℤ, _+ℤ_}
@@ -44,14 +44,9 @@ pub record CutForest (g : Graph) (w : ℕ → ℤ) (X F side : ℕ → Bool) (e 
   pub brought : set e ≡ true
   pub kept : (i : ℕ) → F i ≡ true → crosses g side i ≡ false → set i ≡ true
 
--- a row that a walk over a set without a ring goes through is on the path
-pub through-on-path : (g : Graph) (F : ℕ → Bool) → Ringless g F → (u v e : ℕ) → Through g F u v e → onPath g F u v e ≡ true
-unfolding onPath
-through-on-path g F r u v e t = rw (t .row, refuted _ (λ h. r e (t .row) (through-ends (joined-walk g (takeOut F e) u v h) (λ j s. s) t)))
-
 module _ (g : Graph) (ok : Sound g) (w : ℕ → ℤ) (X : ℕ → Bool) (rows : Inside g X) where
   -- what the exchange of a row of X does to the weight of a forest of X
-  exchange-forest-weight : (F : ℕ → Bool) → Forest g X F → (e f : ℕ) → F e ≡ true → X f ≡ true → F f ≡ false → total (g .m) w (exchange F e f) +ℤ w e ≡ total (g .m) w F +ℤ w f
+  pub exchange-forest-weight : (F : ℕ → Bool) → Forest g X F → (e f : ℕ) → F e ≡ true → X f ≡ true → F f ≡ false → total (g .m) w (exchange F e f) +ℤ w e ≡ total (g .m) w F +ℤ w f
   exchange-forest-weight F t e f on x out =
       let (le, he) = ok .position e (rows e (t .inside e on)) in
       let (lf, hf) = ok .position f (rows f x) in
@@ -73,15 +68,3 @@ module _ (g : Graph) (ok : Sound g) (w : ℕ → ℤ) (X : ℕ → Bool) (rows :
             brought = put-same (takeOut F f) e;
             kept = λ i h ci. put-keeps (takeOut F f) e i (takeOut-other F f i (λ q. clash cf (rw q at ci)) ∙ h);
           }
-
-  -- a least forest is good
-  pub least-good-forest : (F : ℕ → Bool) → LeastForest g w X F → GoodForest g w X F
-  unfolding onPath
-  least-good-forest F least f x out e path =
-      let (on, off) = and-eq-true-iff (F e) (not (joined g (takeOut F e) (g .a f) (g .b f))) .0 path in
-      let (l, h) = ok .left f (rows f x) in
-      let t = least .forest in
-      ⊎-elim
-      (λ around. clash (walk-joined g ok (takeOut F e) (λ k s. rows k (t .inside k (takeOut-in F e k s .0))) (g .a f) l h (g .b f) around) (not-true _ off))
-      (λ th. omega (arith, integers, least .least (exchange F e f) (exchange-forest g X F t e f x th), exchange-forest-weight F t e f on x out, plus (total (g .m) w (exchange F e f)) (w e), plus (total (g .m) w F) (w f)))
-      (around-or-through (t .joins (g .a f) (g .b f) .1 (ahead f x stay)) e)

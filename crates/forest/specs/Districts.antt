@@ -10,7 +10,7 @@ use mathlib.Core.Path.{_≡_}
 use Rattle.forest.specs.Forest.{LeastForest}
 use Rattle.forest.specs.Growing.{grownForest}
 use Rattle.graph.specs.Builder.{Fragment, tree}
-use Rattle.graph.specs.Graph.{Graph, Sound}
+use Rattle.graph.specs.Graph.{Graph, Sound, Inside}
 use Rattle.graph.specs.Least.{Least, Good}
 use Rattle.graph.specs.Tree.{SpanningTree}
 use Rattle.rowset.specs.Sets.{empty, upTo, both, either, without}
@@ -47,7 +47,8 @@ EachRun P p [] = Unit {0}
 EachRun P p (q ∷ ends) = P p q × EachRun P q ends
 
 pub record Districts (g : Graph) (w : ℕ → ℤ) (ends : List ℕ) : Type 0 where
-  -- the forests' rows in a run are a least forest of the run
+  -- the forests' rows are rows of the graph, and those in a run are a least forest of the run
+  pub rows-alone : Inside g (forests g w ends)
   pub of-runs : EachRun (λ p q. LeastForest g w (run g p q) (both (forests g w ends) (run g p q))) 0 ends
   -- the tree lies inside the forests
   pub from-forests : (f : Fragment) → districts g w ends ≡ some f → (i : ℕ) → f .chosen i ≡ true → forests g w ends i ≡ true

@@ -1,12 +1,12 @@
 -- Forests of a set of rows, least forests over integer weights, and the criterion by which a least forest is told.
--- Assumes nothing.
+-- At the end, what the criterion is worth, as a theorem over every sound graph. Assumes nothing.
 use Prim.Native.Nat.{ℕ}
 use lib.IntN.{ℤ}
 use lib.Signed.{_≤ℤ_}
 use mathlib.Core.Bool.{Bool, true, false}
 use mathlib.Core.Logic.{_↔_}
 use mathlib.Core.Path.{_≡_}
-use Rattle.graph.specs.Graph.{Graph, Walk}
+use Rattle.graph.specs.Graph.{Graph, Sound, Inside, Walk}
 use Rattle.graph.specs.Tree.{onPath}
 use Rattle.rowset.specs.Integers.{total}
 use Rattle.rowset.specs.Sets.{takeOut}
@@ -30,3 +30,8 @@ pub record LeastForest (g : Graph) (w : ℕ → ℤ) (X F : ℕ → Bool) : Type
 abbrev pub GoodForest : Graph → (ℕ → ℤ) → (ℕ → Bool) → (ℕ → Bool) → Type 0
 GoodForest g w X F =
     (f : ℕ) → X f ≡ true → F f ≡ false → (e : ℕ) → onPath g F (g .a f) (g .b f) e ≡ true → w e ≤ℤ w f
+
+-- the theorem: of every set X of rows of a sound graph, a forest is least exactly where it is good; its proof is proofs/Least.antt
+abbrev pub GoodIsLeast : Type 0
+GoodIsLeast =
+    (g : Graph) → Sound g → (w : ℕ → ℤ) (X : ℕ → Bool) → Inside g X → (F : ℕ → Bool) → Forest g X F → LeastForest g w X F ↔ GoodForest g w X F

@@ -1,10 +1,11 @@
 -- The forest of a set of rows that grows by one lightest row at a time. Weights are integers.
--- Assumes nothing.
+-- At the end, what it is worth, as a theorem over every sound graph. Assumes nothing.
 use Prim.Native.Nat.{ℕ, zero, suc}
 use lib.IntN.{ℤ}
 use mathlib.Core.Bool.{Bool, not, _&&_}
+use Rattle.forest.specs.Forest.{LeastForest}
 use Rattle.graph.specs.Builder.{Fragment, nothing, cheapest}
-use Rattle.graph.specs.Graph.{Graph, crosses, withEnds}
+use Rattle.graph.specs.Graph.{Graph, Sound, Inside, crosses, withEnds}
 use Rattle.rowset.specs.Sets.{both, put, firstOf}
 
 -- row i has neither end in the vertex set Q
@@ -30,3 +31,7 @@ grown g w X (suc k) =
 -- the rows of the whole forest: each row brings in a vertex, so that n rows are enough
 unfoldable pub grownForest : Graph → (ℕ → ℤ) → (ℕ → Bool) → ℕ → Bool
 grownForest g w X = grown g w X (g .n) .chosen
+
+-- the theorem: of every set X of rows of a sound graph, what grows is a least forest; its proof is proofs/Growing.antt
+abbrev pub GrowsLeast : Type 0
+GrowsLeast = (g : Graph) → Sound g → (w : ℕ → ℤ) (X : ℕ → Bool) → Inside g X → LeastForest g w X (grownForest g w X)
