@@ -4,36 +4,35 @@
 -- Assumes nothing.
 use Prim.Native.Nat.{ℕ, zero, suc, _≤_, _<_}
 use borrow.Author.Tests.{eqb-true, ltb-true, ltb-false}
-use lib.Dec.{eqb, ltb}
+use lib.Dec.{ltb}
 use lib.IntN.{ℤ}
 use lib.Signed.{_≤ℤ_}
-use mathlib.Core.Bool.{Bool, true, false, xor, _&&_, _||_, and-eq-true-iff, or-false, or-true}
+use mathlib.Core.Bool.{Bool, true, false, and-eq-true-iff, or-true}
 use mathlib.Core.List.{List, [], _∷_}
-use mathlib.Core.Logic.{_⊎_, inl, inr, ⊎-elim, _≢_}
-use mathlib.Core.Option.{Option, none, some}
-use mathlib.Core.Path.{_≡_, refl, sym, _∙_, ap, subst, fun-ext}
-use native.Mathlib.Decide.{ℕ-discrete}
+use mathlib.Core.Logic.{_⊎_, inl, inr, ⊎-elim}
+use mathlib.Core.Option.{none, some}
+use mathlib.Core.Path.{_≡_, refl, sym, _∙_, ap, fun-ext}
 use native.Mathlib.Nat.{lt-of-not-le}
 use native.Mathlib.Omega.{arith}
 use Rattle.forest.proofs.Good.{through-on-path, least-good-forest}
 use Rattle.forest.proofs.Growing.{grows-least}
 use Rattle.forest.proofs.Least.{crosses-apart}
 use Rattle.forest.proofs.Walks.{walk-replaced, crossed-through}
-use Rattle.forest.specs.Districts.{run, risesTo, forestsAfter, forests, within, districts, EachRun, Districts, DistrictsHold}
-use Rattle.forest.specs.Forest.{Forest, LeastForest}
+use Rattle.forest.specs.Districts.{run, risesTo, forestsAfter, forests, within, districts, EachRun, DistrictsHold}
+use Rattle.forest.specs.Forest.{LeastForest}
 use Rattle.forest.specs.Growing.{grownForest}
 use Rattle.graph.proofs.Builder.{built-least, connected-built}
 use Rattle.graph.proofs.Least.{cut-light, good-least, least-good}
 use Rattle.graph.proofs.Path.{cut-crossed}
 use Rattle.graph.proofs.Reach.{same-truth, walk-over-more}
-use Rattle.graph.specs.Builder.{Fragment, tree}
+use Rattle.graph.specs.Builder.{Fragment}
 use Rattle.graph.specs.Graph.{Graph, Sound, Inside, Walk, stay, ahead, back, crosses, withEnds, step, grow, joined}
 use Rattle.graph.specs.Least.{Least, Good}
 use Rattle.graph.specs.Tree.{SpanningTree, onPath}
 use Rattle.rowset.proofs.Integers.{integers}
 use Rattle.rowset.proofs.Laws.{clash, refuted, upTo-in, in-upTo}
 use Rattle.rowset.proofs.Members.{both-in, in-both, without-in, in-without}
-use Rattle.rowset.specs.Sets.{empty, upTo, both, either, without, put, takeOut, uppermost}
+use Rattle.rowset.specs.Sets.{empty, upTo, both, either, without, put, takeOut}
 
 -- ── Runs ──
 

@@ -20,7 +20,7 @@ use Rattle.graph.proofs.Reach.{Joins, rightward, crossing-far-end, joins-vertex
 use Rattle.graph.specs.Builder.{Fragment, nothing, cheapest}
 use Rattle.graph.specs.Graph.{Graph, Sound, Inside, Walk, stay, ahead, crosses, withEnds}
 use Rattle.rowset.proofs.Integers.{integers}
-use Rattle.rowset.proofs.Laws.{clash, refuted, upwards, put-same, put-other, put-keeps, put-cases, count-bound, xor-false-same, xor-self}
+use Rattle.rowset.proofs.Laws.{clash, refuted, upwards, put-same, put-other, put-keeps, put-cases, count-bound, xor-false-same}
 use Rattle.rowset.proofs.Members.{put-all, both-in, in-both, count-fewer}
 use Rattle.rowset.specs.Integers.{total}
 use Rattle.rowset.specs.Sets.{empty, both, put, count, firstOf}
@@ -165,7 +165,7 @@ module _ (g : Graph) (ok : Sound g) (w : ℕ → ℤ) (X : ℕ → Bool) (rows :
       go zero e (suc j) e′ = missing-invariant f j inv e e′
       go (suc j) e d e′ = crossing-invariant f j inv e
 
-  pub grown-invariant : (k : ℕ) → Invariant g w X (grown g w X k)
+  grown-invariant : (k : ℕ) → Invariant g w X (grown g w X k)
   unfolding grown
   grown-invariant zero = nothing-invariant
   grown-invariant (suc k) = next-invariant (grown g w X k) (grown-invariant k)
@@ -235,7 +235,7 @@ module _ (g : Graph) (ok : Sound g) (w : ℕ → ℤ) (X : ℕ → Bool) (rows :
       go before (suc i) q e = omega (arith, before i q, next-brings (f .vertices) i q)
 
   -- so after n rows no row is left to add
-  pub grown-closed : nextRow g w X (grown g w X (g .n) .vertices) ≡ 0
+  grown-closed : nextRow g w X (grown g w X (g .n) .vertices) ≡ 0
   grown-closed = go (nextRow g w X (grown g w X (g .n) .vertices)) refl
     where
       go : (r : ℕ) → nextRow g w X (grown g w X (g .n) .vertices) ≡ r → nextRow g w X (grown g w X (g .n) .vertices) ≡ 0

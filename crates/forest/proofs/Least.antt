@@ -5,20 +5,19 @@
 use Prim.Native.Nat.{ℕ}
 use lib.IntN.{ℤ, _+ℤ_}
 use lib.Signed.{_≤ℤ_, ≤ℤ-refl}
-use borrow.Author.Tests.{not-true}
-use mathlib.Core.Bool.{Bool, true, false, xor, not, and-eq-true-iff}
-use mathlib.Core.Logic.{_≢_, ⊎-elim}
-use mathlib.Core.Path.{_≡_, refl, sym, _∙_, ap, fun-ext}
+use mathlib.Core.Bool.{Bool, true, false}
+use mathlib.Core.Logic.{_≢_}
+use mathlib.Core.Path.{_≡_, refl, _∙_, ap, fun-ext}
 use native.Mathlib.Omega.{arith}
-use Rattle.forest.proofs.Exchange.{through-ends, exchange-forest}
-use Rattle.forest.proofs.Walks.{Through, around-or-through, crossed-through}
-use Rattle.forest.specs.Forest.{Ringless, Forest, LeastForest, GoodForest}
+use Rattle.forest.proofs.Exchange.{exchange-forest}
+use Rattle.forest.proofs.Walks.{crossed-through}
+use Rattle.forest.specs.Forest.{Forest}
 use Rattle.graph.proofs.Exchange.{swapped-weight}
-use Rattle.graph.proofs.Reach.{same-truth, walk-over-more, joined-walk, walk-joined}
-use Rattle.graph.specs.Graph.{Graph, Sound, Inside, Walk, stay, ahead, crosses, joined}
-use Rattle.graph.specs.Tree.{onPath, exchange}
+use Rattle.graph.proofs.Reach.{same-truth, walk-over-more}
+use Rattle.graph.specs.Graph.{Graph, Sound, Inside, stay, ahead, crosses}
+use Rattle.graph.specs.Tree.{exchange}
 use Rattle.rowset.proofs.Integers.{integers, plus}
-use Rattle.rowset.proofs.Laws.{clash, refuted, put-same, put-keeps, takeOut-other, takeOut-in, xor-self}
+use Rattle.rowset.proofs.Laws.{clash, put-same, put-keeps, takeOut-other, xor-self}
 use Rattle.rowset.specs.Integers.{total}
 use Rattle.rowset.specs.Sets.{takeOut}
 

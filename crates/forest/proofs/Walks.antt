@@ -11,8 +11,8 @@ use Rattle.graph.proofs.PathRows.{uses-inside, walk-over-used, walk-once}
 use Rattle.graph.proofs.Reach.{Joins, rightward, leftward, walk-then, walk-back}
 use Rattle.graph.specs.Graph.{Graph, Walk, stay, ahead, back, crosses}
 use Rattle.graph.specs.Tree.{uses, once}
-use Rattle.rowset.proofs.Laws.{clash, put-same, put-keeps, put-cases, takeOut-other, xor-self, xor-false-same}
-use Rattle.rowset.specs.Sets.{empty, put, takeOut}
+use Rattle.rowset.proofs.Laws.{clash, put-same, put-keeps, put-cases, takeOut-other, xor-false-same}
+use Rattle.rowset.specs.Sets.{empty, takeOut}
 
 -- a walk over rows whose ends another set joins leads over that set
 pub walk-replaced : {g : Graph} {S S′ : ℕ → Bool} {u v : ℕ} → ((i : ℕ) → S i ≡ true → Walk g S′ (g .a i) (g .b i)) → Walk g S u v → Walk g S′ u v
@@ -44,7 +44,7 @@ through-back {S = S} {i = i} {j = j} e ne t =
     record { near = t .near; far = t .far; row = t .row; joins = t .joins; before = t .before; after = back j (takeOut-other S i j ne ∙ e) (t .after) }
 
 -- a walk that uses no row twice goes through each row that it uses
-pub used-through : {g : Graph} {S : ℕ → Bool} {u v : ℕ} (p : Walk g S u v) → once p ≡ true → (i : ℕ) → uses p i ≡ true → Through g S u v i
+used-through : {g : Graph} {S : ℕ → Bool} {u v : ℕ} (p : Walk g S u v) → once p ≡ true → (i : ℕ) → uses p i ≡ true → Through g S u v i
 unfolding uses once empty
 used-through stay o i h = absurd (false≢true h)
 used-through (ahead j e p) o i h =
@@ -78,7 +78,7 @@ same-or-crosses g side i = go (crosses g side i) refl
     go false c = inl (xor-false-same _ _ c)
 
 -- a walk between vertices of two colours uses a row that crosses the colouring
-pub walk-crossed : {g : Graph} {S : ℕ → Bool} {u v : ℕ} (side : ℕ → Bool) (p : Walk g S u v) → side u ≢ side v → (k : ℕ) × (uses p k ≡ true) × (crosses g side k ≡ true)
+walk-crossed : {g : Graph} {S : ℕ → Bool} {u v : ℕ} (side : ℕ → Bool) (p : Walk g S u v) → side u ≢ side v → (k : ℕ) × (uses p k ≡ true) × (crosses g side k ≡ true)
 unfolding uses
 walk-crossed side stay ne = absurd (ne refl)
 walk-crossed {g} side (ahead i e p) ne =

@@ -1,6 +1,6 @@
 -- Districts: the rows are divided into runs, each run has its grown forest, and a tree is built from the forests' rows alone.
 -- At the end, what that is worth, as a theorem over every sound graph. Assumes nothing.
-use Prim.Native.Nat.{ℕ, zero, suc}
+use Prim.Native.Nat.{ℕ}
 use lib.Dec.{eqb, ltb}
 use lib.IntN.{ℤ}
 use mathlib.Core.Bool.{Bool, true, _&&_}

@@ -3,11 +3,12 @@
 use Prim.Native.Nat.{ℕ}
 use lib.IntN.{ℤ, pos, negsuc}
 use lib.ListN.{getD}
-use mathlib.Core.Bool.{Bool, true, false}
+use mathlib.Core.Bool.{true, false}
 use mathlib.Core.List.{List, [], _∷_}
 use mathlib.Core.Option.{Option, none, some}
 use mathlib.Core.Path.{_≡_}
 use Rattle.forest.specs.Districts.{run, risesTo, forests, districts}
+use Rattle.forest.specs.Forest.{Forest}
 use Rattle.forest.specs.Growing.{grownForest}
 use Rattle.graph.specs.Builder.{Fragment}
 use Rattle.graph.specs.Graph.{Graph}
@@ -36,14 +37,14 @@ abbrev yardPrices : ℕ → ℤ
 yardPrices = prices (pos 5 ∷ pos 3 ∷ pos 5 ∷ pos 4 ∷ pos 6 ∷ [])
 
 -- a ring with a negative price at each row: 1-2 of -5, 2-3 of -4, 1-3 of -1
-abbrev ring : Graph
+abbrev pub ring : Graph
 ring = graph 3 3 (1 ∷ 2 ∷ 1 ∷ []) (2 ∷ 3 ∷ 3 ∷ [])
 
 abbrev ringPrices : ℕ → ℤ
 ringPrices = prices (negsuc 4 ∷ negsuc 3 ∷ negsuc 0 ∷ [])
 
 -- unconnected rows: 1-2 of 5, 3-4 of 2, 4-3 of 1, 5-4 of 7; vertex 6 has no row
-abbrev apart : Graph
+abbrev pub apart : Graph
 apart = graph 6 4 (1 ∷ 3 ∷ 4 ∷ 5 ∷ []) (2 ∷ 4 ∷ 3 ∷ 4 ∷ [])
 
 abbrev apartPrices : ℕ → ℤ
@@ -109,6 +110,11 @@ EndsHold =
     ∷ [])
     ≡ (true ∷ true ∷ true ∷ false ∷ false ∷ false ∷ false ∷ false ∷ false ∷ true ∷ false ∷ [])
 
+-- no forest: all rows of a ring; rows that leave a group of vertices out; a row from outside the set
+abbrev NoForestsHold : Type 0
+NoForestsHold =
+    (Forest ring (upTo 3) (upTo 3) → ⊥) × (Forest apart (upTo 4) (these (3 ∷ 4 ∷ [])) → ⊥) × (Forest yard (these (1 ∷ [])) (these (1 ∷ 2 ∷ [])) → ⊥)
+
 -- the theorem: each trial gives what it should
 abbrev pub TrialsHold : Type 0
-TrialsHold = ForestsHold × AllForestsHold × TreesHold × EndsHold
+TrialsHold = ForestsHold × AllForestsHold × TreesHold × EndsHold × NoForestsHold
