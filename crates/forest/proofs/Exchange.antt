@@ -40,11 +40,11 @@ pub ringless-put : {g : Graph} {F : ℕ → Bool} (i : ℕ) → Ringless g F →
 ringless-put {g} {F} i r apart k e p = elim (ℕ-discrete k i) [
   | yes q ↦ apart (subst (λ (x : ℕ). Walk g F (g .a x) (g .b x)) q (walk-over-more (λ j t. let (x, ne) = takeOut-in (put F i) k j t in other j x (λ z. ne (z ∙ sym q))) p))
   | no ne ↦
-    let on = other k e ne in
-    ⊎-elim
-    (λ around. r k on (walk-over-more (λ j t. let (x, ni) = takeOut-in (takeOut (put F i) k) i j t in takeOut-more (put F i) F k j (λ y. other j y ni) x) around))
-    (λ t. apart (through-ends (ahead k on stay) (λ j s. let (x, ni) = takeOut-in (takeOut (put F i) k) i j s in other j (takeOut-in (put F i) k j x .0) ni) t))
-    (around-or-through p i)
+      let on = other k e ne in
+      ⊎-elim
+      (λ around. r k on (walk-over-more (λ j t. let (x, ni) = takeOut-in (takeOut (put F i) k) i j t in takeOut-more (put F i) F k j (λ y. other j y ni) x) around))
+      (λ t. apart (through-ends (ahead k on stay) (λ j s. let (x, ni) = takeOut-in (takeOut (put F i) k) i j s in other j (takeOut-in (put F i) k j x .0) ni) t))
+      (around-or-through p i)
 ]
   where
     other : (j : ℕ) → put F i j ≡ true → j ≢ i → F j ≡ true

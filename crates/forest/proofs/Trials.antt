@@ -35,4 +35,3 @@ no-gap t =
 pub trials-hold : TrialsHold
 unfolding xor run risesTo forestsAfter forests districts misses nextRow withRow grown grownForest weightBuilt cheapest choose first next fragment treeOf tree crosses withEnds total smallest empty upTo both either without put any firstOf uppermost these members
 trials-hold = (refl, refl, refl, refl, (no-ring, no-gap, λ t. false≢true (t .inside 2 refl)))
-
