@@ -1,6 +1,6 @@
 -- A tree built from the forests of runs is a least spanning tree of the whole graph.
 -- Main statements: the forests' rows in a run are a least forest of the run (runs-least); a tree that is good over the forests' rows is good over all rows (good-over-all);
--- a tree is built wherever the whole graph has one (forests-connected).
+-- a tree is built wherever the whole graph has one (unbuilt).
 -- Assumes nothing.
 use Prim.Native.Nat.{ℕ, zero, suc, _≤_, _<_}
 use borrow.Author.Tests.{eqb-true, ltb-true, ltb-false}

@@ -1,6 +1,7 @@
 -- The growing of a forest.
 -- Defines: Invariant (what holds of what has grown after each row).
 -- Main statements: the invariant holds after each row (grown-invariant); after n rows no row is left to add (grown-closed); what has grown is a least forest (grows-least).
+-- For a loop that grows a forest: it may end as soon as no row is left to add (grown-ended).
 -- Assumes nothing.
 use Prim.Native.Nat.{ℕ, zero, suc, _≤_, _<_}
 use borrow.Author.Tests.{not-true}

@@ -7,7 +7,7 @@ use mathlib.Core.Bool.{true, false}
 use mathlib.Core.List.{List, [], _∷_}
 use mathlib.Core.Option.{Option, none, some}
 use mathlib.Core.Path.{_≡_}
-use Rattle.forest.specs.Districts.{run, risesTo, forests, districts}
+use Rattle.forest.specs.Districts.{run, risesTo, forests, within, districts}
 use Rattle.forest.specs.Forest.{Forest}
 use Rattle.forest.specs.Growing.{grownForest}
 use Rattle.graph.specs.Builder.{Fragment}
@@ -35,6 +35,10 @@ yard = graph 4 5 (1 ∷ 2 ∷ 3 ∷ 1 ∷ 1 ∷ []) (2 ∷ 3 ∷ 4 ∷ 4 ∷ 3 �
 
 abbrev yardPrices : ℕ → ℤ
 yardPrices = prices (pos 5 ∷ pos 3 ∷ pos 5 ∷ pos 4 ∷ pos 6 ∷ [])
+
+-- the yard with rows 1, 3 and 5 alone
+abbrev lessYard : Graph
+lessYard = within yard (these (1 ∷ 3 ∷ 5 ∷ []))
 
 -- a ring with a negative price at each row: 1-2 of -5, 2-3 of -4, 1-3 of -1
 abbrev pub ring : Graph
@@ -73,14 +77,15 @@ ForestsHold =
     ∷ (1 ∷ 3 ∷ 4 ∷ []) ∷ (1 ∷ 2 ∷ [])
     ∷ [])
 
--- the forests' rows of the yard's runs that end at 2 and 5, of its single rows, of one run; of the ring in one run and in two
+-- the forests' rows of the yard's runs that end at 2 and 5, of its single rows, of one run; of the ring in one run and in two; of the yard with fewer rows
 abbrev AllForestsHold : Type 0
 AllForestsHold =
     (
     members 5 (forests yard yardPrices (2 ∷ 5 ∷ [])) ∷ members 5 (forests yard yardPrices (1 ∷ 2 ∷ 3 ∷ 4 ∷ 5 ∷ [])) ∷ members 5 (forests yard yardPrices (5 ∷ []))
     ∷ members 3 (forests ring ringPrices (3 ∷ [])) ∷ members 3 (forests ring ringPrices (1 ∷ 3 ∷ []))
+    ∷ members 5 (forests lessYard yardPrices (2 ∷ 5 ∷ []))
     ∷ [])
-    ≡ ((1 ∷ 2 ∷ 3 ∷ 4 ∷ []) ∷ (1 ∷ 2 ∷ 3 ∷ 4 ∷ 5 ∷ []) ∷ (1 ∷ 2 ∷ 4 ∷ []) ∷ (1 ∷ 2 ∷ []) ∷ (1 ∷ 2 ∷ 3 ∷ []) ∷ [])
+    ≡ ((1 ∷ 2 ∷ 3 ∷ 4 ∷ []) ∷ (1 ∷ 2 ∷ 3 ∷ 4 ∷ 5 ∷ []) ∷ (1 ∷ 2 ∷ 4 ∷ []) ∷ (1 ∷ 2 ∷ []) ∷ (1 ∷ 2 ∷ 3 ∷ []) ∷ (1 ∷ 3 ∷ 5 ∷ []) ∷ [])
 
 -- the weight of the tree, none where nothing is built
 unfoldable pub weightBuilt : Graph → (ℕ → ℤ) → Option Fragment → Option ℤ
@@ -93,12 +98,13 @@ TreesHold =
     weightBuilt yard yardPrices (districts yard yardPrices (2 ∷ 5 ∷ []))
     ∷ weightBuilt yard yardPrices (districts yard yardPrices (1 ∷ 2 ∷ 3 ∷ 4 ∷ 5 ∷ []))
     ∷ weightBuilt yard yardPrices (districts yard yardPrices (5 ∷ []))
+    ∷ weightBuilt lessYard yardPrices (districts lessYard yardPrices (2 ∷ 5 ∷ []))
     ∷ weightBuilt ring ringPrices (districts ring ringPrices (1 ∷ 3 ∷ []))
     ∷ weightBuilt apart apartPrices (districts apart apartPrices (2 ∷ 4 ∷ []))
     ∷ weightBuilt (graph 1 0 [] []) (prices []) (districts (graph 1 0 [] []) (prices []) [])
     ∷ weightBuilt (graph 2 0 [] []) (prices []) (districts (graph 2 0 [] []) (prices []) [])
     ∷ [])
-    ≡ (some (pos 12) ∷ some (pos 12) ∷ some (pos 12) ∷ some (negsuc 8) ∷ none ∷ some (pos 0) ∷ none ∷ [])
+    ≡ (some (pos 12) ∷ some (pos 12) ∷ some (pos 12) ∷ some (pos 16) ∷ some (negsuc 8) ∷ none ∷ some (pos 0) ∷ none ∷ [])
 
 -- lists of ends: of five rows, and of none
 abbrev EndsHold : Type 0
