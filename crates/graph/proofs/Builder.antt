@@ -1,7 +1,7 @@
 -- The builder.
 -- Defines: Invariant (what holds of the fragment after each row).
 -- Main statements: the invariant holds after each row (fragment-invariant); what the builder builds is a least spanning tree (built-least);
--- where it builds nothing there is no spanning tree (not-built).
+-- where it builds nothing there is no spanning tree (not-built); a connected graph has one (connected-spanning).
 -- Assumes nothing.
 use Prim.Native.Nat.{ℕ, zero, suc, _≤_, _<_}
 use lib.IntN.{ℤ}
@@ -178,24 +178,28 @@ module _ (g : Graph) (ok : Sound g) (w : ℕ → ℤ) where
             omega (arith, integers, ap (total (g .m) w) (nested-same g ok (f .chosen) T spanning tT has));
       }
 
-  -- where there is a spanning tree, a vertex set that no row crosses has all vertices or none
-  uncrossed-whole : (Q : ℕ → Bool) → ((i : ℕ) → g .rows i ≡ true → crosses g Q i ≡ false) → (u : ℕ) → 1 ≤ u → u ≤ g .n → Q u ≡ true → (S : ℕ → Bool) → SpanningTree g S → count (g .n) Q ≡ g .n
+  -- the rows of the graph join every vertex to vertex 1
+  abbrev Connected : Type 0
+  Connected = (v : ℕ) → 1 ≤ v → v ≤ g .n → Walk g (g .rows) 1 v
+
+  -- where the graph is connected, a vertex set that no row crosses has all vertices or none
+  uncrossed-whole : (Q : ℕ → Bool) → ((i : ℕ) → g .rows i ≡ true → crosses g Q i ≡ false) → (u : ℕ) → 1 ≤ u → u ≤ g .n → Q u ≡ true → Connected → count (g .n) Q ≡ g .n
   unfolding crosses
-  uncrossed-whole Q uncrossed u lu hu on S t =
-      let same : (v : ℕ) → 1 ≤ v → v ≤ g .n → Q 1 ≡ Q v = λ v l h. walk-one-side Q (λ i s. xor-false-same _ _ (uncrossed i (t .inside i s))) (t .reached v l h) in
+  uncrossed-whole Q uncrossed u lu hu on whole =
+      let same : (v : ℕ) → 1 ≤ v → v ≤ g .n → Q 1 ≡ Q v = λ v l h. walk-one-side Q (λ i s. xor-false-same _ _ (uncrossed i s)) (whole v l h) in
       count-full (g .n) Q (λ v l h. sym (same v l h) ∙ same u lu hu ∙ on)
 
-  -- where no row is left to choose before the fragment has all vertices, there is no spanning tree
-  pub fragment-none : (k : ℕ) → suc k < g .n → fragment g w k ≡ none → (S : ℕ → Bool) → SpanningTree g S → ⊥
+  -- where no row is left to choose before the fragment has all vertices, the graph is not connected
+  fragment-none : (k : ℕ) → suc k < g .n → fragment g w k ≡ none → Connected → ⊥
   unfolding fragment next first
-  fragment-none zero more e S t =
+  fragment-none zero more e c =
       let no-row = cheapest-none (g .rows) (choose-none g nothing _ e) in
       omega (
         arith,
         single 1 (omega arith) (ok .vertex) .vertex-count,
-        uncrossed-whole (put empty 1) (λ i r. clash r (no-row i r)) 1 (omega arith) (ok .vertex) (put-same empty 1) S t,
+        uncrossed-whole (put empty 1) (λ i r. clash r (no-row i r)) 1 (omega arith) (ok .vertex) (put-same empty 1) c,
       )
-  fragment-none (suc k) more e S t = go (λ q. fragment-none k (omega arith) q S t) (fragment g w k) refl e
+  fragment-none (suc k) more e c = go (λ q. fragment-none k (omega arith) q c) (fragment g w k) refl e
     where
       go : (fragment g w k ≡ none → ⊥) → (o : Option Fragment) → fragment g w k ≡ o → next g w o ≡ none → ⊥
       go before none q e = before q
@@ -206,7 +210,7 @@ module _ (g : Graph) (ok : Sound g) (w : ℕ → ℤ) where
           omega (
             arith,
             inv .vertex-count,
-            uncrossed-whole (f .vertices) (λ i r. refuted _ (λ c. clash (in-both _ _ i r c) (no-row i r))) (inv .start) l u (inv .begun) S t,
+            uncrossed-whole (f .vertices) (λ i r. refuted _ (λ x. clash (in-both _ _ i r x) (no-row i r))) (inv .start) l u (inv .begun) c,
           )
 
   -- what is built is a least spanning tree
@@ -224,14 +228,26 @@ module _ (g : Graph) (ok : Sound g) (w : ℕ → ℤ) where
   pub built-spanning : (f : Fragment) → tree g w ≡ some f → SpanningTree g (f .chosen)
   built-spanning f e = built-least f e .tree
 
-  -- where nothing is built there is no spanning tree
-  pub not-built : tree g w ≡ none → (S : ℕ → Bool) → SpanningTree g S → ⊥
+  -- where nothing is built the graph is not connected
+  connected-built : Connected → tree g w ≡ none → ⊥
   unfolding tree treeOf
-  not-built e S t = go (g .n) refl e
+  connected-built c e = go (g .n) refl e
     where
       go : (n : ℕ) → n ≡ g .n → treeOf n g w ≡ none → ⊥
       go zero q e = omega (arith, ok .vertex)
       go (suc zero) q e =
           let z : _≡_ {A = ℕ} 0 1 = cc in
           omega arith
-      go (suc (suc k)) q e = fragment-none k (omega arith) e S t
+      go (suc (suc k)) q e = fragment-none k (omega arith) e c
+
+  -- so there is no spanning tree
+  pub not-built : tree g w ≡ none → (S : ℕ → Bool) → SpanningTree g S → ⊥
+  not-built e S t = connected-built (λ v l u. walk-over-more (t .inside) (t .reached v l u)) e
+
+  -- a connected graph has a spanning tree
+  pub connected-spanning : ((v : ℕ) → 1 ≤ v → v ≤ g .n → Walk g (g .rows) 1 v) → (S : ℕ → Bool) × SpanningTree g S
+  connected-spanning c = go (tree g w) refl
+    where
+      go : (o : Option Fragment) → tree g w ≡ o → (S : ℕ → Bool) × SpanningTree g S
+      go none e = absurd (connected-built c e)
+      go (some f) e = (f .chosen, built-spanning f e)

@@ -8,3 +8,4 @@ pub mod Builder
 pub mod Meaning
 pub mod Trail
 pub mod Only
+pub mod Update
