@@ -1,2 +1,3 @@
 pub mod Mending
+pub mod Promise
 pub mod Trials
