@@ -4,7 +4,7 @@
 use Prim.Native.Nat.{ℕ, zero, suc, _+_, _≤_, _<_}
 use borrow.Author.Tests.{not-true, not-false}
 use lib.ListN.{length}
-use mathlib.Core.Bool.{Bool, true, false, not, _&&_, and-eq-true-iff, or-true}
+use mathlib.Core.Bool.{Bool, true, false, not, _&&_, and-eq-true-iff}
 use mathlib.Core.List.{List·Memᴰ}
 use mathlib.Core.Logic.{_⊎_, inl, inr, ⊎-elim}
 use mathlib.Core.Path.{_≡_, refl, sym, _∙_, ap}
@@ -18,22 +18,8 @@ use Rattle.mending.proofs.Forest.{Extended, extended-fewer, extend-tree
 use Rattle.mending.proofs.Rings.{Kept, DropMeant, kept-after}
 use Rattle.mending.specs.Mending.{Change, Drawing, addition, unmarkRow, markRow, apply, done, down, joinsEnds, addAt, ringless, gapless}
 use Rattle.rowset.proofs.Laws.{clash, refuted, put-same, put-other, put-keeps, upTo-in, in-upTo, count-put}
-use Rattle.rowset.proofs.Members.{put-all, both-in, in-both}
+use Rattle.rowset.proofs.Members.{put-all, both-in, in-both, either-in, in-either}
 use Rattle.rowset.specs.Sets.{upTo, both, either, put, count}
-
--- what belongs to either of two sets
-either-in : (p q : ℕ → Bool) (i : ℕ) → either p q i ≡ true → (p i ≡ true) ⊎ (q i ≡ true)
-unfolding either
-either-in p q i e = go (p i) refl
-  where
-    go : (b : Bool) → p i ≡ b → (p i ≡ true) ⊎ (q i ≡ true)
-    go true f = inl f
-    go false f = inr (rw f at e)
-
-in-either : (p q : ℕ → Bool) (i : ℕ) → (p i ≡ true) ⊎ (q i ≡ true) → either p q i ≡ true
-unfolding either
-in-either p q i (inl e) = rw e
-in-either p q i (inr e) = rw e (or-true (p i))
 
 module _ (g : Graph) (ok : Sound g) (M : ℕ → Bool) (inside : Inside g M) (s₀ : Drawing) (kept : Kept g ok M inside (g .m) s₀) where
   -- the marks that were kept
