@@ -8,7 +8,7 @@ use lib.Dec.{eqb}
 use lib.IntN.{ℤ}
 use lib.ListN.{length}
 use lib.Signed.{ltZ, _≤ℤ_, _<ℤ_, ≤ℤ-refl}
-use mathlib.Core.Bool.{Bool, true, false, not, xor, _&&_, true≢false, and-eq-true-iff}
+use mathlib.Core.Bool.{Bool, true, false, not, cond, xor, _&&_, true≢false, and-eq-true-iff}
 use mathlib.Core.List.{List·Memᴰ}
 use mathlib.Core.Logic.{_⊎_, inl, inr, ⊎-elim}
 use mathlib.Core.Path.{_≡_, refl, sym, _∙_, ap}
@@ -17,6 +17,7 @@ use native.Mathlib.Nat.{eq-or-lt-of-le}
 use native.Mathlib.Omega.{arith}
 use Rattle.graph.proofs.Exchange.{exchange-spanning}
 use Rattle.graph.proofs.Path.{path-inside, path-self, path-row}
+use Rattle.graph.proofs.Reach.{same-truth}
 use Rattle.graph.proofs.Update.{path-update}
 use Rattle.graph.specs.Graph.{Graph, Sound, Inside}
 use Rattle.graph.specs.Least.{Good}
@@ -24,12 +25,12 @@ use Rattle.graph.specs.Tree.{SpanningTree, onPath, exchange}
 use Rattle.mending.proofs.Drawing.{cond-cases, down-keeps, Applied, done-applied, done-length, done-all}
 use Rattle.mending.specs.Mending.{Change, Drawing, exchangeOf, unmarkRow, markRow, apply, done, down, heavierThan, rowOut, exchangeFor, exchangeAt}
 use Rattle.mending.specs.Promise.{Meant, swapped}
-use Rattle.rowset.proofs.Integers.{integers, ltZ-true, ltZ-false, lt-ltZ}
-use Rattle.rowset.proofs.Laws.{clash, refuted, put-same, put-keeps, put-cases, takeOut-other, takeOut-in, any-some, any-found, uppermost-some, false-xor, upTo-in, in-upTo}
+use Rattle.rowset.proofs.Integers.{integers, ltZ-true, ltZ-false, lt-ltZ, le-ltZ}
+use Rattle.rowset.proofs.Laws.{clash, refuted, put-same, put-keeps, put-cases, takeOut-other, takeOut-in, any-some, any-found, uppermost-some, uppermost-ext, false-xor, upTo-in, in-upTo}
 use Rattle.rowset.proofs.Members.{put-all, either-in, in-either}
-use Rattle.rowset.proofs.Searches.{greaterThan-in, in-greaterThan, largest-in, largest-greatest, largest-exists}
+use Rattle.rowset.proofs.Searches.{greaterThan-in, in-greaterThan, largest-in, largest-greatest, in-largest, largest-exists}
 use Rattle.rowset.specs.Searches.{largest}
-use Rattle.rowset.specs.Sets.{upTo, either, put, takeOut}
+use Rattle.rowset.specs.Sets.{upTo, either, put, takeOut, uppermost}
 
 -- no row of R outside S is lighter than a row on the tree path between its ends
 abbrev pub GoodOver : Graph → (ℕ → ℤ) → (ℕ → Bool) → (ℕ → Bool) → Type 0
@@ -67,6 +68,32 @@ module _ (g : Graph) (ok : Sound g) (w : ℕ → ℤ) (S : ℕ → Bool) (tree :
           let (l, u) = ok .position k (tree .inside k (path-inside g ok S tree (g .a f) (g .b f) k on)) in
           largest-greatest (g .m) w (heavierThan g w S f) (suc j) k t l u (in-greaterThan w (w f) (onPath g S (g .a f) (g .b f)) k on (ltZ-true (w f) (w k) b))
       go t heavy k on false b = omega (arith, integers, ltZ-false (w f) (w k) b)
+
+  -- the row that goes out, as the machine finds it: the uppermost of the heaviest rows on the path, where that is heavier than row f
+  pub rowOut-heaviest : (f : ℕ) → rowOut g w S f ≡ cond (ltZ (w f) (w (uppermost (g .m) (largest (g .m) w (onPath g S (g .a f) (g .b f)))))) (uppermost (g .m) (largest (g .m) w (onPath g S (g .a f) (g .b f)))) 0
+  unfolding rowOut heavierThan
+  rowOut-heaviest f = go (rowOut g w S f) refl
+    where
+      P : ℕ → Bool
+      P = onPath g S (g .a f) (g .b f)
+
+      go : (o : ℕ) → rowOut g w S f ≡ o → o ≡ cond (ltZ (w f) (w (uppermost (g .m) (largest (g .m) w P)))) (uppermost (g .m) (largest (g .m) w P)) 0
+      go zero q = none (uppermost (g .m) (largest (g .m) w P)) refl
+        where
+          none : (o : ℕ) → uppermost (g .m) (largest (g .m) w P) ≡ o → 0 ≡ cond (ltZ (w f) (w o)) o 0
+          none zero e = cond-cases (λ (x : ℕ). 0 ≡ x) (ltZ (w f) (w 0)) (λ _. refl) (λ _. refl)
+          none (suc i) e = rw (le-ltZ (w f) (w (suc i)) (rowOut-none f q (suc i) (largest-in (g .m) w P (suc i) (uppermost-some (g .m) i (largest (g .m) w P) e .0))))
+      go (suc j) q =
+          let (on, heavy, greatest) = rowOut-some f j q in
+          let (l, u) = ok .position (suc j) (tree .inside (suc j) (path-inside g ok S tree (g .a f) (g .b f) (suc j) on)) in
+          let same : uppermost (g .m) (largest (g .m) w P) ≡ suc j = sym (uppermost-ext (g .m) (largest (g .m) w (heavierThan g w S f)) (largest (g .m) w P) (λ i li ui. same-truth _ _ (fwd j on l u heavy greatest i) (bwd j on l u heavy i))) ∙ q in
+          rw (same, lt-ltZ (w f) (w (suc j)) heavy)
+        where
+          fwd : (j : ℕ) → P (suc j) ≡ true → 1 ≤ suc j → suc j ≤ g .m → w f <ℤ w (suc j) → ((k : ℕ) → P k ≡ true → w k ≤ℤ w (suc j)) → (i : ℕ) → largest (g .m) w (heavierThan g w S f) i ≡ true → largest (g .m) w P i ≡ true
+          fwd j on l u heavy greatest i t = in-largest (g .m) w P i (greaterThan-in w (w f) P i (largest-in (g .m) w (heavierThan g w S f) i t) .0) (λ k _ _ pk. omega (arith, integers, greatest k pk, largest-greatest (g .m) w (heavierThan g w S f) i (suc j) t l u (in-greaterThan w (w f) P (suc j) on heavy)))
+
+          bwd : (j : ℕ) → P (suc j) ≡ true → 1 ≤ suc j → suc j ≤ g .m → w f <ℤ w (suc j) → (i : ℕ) → largest (g .m) w P i ≡ true → largest (g .m) w (heavierThan g w S f) i ≡ true
+          bwd j on l u heavy i t = in-largest (g .m) w (heavierThan g w S f) i (in-greaterThan w (w f) P i (largest-in (g .m) w P i t) (omega (arith, integers, largest-greatest (g .m) w P i (suc j) t l u on))) (λ k lk uk hk. largest-greatest (g .m) w P i k t lk uk (greaterThan-in w (w f) P k hk .0))
 
   module _ (R : ℕ → Bool) (known : (i : ℕ) → S i ≡ true → R i ≡ true) (good : GoodOver g w R S) (e f : ℕ) (row : g .rows f ≡ true) (out : S f ≡ false) (on : onPath g S (g .a f) (g .b f) e ≡ true) (heavy : w f <ℤ w e) (heaviest : (k : ℕ) → onPath g S (g .a f) (g .b f) k ≡ true → w k ≤ℤ w e) where
     -- the rows of f's ring are no heavier than e
