@@ -1,12 +1,11 @@
 -- The first two passes: the marks that are kept lie in a spanning tree, and with the rows added they are one.
 -- Main statements: rows inside a spanning tree, with a row whose ends they do not join, lie inside a spanning tree (extend-tree).
 -- Assumes nothing.
-use Prim.Native.Nat.{ℕ, zero, suc, _+_, _≤_, _<_}
-use lib.IntN.{ℤ, pos}
+use Prim.Native.Nat.{ℕ, _≤_}
+use lib.IntN.{pos}
 use lib.Signed.{≤ℤ-refl}
 use mathlib.Core.Bool.{Bool, true, false, xor}
-use mathlib.Core.Logic.{⊎-elim}
-use mathlib.Core.Path.{_≡_, refl, sym, _∙_, ap}
+use mathlib.Core.Path.{_≡_}
 use native.Mathlib.Omega.{arith}
 use Rattle.graph.proofs.Least.{cut-property}
 use Rattle.graph.proofs.Reach.{walk-then, walk-back, walk-joined, joined-self, joined-row, connected-count}
@@ -15,7 +14,7 @@ use Rattle.graph.specs.Tree.{SpanningTree}
 use Rattle.mending.specs.Mending.{joinsEnds}
 use Rattle.rowset.proofs.Laws.{count-monotone, xor-self}
 use Rattle.rowset.proofs.Members.{put-all}
-use Rattle.rowset.specs.Sets.{put, count}
+use Rattle.rowset.specs.Sets.{put}
 
 -- a spanning tree that has the rows of F
 pub record Extended (g : Graph) (F : ℕ → Bool) : Type 0 where

@@ -1,7 +1,7 @@
 -- The second pass: where there is a spanning tree, the marks that were kept become one, and each row that was added joined two groups.
 -- Defines: Filled (what holds after each position). Main statements: it holds after each position (filled-after); the marks are a spanning tree then (gapless-tree);
 -- the records are at most as many as the positions (gapless-number). Assumes nothing.
-use Prim.Native.Nat.{ℕ, zero, suc, _+_, _≤_, _<_}
+use Prim.Native.Nat.{ℕ, suc, _+_, _≤_}
 use borrow.Author.Tests.{not-true, not-false}
 use lib.ListN.{length}
 use mathlib.Core.Bool.{Bool, true, false, not, _&&_, and-eq-true-iff}
@@ -15,8 +15,8 @@ use Rattle.graph.specs.Graph.{Graph, Sound, Inside, Walk, stay, ahead}
 use Rattle.graph.specs.Tree.{SpanningTree}
 use Rattle.mending.proofs.Drawing.{cond-cases, down-keeps, Applied, done-applied, done-length, done-all}
 use Rattle.mending.proofs.Forest.{Extended, extended-fewer, extend-tree, around-tree}
-use Rattle.mending.proofs.Rings.{Kept, DropMeant, kept-after}
-use Rattle.mending.specs.Mending.{Change, Drawing, addition, unmarkRow, markRow, apply, done, down, joinsEnds, addAt, ringless, gapless}
+use Rattle.mending.proofs.Rings.{Kept, DropMeant}
+use Rattle.mending.specs.Mending.{Change, Drawing, addition, unmarkRow, markRow, apply, done, down, joinsEnds, addAt}
 use Rattle.rowset.proofs.Laws.{clash, refuted, put-same, put-other, put-keeps, upTo-in, in-upTo, count-put}
 use Rattle.rowset.proofs.Members.{put-all, both-in, in-both, either-in, in-either}
 use Rattle.rowset.specs.Sets.{upTo, both, either, put, count}

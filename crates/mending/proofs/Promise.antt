@@ -1,14 +1,13 @@
 -- Mending keeps what Promise.antt of specs/ says.
 -- Assumes nothing.
-use Prim.Native.Nat.{ℕ, suc, _≤_}
+use Prim.Native.Nat.{ℕ, _≤_}
 use borrow.Author.Tests.{not-false}
 use lib.IntN.{ℤ}
-use lib.ListN.{length}
-use mathlib.Core.Bool.{Bool, true, false, not, cond}
+use mathlib.Core.Bool.{Bool, true, false, not}
 use mathlib.Core.List.{List·Memᴰ}
 use mathlib.Core.Logic.{⊎-elim}
-use mathlib.Core.Option.{Option, none, some}
-use mathlib.Core.Path.{_≡_, refl, sym, _∙_, ap, subst}
+use mathlib.Core.Option.{none, some}
+use mathlib.Core.Path.{_≡_, refl, sym, subst}
 use native.Mathlib.Omega.{arith}
 use Rattle.graph.proofs.Builder.{connected-spanning}
 use Rattle.graph.proofs.Least.{good-least}
@@ -17,11 +16,10 @@ use Rattle.graph.specs.Graph.{Graph, Sound, Inside, Walk, joined}
 use Rattle.graph.specs.Tree.{SpanningTree}
 use Rattle.mending.proofs.Gaps.{Filled, filled-after, filled-tree, filled-number}
 use Rattle.mending.proofs.Rings.{Kept, kept-after}
-use Rattle.mending.proofs.Visits.{Visited, visited-after, visited-good}
+use Rattle.mending.proofs.Visits.{visited-after, visited-good}
 use Rattle.mending.specs.Mending.{Change, Drawing, ringless, gapless, exchanged, unjoined, mended}
 use Rattle.mending.specs.Promise.{Meant, dropped, added, Mends, Mendings}
 use Rattle.rowset.proofs.Laws.{any-none, none-any}
-use Rattle.rowset.specs.Sets.{any}
 
 module _ (g : Graph) (ok : Sound g) (w : ℕ → ℤ) (M : ℕ → Bool) (inside : Inside g M) where
   kept : Kept g ok M inside (g .m) (ringless g M)

@@ -1,6 +1,6 @@
 -- The first pass: the marks that are kept lie in a spanning tree if there is one, and each mark that was dropped closed a ring of kept marks above it.
 -- Defines: Kept (what holds after each position). Main statement: it holds after each position (kept-after). Assumes nothing.
-use Prim.Native.Nat.{ℕ, zero, suc, _+_, _≤_, _<_}
+use Prim.Native.Nat.{ℕ, suc, _+_, _≤_}
 use lib.ListN.{length}
 use mathlib.Core.Bool.{Bool, true, false, _&&_, and-eq-true-iff}
 use mathlib.Core.List.{List·Memᴰ, List·Memᴰ·not-nil}

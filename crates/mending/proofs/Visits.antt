@@ -2,9 +2,8 @@
 -- Defines: GoodOver (good, as far as the rows of a set go), Visited (what holds after each position).
 -- Main statements: a tree that is good over a set of rows is good over the set with one row more, once the heaviest row of that row's path went out for it if it is heavier
 -- (exchange-good); what holds after each position (visited-after). Assumes nothing.
-use Prim.Native.Nat.{ℕ, zero, suc, _+_, _≤_, _<_}
-use borrow.Author.Tests.{eqb-true, not-true, not-false}
-use lib.Dec.{eqb}
+use Prim.Native.Nat.{ℕ, zero, suc, _+_, _≤_}
+use borrow.Author.Tests.{eqb-true, not-true}
 use lib.IntN.{ℤ}
 use lib.ListN.{length}
 use lib.Signed.{ltZ, _≤ℤ_, _<ℤ_, ≤ℤ-refl}
@@ -19,7 +18,7 @@ use Rattle.graph.proofs.Exchange.{exchange-spanning}
 use Rattle.graph.proofs.Path.{path-inside, path-self, path-row}
 use Rattle.graph.proofs.Reach.{same-truth}
 use Rattle.graph.proofs.Update.{path-update}
-use Rattle.graph.specs.Graph.{Graph, Sound, Inside}
+use Rattle.graph.specs.Graph.{Graph, Sound}
 use Rattle.graph.specs.Least.{Good}
 use Rattle.graph.specs.Tree.{SpanningTree, onPath, exchange}
 use Rattle.mending.proofs.Drawing.{cond-cases, down-keeps, Applied, done-applied, done-length, done-all}
