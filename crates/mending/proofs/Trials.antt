@@ -11,4 +11,4 @@ use Rattle.rowset.specs.Sets.{empty, upTo, both, put, takeOut, any, firstOf, up
 
 pub trials-hold : TrialsHold
 unfolding xor crosses withEnds step grow joined onPath unmarkRow markRow apply done down joinsEnds dropAt addAt heavierThan rowOut exchangeFor exchangeAt old ringless gapless exchanged unjoined mended claim listed shown greaterThan largest empty upTo both put takeOut any firstOf uppermost
-trials-hold = (refl, refl, refl, refl, refl, refl, refl)
+trials-hold = (refl, refl, refl, refl, refl, refl, refl, refl)

@@ -1,4 +1,4 @@
--- Trials: the yard's five old claims, beside the records that mending them gives and the rows that are marked then.
+-- Trials: the yard's five old claims, one vertex, two rows of equal weight and a gap that no row joins, beside the records that mending gives and the rows that are marked then.
 -- Assumes nothing.
 use Prim.Native.Nat.{ℕ, zero, suc}
 use lib.Dec.{eqb}
@@ -50,4 +50,5 @@ TrialsHold =
     × (mends (1 ∷ 3 ∷ 5 ∷ []) ≡ some (exchangeOf 5 2 ∷ exchangeOf 1 4 ∷ [], 2 ∷ 3 ∷ 4 ∷ []))
     × (mends (2 ∷ 3 ∷ 5 ∷ []) ≡ some (exchangeOf 5 1 ∷ exchangeOf 1 4 ∷ [], 2 ∷ 3 ∷ 4 ∷ []))
     × (shown 0 (mended (graphFrom 1 0 [] []) yardWeight (claim [])) ≡ some ([], []))
+    × (shown 2 (mended (graphFrom 2 2 (1 ∷ 1 ∷ []) (2 ∷ 2 ∷ [])) (λ i. pos 5) (claim (1 ∷ []))) ≡ some ([], 1 ∷ []))
     × (mended (graphFrom 3 1 (1 ∷ []) (2 ∷ [])) yardWeight (claim []) ≡ none)
