@@ -60,7 +60,7 @@ joins-inside {x = x} {v = v} Q leftward on = (put-same Q v, put-keeps Q v x on)
 
 module _ (g : Graph) (ok : Sound g) (w : ℕ → ℤ) where
   -- the cheapest row of X is in X, and no row of X is lighter
-  cheapest-some : (X : ℕ → Bool) (j : ℕ) → cheapest g w X ≡ suc j → (X (suc j) ≡ true) × ((i : ℕ) → g .rows i ≡ true → X i ≡ true → w (suc j) ≤ℤ w i)
+  pub cheapest-some : (X : ℕ → Bool) (j : ℕ) → cheapest g w X ≡ suc j → (X (suc j) ≡ true) × ((i : ℕ) → g .rows i ≡ true → X i ≡ true → w (suc j) ≤ℤ w i)
   unfolding cheapest
   cheapest-some X j e =
       let s = uppermost-some (g .m) j (smallest (g .m) w X) e .0 in (
@@ -71,7 +71,7 @@ module _ (g : Graph) (ok : Sound g) (w : ℕ → ℤ) where
       )
 
   -- where X has no cheapest row, X has no row
-  cheapest-none : (X : ℕ → Bool) → cheapest g w X ≡ 0 → (i : ℕ) → g .rows i ≡ true → X i ≡ false
+  pub cheapest-none : (X : ℕ → Bool) → cheapest g w X ≡ 0 → (i : ℕ) → g .rows i ≡ true → X i ≡ false
   unfolding cheapest
   cheapest-none X e i r = refuted (X i) never
     where
