@@ -3,18 +3,18 @@
 -- Main statements: what the shift does to a weight (shift-total); a good tree under shifted prices is least among those with as many rows at r (shifted-least);
 -- a tree that is good where only the rows at r have a price has the most, or the fewest, of them (most-rows, fewest-rows).
 -- Assumes nothing.
-use Prim.Native.Nat.{ℕ, zero, suc, _+_, _≤_, _<_}
+use Prim.Native.Nat.{ℕ, zero, suc, _+_, _≤_}
 use lib.IntN.{ℤ, pos, negsuc, _+ℤ_, +ℤ-idl, +ℤ-idr}
-use lib.Signed.{_≤ℤ_, _<ℤ_}
+use lib.Signed.{_≤ℤ_}
 use mathlib.Core.Bool.{Bool, true, false, cond, _&&_}
-use mathlib.Core.Path.{_≡_, refl, sym, _∙_, ap}
+use mathlib.Core.Path.{_≡_, refl, _∙_, ap}
 use native.Mathlib.Numerals.{add-one}
 use native.Mathlib.Nat.{add-zero}
 use native.Mathlib.Omega.{arith}
 use Rattle.degree.specs.Degree.{touches, rowsAt}
 use Rattle.graph.proofs.Least.{good-least}
 use Rattle.graph.specs.Graph.{Graph, Sound}
-use Rattle.graph.specs.Least.{Least, Good}
+use Rattle.graph.specs.Least.{Good}
 use Rattle.graph.specs.Tree.{SpanningTree}
 use Rattle.rowset.proofs.Integers.{integers, up, down, plus}
 use Rattle.rowset.specs.Integers.{total}
@@ -54,7 +54,7 @@ shift-total g w r L S (suc m) = go (S (suc m)) (touches g r (suc m)) (shift-tota
         → total m (shifted g w r L) S +ℤ cond b (cond t (w (suc m) +ℤ L) (w (suc m))) (pos 0) ≡ (total m w S +ℤ cond b (w (suc m)) (pos 0)) +ℤ times (count m (both S (touches g r)) + cond (b && t) 1 0) L
     go true true h = rw add-one (regroup-both _ (total m w S) _ (w (suc m)) L h)
     go true false h = rw add-zero (regroup _ (total m w S) _ (w (suc m)) h)
-    go false t h = rw (add-zero, +ℤ-idr, +ℤ-idr) h
+    go false t h = rw (add-zero, +ℤ-idr (total m (shifted g w r L) S), +ℤ-idr (total m w S)) h
 
 -- one taken k times is k, and minus one taken k times is less the more often it is taken
 times-one : (k : ℕ) → up (times k (pos 1)) ≡ k + down (times k (pos 1))

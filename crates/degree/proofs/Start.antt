@@ -1,9 +1,9 @@
 -- The start, which prefers rows at r, is the builder's tree under prices that are low enough at r; so it is good under them, and has the most rows at r.
 -- Defines: Low (an amount that makes each row at r lighter than any other row). Main statements: there is such an amount (low); the start is the builder's tree under it (start-built);
--- the start has the most rows at r (start-most). Assumes nothing.
-use Prim.Native.Nat.{ℕ, zero, suc, _+_, _*_, _≤_, _<_}
+-- what is good under it has the most rows at r (low-good, by most-rows). Assumes nothing.
+use Prim.Native.Nat.{ℕ, zero, suc, _+_, _*_, _≤_}
 use lib.IntN.{ℤ, pos, negsuc, _+ℤ_}
-use lib.Signed.{_≤ℤ_, _<ℤ_, ≤ℤ-refl}
+use lib.Signed.{_≤ℤ_, _<ℤ_}
 use mathlib.Core.Bool.{Bool, true, false}
 use mathlib.Core.Option.{Option, none, some}
 use mathlib.Core.Path.{_≡_, refl, sym, _∙_, ap}
@@ -17,13 +17,13 @@ use Rattle.graph.specs.Builder.{Fragment, nothing, cheapest, choose}
 use Rattle.graph.specs.Builder as builder
 use Rattle.graph.specs.Graph.{Graph, Sound, Inside, crosses}
 use Rattle.graph.specs.Least.{Good}
-use Rattle.graph.specs.Tree.{SpanningTree, onPath}
+use Rattle.graph.specs.Tree.{SpanningTree}
 use Rattle.rowset.proofs.Integers.{integers, up, down, plus}
 use Rattle.rowset.proofs.Laws.{clash, refuted, uppermost-ext, sum-takeOut}
 use Rattle.rowset.proofs.Members.{both-in, in-both}
 use Rattle.rowset.proofs.Searches.{smallest-in, smallest-least, in-smallest}
 use Rattle.rowset.specs.Searches.{smallest}
-use Rattle.rowset.specs.Sets.{both, firstOf, takeOut, sum}
+use Rattle.rowset.specs.Sets.{both, firstOf, sum}
 
 -- with L added, a row of the graph is lighter than any row of the graph without
 abbrev pub Low : Graph → (ℕ → ℤ) → ℤ → Type 0

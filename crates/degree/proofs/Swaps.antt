@@ -1,32 +1,33 @@
 -- The exchanges: each takes exactly one row at r out, and the tree stays good under prices shifted by what the exchange costs.
 -- Defines: Tight (a spanning tree that is good under some shift of the prices at r).
--- Main statements: an exchange keeps a tree tight, with one row at r fewer (swap-tight, swap-fewer); where there is none, no spanning tree has fewer rows at r (swap-none).
+-- Main statements: k exchanges keep a tree tight, with k rows at r fewer (swaps-tight); where they are not possible, no spanning tree has k rows at r fewer (swaps-none).
 -- Assumes nothing.
-use Prim.Native.Nat.{ℕ, zero, suc, _≤_, _<_}
+use Prim.Native.Nat.{ℕ, zero, suc, _+_, _≤_, _<_}
 use borrow.Author.Tests.{not-true}
 use lib.Dec.{eqb}
-use lib.IntN.{ℤ, pos, negsuc, _+ℤ_, _-ℤ_}
-use lib.Signed.{_≤ℤ_, _<ℤ_}
+use lib.IntN.{ℤ, pos, _-ℤ_}
+use lib.Signed.{_≤ℤ_}
 use mathlib.Core.Bool.{Bool, true, false, not, _&&_, and-eq-true-iff, and-true, and-false}
 use mathlib.Core.Option.{Option, none, some}
-use mathlib.Core.Path.{_≡_, refl, sym, _∙_, ap, fun-ext}
+use mathlib.Core.Path.{_≡_, refl, sym, _∙_, ap, subst, fun-ext}
 use native.Mathlib.Decide.{ℕ-discrete}
+use native.Mathlib.Nat.{add-zero}
 use native.Mathlib.Omega.{arith}
 use Rattle.degree.proofs.Shifted.{shifted, shifted-at, shifted-off, fewest-rows}
-use Rattle.degree.specs.Degree.{touches, rowsAt, pathAt, rowOut, offers, cost, rowIn, swapFor, swap}
+use Rattle.degree.specs.Degree.{touches, rowsAt, pathAt, rowOut, offers, cost, rowIn, swapFor, swap, swaps}
 use Rattle.graph.proofs.Exchange.{exchange-spanning, exchange-weight}
 use Rattle.graph.proofs.Least.{good-least, least-good}
 use Rattle.graph.proofs.Path.{path-inside}
 use Rattle.graph.specs.Graph.{Graph, Sound}
-use Rattle.graph.specs.Least.{Least, Good}
+use Rattle.graph.specs.Least.{Good}
 use Rattle.graph.specs.Tree.{SpanningTree, onPath, exchange}
 use Rattle.rowset.proofs.Integers.{integers, up, down, plus, minus}
-use Rattle.rowset.proofs.Laws.{clash, refuted, put-same, put-other, takeOut-other, takeOut-same, any-some, any-found, uppermost-some, uppermost-none, count-takeOut}
+use Rattle.rowset.proofs.Laws.{put-other, any-some, any-found, uppermost-some, count-takeOut}
 use Rattle.rowset.proofs.Members.{both-in, in-both}
 use Rattle.rowset.proofs.Searches.{smallest-in, smallest-least, smallest-exists, largest-in, largest-greatest, largest-exists}
 use Rattle.rowset.specs.Integers.{total}
 use Rattle.rowset.specs.Searches.{smallest, largest}
-use Rattle.rowset.specs.Sets.{both, put, takeOut, any, uppermost, count}
+use Rattle.rowset.specs.Sets.{both, put, takeOut, any, count}
 
 -- a spanning tree that is good under some shift of the prices at r
 pub record Tight (g : Graph) (w : ℕ → ℤ) (r : ℕ) (S : ℕ → Bool) : Type 0 where
@@ -84,7 +85,7 @@ module _ (g : Graph) (ok : Sound g) (w : ℕ → ℤ) (r : ℕ) (S : ℕ → Boo
       X = both (onPath g S (g .a f) (g .b f)) (touches g r)
 
   -- where no row comes in, no spanning tree has fewer rows at r
-  pub rowIn-none : rowIn g w r S ≡ 0 → (S′ : ℕ → Bool) → SpanningTree g S′ → rowsAt g r S ≤ rowsAt g r S′
+  rowIn-none : rowIn g w r S ≡ 0 → (S′ : ℕ → Bool) → SpanningTree g S′ → rowsAt g r S ≤ rowsAt g r S′
   unfolding rowIn up down
   rowIn-none z = fewest-rows g ok r S tree (λ f row out e path. go f row out e path (touches g r e) (touches g r f) refl refl)
     where
@@ -157,3 +158,65 @@ module _ (g : Graph) (ok : Sound g) (w : ℕ → ℤ) (r : ℕ) (S : ℕ → Boo
           minus (w f) (w e),
         );
       })
+
+module _ (g : Graph) (ok : Sound g) (w : ℕ → ℤ) (r : ℕ) where
+  -- an exchange keeps a tree tight, with one row at r fewer
+  swapFor-tight : (S : ℕ → Bool) → Tight g w r S → (o : ℕ) → rowIn g w r S ≡ o → (S′ : ℕ → Bool) → swapFor g w r S o ≡ some S′ → Tight g w r S′ × (suc (rowsAt g r S′) ≡ rowsAt g r S)
+  unfolding swapFor rowIn cost
+  swapFor-tight S t zero q S′ e =
+      let z : _≡_ {A = ℕ} 0 1 = cc in
+      absurd (omega arith)
+  swapFor-tight S t (suc j) q S′ e =
+      let x = uppermost-some (g .m) j (smallest (g .m) (cost g w r S) (offers g r S)) q .0 in
+      let o = offers-in g ok w r S (t .tree) (suc j) (smallest-in (g .m) (cost g w r S) (offers g r S) (suc j) x) in
+      let out = goes-out g ok w r S (t .tree) (suc j) (o .some-at) in
+      let same : exchange S (rowOut g w r S (suc j)) (suc j) ≡ S′ = cc in
+      let cheap : (k : ℕ) → offers g r S k ≡ true → (w (suc j) -ℤ w (rowOut g w r S (suc j))) ≤ℤ (w k -ℤ w (rowOut g w r S k)) = λ k h. let (l, u) = ok .position k (offers-in g ok w r S (t .tree) k h .row) in smallest-least (g .m) (cost g w r S) (offers g r S) (suc j) k x l u h in
+      subst (λ (Q : ℕ → Bool). Tight g w r Q × (suc (rowsAt g r Q) ≡ rowsAt g r S)) same (
+        record {
+          tree = swapped-tree g ok w r S (t .tree) (suc j) (rowOut g w r S (suc j)) o out;
+          shift = w (suc j) -ℤ w (rowOut g w r S (suc j));
+          good = swapped-good g ok w r S (t .tree) (suc j) (rowOut g w r S (suc j)) o out (t .shift) (t .good) cheap;
+        },
+        swapped-fewer g ok w r S (t .tree) (suc j) (rowOut g w r S (suc j)) o out,
+      )
+
+  -- where there is none, no spanning tree has fewer rows at r
+  swapFor-none : (S : ℕ → Bool) → Tight g w r S → (o : ℕ) → rowIn g w r S ≡ o → swapFor g w r S o ≡ none → (S′ : ℕ → Bool) → SpanningTree g S′ → rowsAt g r S ≤ rowsAt g r S′
+  unfolding swapFor
+  swapFor-none S t zero q e = rowIn-none g ok w r S (t .tree) q
+  swapFor-none S t (suc j) q e =
+      let z : _≡_ {A = ℕ} 0 1 = cc in
+      absurd (omega arith)
+
+  module _ (S : ℕ → Bool) (tight : Tight g w r S) where
+    -- after k exchanges the tree is tight and has k rows at r fewer
+    pub swaps-tight : (k : ℕ) (T : ℕ → Bool) → swaps g w r k S ≡ some T → Tight g w r T × (rowsAt g r T + k ≡ rowsAt g r S)
+    unfolding swaps swap
+    swaps-tight zero T e =
+        let same : S ≡ T = cc in
+        rw (← same) (tight, add-zero (rowsAt g r S))
+    swaps-tight (suc k) T e = go (swaps-tight k) (swaps g w r k S) refl e
+      where
+        go : ((Q : ℕ → Bool) → swaps g w r k S ≡ some Q → Tight g w r Q × (rowsAt g r Q + k ≡ rowsAt g r S)) → (o : Option (ℕ → Bool)) → swaps g w r k S ≡ o → swap g w r o ≡ some T → Tight g w r T × (rowsAt g r T + suc k ≡ rowsAt g r S)
+        go before none q e =
+            let z : _≡_ {A = ℕ} 0 1 = cc in
+            absurd (omega arith)
+        go before (some Q) q e =
+            let (t, n) = before Q q in
+            let (t′, n′) = swapFor-tight Q t (rowIn g w r Q) refl T e in
+            (t′, omega arith)
+
+    -- where fewer than k exchanges are possible, no spanning tree has k rows at r fewer
+    pub swaps-none : (k : ℕ) → swaps g w r k S ≡ none → (S′ : ℕ → Bool) → SpanningTree g S′ → rowsAt g r S < rowsAt g r S′ + k
+    unfolding swaps swap
+    swaps-none zero e S′ t′ =
+        let z : _≡_ {A = ℕ} 0 1 = cc in
+        absurd (omega arith)
+    swaps-none (suc k) e S′ t′ = go (λ q. swaps-none k q S′ t′) (swaps g w r k S) refl e
+      where
+        go : (swaps g w r k S ≡ none → rowsAt g r S < rowsAt g r S′ + k) → (o : Option (ℕ → Bool)) → swaps g w r k S ≡ o → swap g w r o ≡ none → rowsAt g r S < rowsAt g r S′ + suc k
+        go before none q e = omega (arith, before q)
+        go before (some Q) q e =
+            let (t, n) = swaps-tight k Q q in
+            omega (arith, swapFor-none Q t (rowIn g w r Q) refl e S′ t′)
