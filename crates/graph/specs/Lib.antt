@@ -5,3 +5,4 @@ pub mod Builder
 pub mod Meaning
 pub mod steps
 pub mod Only
+pub mod Yard
