@@ -1,11 +1,11 @@
--- The update of tree paths: after row e goes out for row f, the path from s to j is what it was, and where e was on it the ring of f, f's path with f itself, is turned over in it (path-update).
+-- The update of tree paths: after row e goes out for row f, the path from s to j is what it was, and where e was on it the ring of f, f's path with f itself, is turned over in it (path-update; path-turned for whole columns).
 -- Assumes nothing.
 use Prim.Native.Nat.{ℕ, _≤_}
 use borrow.Author.Tests.{eq-eqb, ne-eqb}
 use lib.Dec.{eqb}
-use mathlib.Core.Bool.{Bool, true, false, xor, _&&_}
+use mathlib.Core.Bool.{Bool, true, false, cond, xor, _&&_}
 use mathlib.Core.Logic.{⊎-elim}
-use mathlib.Core.Path.{_≡_, refl, sym, _∙_, ap}
+use mathlib.Core.Path.{_≡_, refl, sym, _∙_, ap, fun-ext}
 use native.Mathlib.Decide.{ℕ-discrete}
 use Rattle.graph.proofs.Exchange.{exchange-spanning}
 use Rattle.graph.proofs.Path.{changes-alike, path-inside, path-self, path-row, path-columns}
@@ -54,3 +54,12 @@ module _ (g : Graph) (ok : Sound g) (S : ℕ → Bool) (tree : SpanningTree g S)
   path-update j l h =
       let tree′ = exchange-spanning g ok S tree e f row out on in
       sym (sym (rw (path-self g ok S tree s k low high, path-self g ok S tree s e low high, xor-self, false-xor)) ∙ changes-alike g ok (exchange S e f) tree′ after (λ v. onPath g (exchange S e f) s v k) s j low high l h (path-self g ok (exchange S e f) tree′ s k low high) (λ i m. after-row i m ∙ sym (path-row g ok (exchange S e f) tree′ s low high i m k)))
+
+-- as columns: where e is on the path from s to j, the ring of f is turned over in it, and any other path stays
+pub path-turned : (g : Graph) (ok : Sound g) (S : ℕ → Bool) → SpanningTree g S → (e f : ℕ) → g .rows f ≡ true → S f ≡ false → onPath g S (g .a f) (g .b f) e ≡ true → (s : ℕ) → 1 ≤ s → s ≤ g .n → (j : ℕ) → 1 ≤ j → j ≤ g .n → onPath g (exchange S e f) s j ≡ cond (onPath g S s j e) (oneOf (onPath g S s j) (put (onPath g S (g .a f) (g .b f)) f)) (onPath g S s j)
+unfolding oneOf
+path-turned g ok S tree e f row out on s low high j l h = fun-ext λ k. path-update g ok S tree e f row out on s low high k j l h ∙ go k (onPath g S s j e)
+  where
+    go : (k : ℕ) (b : Bool) → xor (onPath g S s j k) (b && put (onPath g S (g .a f) (g .b f)) f k) ≡ cond b (oneOf (onPath g S s j) (put (onPath g S (g .a f) (g .b f)) f)) (onPath g S s j) k
+    go k true = refl
+    go k false = xor-false (onPath g S s j k)

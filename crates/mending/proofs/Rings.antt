@@ -5,18 +5,18 @@ use lib.ListN.{length}
 use mathlib.Core.Bool.{Bool, true, false, _&&_, and-eq-true-iff}
 use mathlib.Core.List.{List·Memᴰ, List·Memᴰ·not-nil}
 use mathlib.Core.Logic.{⊎-elim}
-use mathlib.Core.Path.{_≡_, refl, sym, _∙_, ap}
+use mathlib.Core.Path.{_≡_, refl, sym, _∙_, ap, fun-ext}
 use native.Mathlib.Decide.{ℕ-discrete}
 use native.Mathlib.Nat.{eq-or-lt-of-le}
 use native.Mathlib.Omega.{arith}
-use Rattle.graph.proofs.Reach.{walk-over-more, joined-walk}
+use Rattle.graph.proofs.Reach.{same-truth, walk-over-more, joined-walk}
 use Rattle.graph.specs.Graph.{Graph, Sound, Inside, Walk}
 use Rattle.graph.specs.Tree.{SpanningTree}
 use Rattle.mending.proofs.Drawing.{cond-cases, down-keeps, Applied, done-applied, done-length, done-all}
 use Rattle.mending.proofs.Forest.{Extended, extended-fewer, extend-tree}
 use Rattle.mending.specs.Mending.{Change, Drawing, drop, unmarkRow, markRow, apply, applyAll, done, down, joinsEnds, dropAt, old}
 use Rattle.rowset.proofs.Laws.{clash, put-same, put-other, put-keeps, put-cases, takeOut-same, takeOut-other, takeOut-in, upTo-in, in-upTo, count-put, count-bound}
-use Rattle.rowset.proofs.Members.{both-in, in-both}
+use Rattle.rowset.proofs.Members.{put-all, both-in, in-both}
 use Rattle.rowset.specs.Sets.{upTo, both, put, takeOut, count}
 
 -- rows of S among the positions 1 to k are rows of S′ among more positions
@@ -32,6 +32,14 @@ above-next k S i e =
     let (u, t) = both-in (upTo (suc k)) S i e in
     let (lo, hi) = upTo-in (suc k) i u in
     ⊎-elim (λ q. rw q (put-same (both (upTo k) S) (suc k))) (λ l. put-keeps (both (upTo k) S) (suc k) i (in-both (upTo k) S i (in-upTo k i lo (omega arith)) t)) (eq-or-lt-of-le hi)
+
+module _ (k : ℕ) (S : ℕ → Bool) where
+  -- the rows of S among the positions 1 to k + 1 are those among 1 to k, with row k + 1 if it belongs
+  pub above-put : S (suc k) ≡ true → both (upTo (suc k)) S ≡ put (both (upTo k) S) (suc k)
+  above-put t = fun-ext λ i. same-truth _ _ (above-next k S i) (put-all (λ (j : ℕ). both (upTo (suc k)) S j ≡ true) (both (upTo k) S) (suc k) (above-more k (suc k) S S (omega arith) (λ j l h. h)) (in-both (upTo (suc k)) S (suc k) (in-upTo (suc k) (suc k) (omega arith) (omega arith)) t) i)
+
+  pub above-same : S (suc k) ≡ false → both (upTo (suc k)) S ≡ both (upTo k) S
+  above-same f = fun-ext λ i. same-truth _ _ (λ e. ⊎-elim (λ t. t) (λ q. clash (both-in (upTo (suc k)) S i e .1) (ap S q ∙ f)) (put-cases (both (upTo k) S) (suc k) i (above-next k S i e))) (above-more k (suc k) S S (omega arith) (λ j l h. h) i)
 
 module _ (g : Graph) (ok : Sound g) (M : ℕ → Bool) (inside : Inside g M) where
   -- a record of a drop among the positions 1 to k, while the marks are S
@@ -124,8 +132,8 @@ module _ (g : Graph) (ok : Sound g) (M : ℕ → Bool) (inside : Inside g M) whe
         }
       where
         go : (b : Bool) → s .marks (suc k) ≡ b → Extended g (both (upTo k) (s .marks)) → Extended g (both (upTo (suc k)) (s .marks))
-        go true on x = extended-fewer (above-next k (s .marks)) (extend-tree g ok (both (upTo k) (s .marks)) x (suc k) (inside (suc k) (h .within (suc k) on)) (rw on at e))
-        go false off x = extended-fewer (λ i t. ⊎-elim (λ q. q) (λ q. clash (both-in (upTo (suc k)) (s .marks) i t .1) (ap (s .marks) q ∙ off)) (put-cases (both (upTo k) (s .marks)) (suc k) i (above-next k (s .marks) i t))) x
+        go true on x = rw (above-put k (s .marks) on) (extend-tree g ok (both (upTo k) (s .marks)) x (suc k) (inside (suc k) (h .within (suc k) on)) (rw on at e))
+        go false off x = rw (above-same k (s .marks) off) x
 
     pub kept-step : Kept (suc k) (dropAt g (suc k) s)
     unfolding dropAt
