@@ -1,7 +1,7 @@
 -- The builder.
 -- Defines: Invariant (what holds of the fragment after each row).
 -- Main statements: the invariant holds after each row (fragment-invariant); what the builder builds is a least spanning tree (built-least);
--- where it builds nothing the graph is not connected (not-connected), so there is no spanning tree (not-built).
+-- where it builds nothing the graph is not connected (not-connected), so there is no spanning tree (not-built); a connected graph has one (connected-spanning).
 -- Assumes nothing.
 use Prim.Native.Nat.{ℕ, zero, suc, _≤_, _<_}
 use lib.IntN.{ℤ}
@@ -243,3 +243,11 @@ module _ (g : Graph) (ok : Sound g) (w : ℕ → ℤ) where
   -- so there is no spanning tree
   pub not-built : tree g w ≡ none → (S : ℕ → Bool) → SpanningTree g S → ⊥
   not-built e S t = not-connected e (tree-connected t)
+
+  -- a connected graph has a spanning tree
+  pub connected-spanning : Connected g → (S : ℕ → Bool) × SpanningTree g S
+  connected-spanning joins = go (tree g w) refl
+    where
+      go : (o : Option Fragment) → tree g w ≡ o → (S : ℕ → Bool) × SpanningTree g S
+      go none e = absurd (not-connected e joins)
+      go (some f) e = (f .chosen, built-spanning f e)
