@@ -1,7 +1,7 @@
 -- The builder.
 -- Defines: Invariant (what holds of the fragment after each row).
 -- Main statements: the invariant holds after each row (fragment-invariant); what the builder builds is a least spanning tree (built-least);
--- where it builds nothing the graph is not connected (not-connected), so there is no spanning tree (not-built).
+-- where it builds nothing the graph is not connected (not-connected), so there is no spanning tree (not-built); a connected graph has one (connected-spanning).
 -- Assumes nothing.
 use Prim.Native.Nat.{ℕ, zero, suc, _≤_, _<_}
 use lib.IntN.{ℤ}
@@ -49,12 +49,12 @@ choose-none g f zero e = refl
 choose-none g f (suc j) e = cc
 
 -- a row that joins a vertex of Q to one outside crosses Q, and both its ends are in Q with the vertex outside
-joins-crosses : {g : Graph} {i x v : ℕ} (Q : ℕ → Bool) → Joins g i x v → Q x ≡ true → Q v ≡ false → crosses g Q i ≡ true
+pub joins-crosses : {g : Graph} {i x v : ℕ} (Q : ℕ → Bool) → Joins g i x v → Q x ≡ true → Q v ≡ false → crosses g Q i ≡ true
 unfolding crosses xor
 joins-crosses Q rightward on out = rw (on, out)
 joins-crosses Q leftward on out = rw (on, out)
 
-joins-inside : {g : Graph} {i x v : ℕ} (Q : ℕ → Bool) → Joins g i x v → Q x ≡ true → (put Q v (g .a i) ≡ true) × (put Q v (g .b i) ≡ true)
+pub joins-inside : {g : Graph} {i x v : ℕ} (Q : ℕ → Bool) → Joins g i x v → Q x ≡ true → (put Q v (g .a i) ≡ true) × (put Q v (g .b i) ≡ true)
 joins-inside {x = x} {v = v} Q rightward on = (put-keeps Q v x on, put-same Q v)
 joins-inside {x = x} {v = v} Q leftward on = (put-same Q v, put-keeps Q v x on)
 
@@ -64,7 +64,7 @@ tree-connected t v l u = walk-over-more (t .inside) (t .reached v l u)
 
 module _ (g : Graph) (ok : Sound g) (w : ℕ → ℤ) where
   -- the cheapest row of X is in X, and no row of X is lighter
-  cheapest-some : (X : ℕ → Bool) (j : ℕ) → cheapest g w X ≡ suc j → (X (suc j) ≡ true) × ((i : ℕ) → g .rows i ≡ true → X i ≡ true → w (suc j) ≤ℤ w i)
+  pub cheapest-some : (X : ℕ → Bool) (j : ℕ) → cheapest g w X ≡ suc j → (X (suc j) ≡ true) × ((i : ℕ) → g .rows i ≡ true → X i ≡ true → w (suc j) ≤ℤ w i)
   unfolding cheapest
   cheapest-some X j e =
       let s = uppermost-some (g .m) j (smallest (g .m) w X) e .0 in (
@@ -75,7 +75,7 @@ module _ (g : Graph) (ok : Sound g) (w : ℕ → ℤ) where
       )
 
   -- where X has no cheapest row, X has no row
-  cheapest-none : (X : ℕ → Bool) → cheapest g w X ≡ 0 → (i : ℕ) → g .rows i ≡ true → X i ≡ false
+  pub cheapest-none : (X : ℕ → Bool) → cheapest g w X ≡ 0 → (i : ℕ) → g .rows i ≡ true → X i ≡ false
   unfolding cheapest
   cheapest-none X e i r = refuted (X i) never
     where
@@ -243,3 +243,11 @@ module _ (g : Graph) (ok : Sound g) (w : ℕ → ℤ) where
   -- so there is no spanning tree
   pub not-built : tree g w ≡ none → (S : ℕ → Bool) → SpanningTree g S → ⊥
   not-built e S t = not-connected e (tree-connected t)
+
+  -- a connected graph has a spanning tree
+  pub connected-spanning : Connected g → (S : ℕ → Bool) × SpanningTree g S
+  connected-spanning joins = go (tree g w) refl
+    where
+      go : (o : Option Fragment) → tree g w ≡ o → (S : ℕ → Bool) × SpanningTree g S
+      go none e = absurd (not-connected e joins)
+      go (some f) e = (f .chosen, built-spanning f e)

@@ -23,6 +23,12 @@ takeOut-absent : (S : ℕ → Bool) (e f : ℕ) → S f ≡ false → takeOut S 
 unfolding takeOut
 takeOut-absent S e f out = rw out
 
+-- what a row that comes in for another does to the weight of a set of rows
+pub swapped-weight : (m : ℕ) (w : ℕ → ℤ) (S : ℕ → Bool) (e f : ℕ) → 1 ≤ e → e ≤ m → 1 ≤ f → f ≤ m → S e ≡ true → S f ≡ false → total m w (exchange S e f) +ℤ w e ≡ total m w S +ℤ w f
+unfolding exchange
+swapped-weight m w S e f le he lf hf on out =
+    omega (arith, integers, total-put m f w (takeOut S e) lf hf (takeOut-absent S e f out), total-takeOut m e w S le he on, plus (total m w (takeOut S e)) (w f), plus (total m w (takeOut S e)) (w e), plus (total m w (put (takeOut S e) f)) (w e), plus (total m w S) (w f))
+
 module _ (g : Graph) (ok : Sound g) (S : ℕ → Bool) (tree : SpanningTree g S) where
   -- a row outside the tree for a row on the path of its ends: a spanning tree again
   pub exchange-spanning : (e f : ℕ) → g .rows f ≡ true → S f ≡ false → onPath g S (g .a f) (g .b f) e ≡ true → SpanningTree g (exchange S e f)
@@ -76,11 +82,10 @@ module _ (g : Graph) (ok : Sound g) (S : ℕ → Bool) (tree : SpanningTree g S)
 
   -- what the exchange does to the weight
   pub exchange-weight : (w : ℕ → ℤ) (e f : ℕ) → S e ≡ true → g .rows f ≡ true → S f ≡ false → total (g .m) w (exchange S e f) +ℤ w e ≡ total (g .m) w S +ℤ w f
-  unfolding exchange
   exchange-weight w e f on r out =
       let (le, he) = ok .position e (tree .inside e on) in
       let (lf, hf) = ok .position f r in
-      omega (arith, integers, total-put (g .m) f w (takeOut S e) lf hf (takeOut-absent S e f out), total-takeOut (g .m) e w S le he on, plus (total (g .m) w (takeOut S e)) (w f), plus (total (g .m) w (takeOut S e)) (w e), plus (total (g .m) w (put (takeOut S e) f)) (w e), plus (total (g .m) w S) (w f))
+      swapped-weight (g .m) w S e f le he lf hf on out
 
   -- a row of the graph that crosses a colouring: some row of the tree on the path of its ends crosses it too
   pub crossing-on-path : (side : ℕ → Bool) (e : ℕ) → g .rows e ≡ true → crosses g side e ≡ true → (f : ℕ) × (S f ≡ true) × (crosses g side f ≡ true) × (onPath g S (g .a e) (g .b e) f ≡ true)

@@ -11,3 +11,4 @@ pub mod Only
 pub mod Renumbered
 pub mod LeastTotal
 pub mod Stretch
+pub mod Update

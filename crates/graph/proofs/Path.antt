@@ -80,7 +80,7 @@ module _ (g : Graph) (ok : Sound g) (S : ℕ → Bool) (tree : SpanningTree g S)
   ]
 
   -- two functions of the vertices that change alike along every row of the tree change alike from u to v
-  changes-alike : (f c : ℕ → Bool) (u v : ℕ) → 1 ≤ u → u ≤ g .n → 1 ≤ v → v ≤ g .n → c u ≡ false → ((i : ℕ) → S i ≡ true → xor (f (g .a i)) (f (g .b i)) ≡ xor (c (g .a i)) (c (g .b i))) → xor (f u) (f v) ≡ c v
+  pub changes-alike : (f c : ℕ → Bool) (u v : ℕ) → 1 ≤ u → u ≤ g .n → 1 ≤ v → v ≤ g .n → c u ≡ false → ((i : ℕ) → S i ≡ true → xor (f (g .a i)) (f (g .b i)) ≡ xor (c (g .a i)) (c (g .b i))) → xor (f u) (f v) ≡ c v
   changes-alike f c u v lu hu lv hv z h =
       xor-exchange _ _ _ _ (walk-one-side (λ x. xor (f x) (c x)) (λ i e. xor-exchange _ _ _ _ (h i e)) (tree-walk u v lu hu lv hv)) ∙ rw z (false-xor (c v))
 

@@ -8,3 +8,4 @@ pub mod Only
 pub mod Renumbered
 pub mod LeastTotal
 pub mod Stretch
+pub mod Yard

@@ -326,7 +326,7 @@ and-xor x y true = simp and-true
 and-xor x y false = simp and-false
 
 -- two pairs, regrouped
-xor-swap : (a b c d : Bool) → xor (xor a b) (xor c d) ≡ xor (xor a c) (xor b d)
+pub xor-swap : (a b c d : Bool) → xor (xor a b) (xor c d) ≡ xor (xor a c) (xor b d)
 xor-swap a b c d = rw (xor-assoc a b (xor c d), ← xor-assoc b c d, xor-comm b c, xor-assoc c b d, ← xor-assoc a c (xor b d))
 
 -- ── Parity ──

@@ -1,14 +1,14 @@
--- Laws of membership: a position put in, induction over the positions of a set, what belongs to both of two sets or to one without the other, and how many belong.
+-- Laws of membership: a position put in, induction over the positions of a set, what belongs to both of two sets, to either or to one without the other, and how many belong.
 -- Assumes nothing.
 use Prim.Native.Nat.{ℕ, suc, _≤_, _<_}
 use borrow.Author.Tests.{not-true}
-use mathlib.Core.Bool.{Bool, true, false, and-eq-true-iff}
+use mathlib.Core.Bool.{Bool, true, false, and-eq-true-iff, or-true}
 use mathlib.Core.Logic.{_⊎_, inl, inr, ⊎-elim}
 use mathlib.Core.Path.{_≡_, refl, sym, _∙_, ap, subst, fun-ext}
 use native.Mathlib.Nat.{eq-or-lt-of-le}
 use native.Mathlib.Omega.{arith}
 use Rattle.rowset.proofs.Laws.{clash, refuted, upwards, put-same, put-keeps, put-cases, takeOut-other, upTo-in, in-upTo, both-inside, count-takeOut, count-monotone}
-use Rattle.rowset.specs.Sets.{empty, upTo, both, without, put, takeOut, count}
+use Rattle.rowset.specs.Sets.{empty, upTo, both, without, put, takeOut, count, either}
 
 -- what holds of each position of p, and of k, holds of each position of p with k put in
 pub put-all : (P : ℕ → Type 0) (p : ℕ → Bool) (k : ℕ) → ((i : ℕ) → p i ≡ true → P i) → P k → (i : ℕ) → put p k i ≡ true → P i
@@ -28,6 +28,20 @@ both-in p q i e = and-eq-true-iff (p i) (q i) .0 e
 pub in-both : (p q : ℕ → Bool) (i : ℕ) → p i ≡ true → q i ≡ true → both p q i ≡ true
 unfolding both
 in-both p q i e f = rw (e, f)
+
+-- what belongs to either of two sets
+pub either-in : (p q : ℕ → Bool) (i : ℕ) → either p q i ≡ true → (p i ≡ true) ⊎ (q i ≡ true)
+unfolding either
+either-in p q i e = go (p i) refl
+  where
+    go : (b : Bool) → p i ≡ b → (p i ≡ true) ⊎ (q i ≡ true)
+    go true f = inl f
+    go false f = inr (rw f at e)
+
+pub in-either : (p q : ℕ → Bool) (i : ℕ) → (p i ≡ true) ⊎ (q i ≡ true) → either p q i ≡ true
+unfolding either
+in-either p q i (inl e) = rw e
+in-either p q i (inr e) = rw e (or-true (p i))
 
 -- what belongs to the first set and not to the second
 pub without-in : (p q : ℕ → Bool) (i : ℕ) → without p q i ≡ true → (p i ≡ true) × (q i ≡ false)

@@ -1,0 +1,4 @@
+pub mod Forest
+pub mod Growing
+pub mod Districts
+pub mod Trials

@@ -1,0 +1,3 @@
+pub mod Mending
+pub mod Promise
+pub mod Trials

@@ -1,0 +1,1 @@
+// Mending an old claim: definitions (specs/) and theorems (proofs/), no code.
