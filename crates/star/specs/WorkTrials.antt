@@ -159,10 +159,9 @@ givenBytes =
     ∷ mst1Door (last lastRow (replicate 1024 7)) (nines 16)
     ∷ mst1DoorMarks (last lastRow (replicate 1024 7)) (nines 16)
     ∷ mst1DoorMarks (last lastRow (replicate 1024 7)) (nines 15)
-    ∷ pathsDoor (last lastRow (replicate 1023 7 ++ (1 ∷ []))) 2 (replicate 33 8) (nines 16)
     ∷ pathsDoorMatrix (last lastRow (replicate 1023 7 ++ (1 ∷ []))) 2 (replicate 33 8) (nines 16)
     ∷ pathsDoorMatrix (last lastRow (replicate 1023 7 ++ (1 ∷ []))) 2 (replicate 33 8) (nines 17)
-    ∷ pathsDoor (last (replicate 16 0) (replicate 1023 7 ++ (1 ∷ []))) 2 (replicate 33 8) (nines 16)
+    ∷ pathsDoor (idle 1 15 1024 1024 4096 1024) 1 (replicate 16 8) (nines 16)
     ∷ cstDoor (idle 1 15 1024 1024 4096 1024) (nines 16)
     ∷ cstDoor (idle 1 15 1024 1024 4096 1024) (nines 17)
     ∷ []
@@ -174,10 +173,9 @@ expectedBytes =
     ∷ (1 ∷ 0 ∷ 0 ∷ 0 ∷ 0 ∷ 0 ∷ 0 ∷ 0 ∷ 9 ∷ 0 ∷ 0 ∷ 0 ∷ 0 ∷ 0 ∷ 0 ∷ 0 ∷ [])
     ∷ (replicate 1023 0 ++ (1 ∷ []))
     ∷ replicate 1024 7
-    ∷ (1 ∷ replicate 15 0)
     ∷ (lastRow ++ (replicate 16 0 ++ (8 ∷ [])))
     ∷ replicate 33 8
-    ∷ (0 ∷ 9 ∷ replicate 14 0)
+    ∷ (0 ∷ 3 ∷ replicate 14 0)
     ∷ (0 ∷ 3 ∷ 0 ∷ 0 ∷ 0 ∷ 0 ∷ 0 ∷ 0 ∷ 0 ∷ 0 ∷ 0 ∷ 0 ∷ 0 ∷ 0 ∷ 0 ∷ 0 ∷ [])
     ∷ nines 17
     ∷ []
