@@ -14,6 +14,7 @@ ARCHIVE := target/staticlib/libdoor.a
 LIBRARY := $(BUILD)/libstar.a
 CONSOLE := $(sort $(wildcard console/*.c))
 READSTP := target/bin/readstp
+DIGLIST := target/bin/diglist
 VERSION := $(shell sed -n 's/^\#define STAR_VERSION "\(.*\)"/\1/p' include/star.h)
 
 all: $(BUILD)/star
@@ -29,7 +30,7 @@ endef
 
 # What is installed is taken as it was built: make install alone asks rt for nothing that is there.
 ifneq ($(filter-out install uninstall,$(or $(MAKECMDGOALS),all)),)
-$(ARCHIVE) $(READSTP): FORCE
+$(ARCHIVE) $(READSTP) $(DIGLIST): FORCE
 endif
 
 $(ARCHIVE):
@@ -38,6 +39,10 @@ $(ARCHIVE):
 # The program that prints what an STP text holds, proved as well.
 $(READSTP):
 	$(call PROVE,check readstp,readstp)
+
+# The program that prints the dig list of an STP text, proved too.
+$(DIGLIST):
+	$(call PROVE,check diglist,diglist)
 
 # The proved procedures and the part of the library that is written in C.
 $(LIBRARY): $(ARCHIVE) include/star.c include/star.h
@@ -92,8 +97,8 @@ test:
 
 # What stands outside the proofs: the doors against the plain implementation, the import against the plain reader (python3), both under a
 # memory checker, and the console.
-outside: $(BUILD)/star $(BUILD)/door_test $(BUILD)/door_test_faulty $(BUILD)/work_test $(BUILD)/work_test_faulty $(BUILD)/import_test $(READSTP)
-	bash tests/outside.sh $(BUILD) $(READSTP)
+outside: $(BUILD)/star $(BUILD)/door_test $(BUILD)/door_test_faulty $(BUILD)/work_test $(BUILD)/work_test_faulty $(BUILD)/import_test $(READSTP) $(DIGLIST)
+	bash tests/outside.sh $(BUILD) $(READSTP) $(DIGLIST)
 
 bench: $(BUILD)/bench
 	$(BUILD)/bench

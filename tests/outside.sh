@@ -1,9 +1,9 @@
 #!/usr/bin/env bash
-# Tests from outside, over the built console, the tests of the doors and the program readstp.
-# usage: outside.sh BUILD READSTP   Ends in one line 'N passed, M failed'.
+# Tests from outside, over the built console, the tests of the doors and the programs readstp and diglist.
+# usage: outside.sh BUILD READSTP DIGLIST   Ends in one line 'N passed, M failed'.
 set -u
 cd "$(dirname "$0")/.."
-build=$1 readstp=$2 passed=0 failed=0 work=$(mktemp -d)
+build=$1 readstp=$2 diglist=$3 passed=0 failed=0 work=$(mktemp -d)
 trap 'rm -rf "$work"' EXIT
 
 # Adds the counts of a line 'N passed, M failed'.
@@ -50,10 +50,14 @@ python3 -B tests/stp/generate.py "$work/texts"
 add "$work/import"
 kit=${RATTLE_HOME:-$(dirname "$(dirname "$(readlink -f "$(command -v rt)")")")}
 loader=$kit/on/$(uname -m)/toolchain/lib/ld-linux-x86-64.so.2
-program=("$readstp")
-if [ -x "$loader" ]; then program=("$loader" --library-path "$(dirname "$loader")" "$readstp"); fi
-python3 -B tests/stp/run.py "${program[@]}" | tee "$work/readstp"
+under=()
+if [ -x "$loader" ]; then under=("$loader" --library-path "$(dirname "$loader")"); fi
+python3 -B tests/stp/run.py "${under[@]}" "$readstp" | tee "$work/readstp"
 add "$work/readstp"
+
+# The dig list, on the same texts and on tables with a tree, and what happens where it cannot be read or written.
+bash tests/diglist.sh "$diglist" "$readstp" "${under[@]}" | tee "$work/diglist"
+add "$work/diglist"
 
 # A sample under valgrind, where it is installed: nothing is read or written outside a lent column.
 memory() { # PROGRAM WORDS..

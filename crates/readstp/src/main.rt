@@ -1,4 +1,9 @@
 // Reads an STP text on standard input and prints what the import answers: n and m on one line, and then a line a row with its ends and its weight; or the refusal's number and place.
+// The text is made whole before a byte is printed. An error of reading or of writing is told on standard error.
+use decimal::put_byte;
+use decimal::put_natural;
+use decimal::put_price;
+use decimal::put_text;
 use libc::STDIN_FILENO;
 use libc::STDOUT_FILENO;
 use refusal::Refusal;
@@ -12,79 +17,77 @@ const ROWS: usize = 1024;
 
 const WEIGHT_BYTES: usize = 4096;
 
-fn text(s: &[u8]) {
-    io::write_all(STDOUT_FILENO, s);
-}
+// A line of n and m, at most 22 bytes, and 1,024 lines of at most 20: two ends of three digits, a weight of eleven bytes, and three bytes between and after them.
+const PRINTED: usize = 20502;
 
-fn number(x: u64) {
-    io::print_decimal(STDOUT_FILENO, x);
+// A number and the byte after it.
+fn number(out: &mut [u8], at: usize, x: u64, after: u8) -> usize {
+    let next = put_natural(out, at, x);
+    put_byte(out, next, after)
 }
 
 // Two numbers, which end a line.
-fn pair(a: u32, b: u32) {
-    number(a as u64);
-    text(b" ");
-    number(b as u64);
-    text(b"\n");
-}
-
-// The integer that 32 bits stand for in two's complement, with - before a negative one.
-fn price(w: u32) {
-    if w < 2147483648 {
-        number(w as u64);
-    } else {
-        text(b"-");
-        number(4294967296 - w as u64);
-    }
+fn pair(out: &mut [u8], at: usize, a: u32, b: u32) -> usize {
+    let next = number(out, at, a as u64, b' ');
+    number(out, next, b as u64, b'\n')
 }
 
 // Row i: its ends and its weight.
-fn row(left: &[u8], right: &[u8], weight: &[u8], i: usize) {
-    number(checks::row_byte(left, i) as u64);
-    text(b" ");
-    number(checks::row_byte(right, i) as u64);
-    text(b" ");
-    price(checks::row_weight(weight, i));
-    text(b"\n");
+fn row(out: &mut [u8], at: usize, left: &[u8], right: &[u8], weight: &[u8], i: usize) -> usize {
+    let a = checks::row_byte(left, i) as u64;
+    let b = checks::row_byte(right, i) as u64;
+    let w = checks::row_weight(weight, i);
+    let first = number(out, at, a, b' ');
+    let second = number(out, first, b, b' ');
+    let third = put_price(out, second, w);
+    put_byte(out, third, b'\n')
 }
 
-// The rows that were read, from the top.
-fn rows(m: usize, left: &[u8], right: &[u8], weight: &[u8]) {
+// The sizes, and the rows that were read, from the top.
+fn taken(out: &mut [u8], s: Sizes, left: &[u8], right: &[u8], weight: &[u8]) -> usize {
+    let m = s.m as usize;
+    let mut next = pair(out, 0, s.n, s.m);
     let mut i = 0;
     while i < m {
         i += 1;
-        row(left, right, weight, i);
+        next = row(out, next, left, right, weight, i);
     }
+    next
 }
 
-fn taken(s: Sizes, left: &[u8], right: &[u8], weight: &[u8]) {
-    pair(s.n, s.m);
-    rows(s.m as usize, left, right, weight);
+fn refused(out: &mut [u8], r: Refusal) -> usize {
+    let next = put_text(out, 0, b"Refused ");
+    pair(out, next, r.number, r.place)
 }
 
-fn refused(r: Refusal) {
-    text(b"Refused ");
-    pair(r.number, r.place);
-}
-
-fn answer(x: Imported, left: &[u8], right: &[u8], weight: &[u8]) {
-    match x {
-        Imported::Taken(s) => taken(s, left, right, weight),
-        Imported::Refused(r) => refused(r),
-    }
-}
-
-// Imports the text into columns of 1,024 rows.
-fn import(s: &[u8]) {
+// What the import of the text into columns of 1,024 rows answers, put at the start of a column; the number of its bytes.
+fn import(text: &[u8], out: &mut [u8]) -> usize {
     let mut left = [0u8; ROWS];
     let mut right = [0u8; ROWS];
     let mut weight = [0u8; WEIGHT_BYTES];
-    let x = stp::import(s, &mut left, &mut right, &mut weight);
-    answer(x, &left, &right, &weight);
+    let answer = stp::import(text, &mut left, &mut right, &mut weight);
+    match answer {
+        Imported::Taken(s) => taken(out, s, &left, &right, &weight),
+        Imported::Refused(r) => refused(out, r),
+    }
+}
+
+// Prints what the import of the text answers.
+fn print(text: &[u8]) {
+    let mut bytes = [0u8; PRINTED];
+    let size = import(text, &mut bytes);
+    if !streams::write_text(STDOUT_FILENO, &bytes[..size]) {
+        os::fail(b"readstp: the answer is not printed whole");
+    }
 }
 
 fn main() {
     let mut buffer = [0u8; TEXT_BYTES];
-    let size = io::read_full(STDIN_FILENO, &mut buffer);
-    import(&buffer[..size]);
+    let input = streams::read_text(STDIN_FILENO, &mut buffer);
+    if input.failed {
+        os::fail(b"readstp: standard input is not read");
+        return;
+    }
+    let size = input.size;
+    print(&buffer[..size]);
 }

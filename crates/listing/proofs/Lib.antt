@@ -1,0 +1,5 @@
+pub mod Splitting
+pub mod Rows
+pub mod Sizes
+pub mod Meaning
+pub mod Trials

@@ -1,0 +1,4 @@
+pub mod DigList
+pub mod Reading
+pub mod Meaning
+pub mod Trials
