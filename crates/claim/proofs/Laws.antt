@@ -21,18 +21,18 @@ use Rattle.star.specs.Call.{marked}
 use Rattle.table.proofs.Loads.{load-long, load-taken, loaded-refused, loaded-taken}
 use Rattle.table.specs.Loads.{loadedRow}
 
--- MATCH with 1 over all rows of a loaded claim
-pub match-claim : (l : List ℕ) → equalTo (loadedRow 1 l) 1 (upTo size) ≡ claimRows l
+-- MATCH with 1 over some rows of a loaded claim
+pub match-claim : (l : List ℕ) (X : ℕ → Bool) → equalTo (loadedRow 1 l) 1 X ≡ both X (claimRows l)
 unfolding equalTo claimRows marked empty both
-match-claim l = go (leb (length l) size) refl
+match-claim l X = go (leb (length l) size) refl
   where
-    go : (b : Bool) → leb (length l) size ≡ b → equalTo (loadedRow 1 l) 1 (upTo size) ≡ cond b (marked l) empty
+    go : (b : Bool) → leb (length l) size ≡ b → equalTo (loadedRow 1 l) 1 X ≡ both X (cond b (marked l) empty)
     go true e =
         let h = leb-true (length l) size e in
-        rw (loaded-taken 1 l (load-taken 1 l (omega arith) (omega arith))) (both-inside size (marked l) (λ i m. let r = marked-row l i m in (r .0, omega arith)))
+        rw (loaded-taken 1 l (load-taken 1 l (omega arith) (omega arith)))
     go false e =
         let h = leb-false (length l) size e in
-        rw (loaded-refused 1 l 1 (load-long 1 l (omega arith))) (fun-ext λ i. and-false (upTo size i))
+        rw (loaded-refused 1 l 1 (load-long 1 l (omega arith)))
 
 -- ── Claims and tables that fit a slice ──
 

@@ -3,6 +3,7 @@ ghost use mathlib.Core.Path.{_≡_};
 ghost use lib.ListN.{length};
 ghost use Rattle.rowset.specs.Bytes.{inRow};
 ghost use Rattle.rowset.specs.Integers.{fromBits, signed, total};
+ghost use Rattle.rowset.specs.Sets.{both};
 ghost use Rattle.rowset.specs.steps.Flipped.{flipped};
 ghost use Rattle.slice.specs.Slices.{size, component};
 ghost use Rattle.star.specs.Call.{claimOf};
@@ -14,12 +15,12 @@ pub use slice::rows::rows_to;
 // 2 ^ 31: the first of 32 bits.
 const OFFSET: u32 = 2147483648;
 
-// The rows that the claim marks, by MATCH with 1 over its bytes; none where it has more than 1,024.
-pub fn claim_rows(mark: &[u8]) -> Slice
-    ensures { λ r. ⌜ component r ≡ claimRows (now (mark .entry)) ⌝ }
+// The rows of a slice that the claim marks, by MATCH with 1 over its bytes; none where it has more than 1,024.
+pub fn claim_rows(mark: &[u8], rows: Slice) -> Slice
+    ensures { λ r. ⌜ component r ≡ both (component rows) (claimRows (now (mark .entry))) ⌝ }
 {
     let loaded = table::load_bytes(mark);
-    search::match_rows(loaded.table, 1, Slice::full())
+    search::match_rows(loaded.table, 1, rows)
 }
 
 // The claim is written anew: 1 for each row of the slice, 0 for every other.

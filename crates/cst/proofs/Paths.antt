@@ -1,11 +1,13 @@
--- What CST reads from a path matrix, and that for a call that it does not refuse the heavier rows, the two rows of the exchange and the claim's weight
--- are those of the definition. Assumes nothing.
+-- What CST reads from a path matrix, and that for a call that it does not refuse the heavier and the equal rows, the rows of the exchanges and the claim's weight
+-- are those of the definition. What GREAT's two slices have in common is said once, of any search that gives selected rows alone. Assumes nothing.
 use Prim.Native.Nat.{ℕ, zero, suc, _*_, _≤_, _<_}
-use mathlib.Core.Bool.{Bool, true, false, _&&_, xor, and-false, and-eq-true-iff}
+use mathlib.Core.Bool.{Bool, true, false, cond, _&&_, xor, and-false, and-eq-true-iff}
 use mathlib.Core.List.{List, [], _∷_, _++_}
 use mathlib.Core.Option.{Option, none, some}
-use mathlib.Core.Path.{_≡_, refl, sym, _∙_, fun-ext}
-use lib.IntN.{natAbs, _-ℤ_}
+use mathlib.Core.Path.{_≡_, refl, sym, ap, _∙_, fun-ext}
+use borrow.Author.Tests.{eqb-true, ne-eqb}
+use lib.Dec.{eqb}
+use lib.IntN.{ℤ, natAbs, _-ℤ_}
 use lib.ListN.{length, drop}
 use lib.Signed.{_≤ℤ_}
 use native.Mathlib.Omega.{arith}
@@ -14,11 +16,11 @@ use Rattle.refusal.specs.declared.Refusal.{Refusal}
 use Rattle.rowset.proofs.Integers.{integers}
 use Rattle.rowset.proofs.Laws.{refuted, clash, upTo-in, in-upTo, any-cut, any-found, uppermost-cut, uppermost-ext, uppermost-some, uppermost-zero, xor-self}
 use Rattle.rowset.proofs.Members.{without-in}
-use Rattle.rowset.proofs.Searches.{greaterThan-in}
+use Rattle.rowset.proofs.Searches.{greaterThan-in, sameAs-in}
 use Rattle.rowset.specs.Bytes.{inRow}
 use Rattle.rowset.specs.Integers.{fromBits, total}
-use Rattle.rowset.specs.Searches.{greaterThan}
-use Rattle.rowset.specs.Sets.{upTo, both, oneOf, without, any, uppermost}
+use Rattle.rowset.specs.Searches.{greaterThan, sameAs}
+use Rattle.rowset.specs.Sets.{upTo, both, oneOf, without, takeOut, any, uppermost}
 use Rattle.rowset.specs.Words.{columnWords}
 use Rattle.matrix.proofs.Laws.{matrix-column}
 use Rattle.matrix.specs.Matrix.{matrixColumn}
@@ -28,42 +30,108 @@ use Rattle.table.specs.Loads.{loadedRow}
 use Rattle.star.proofs.Accepted.{none-head, none-tail, none-both, none-nil, Taken, taken, sound}
 use Rattle.star.proofs.Claims.{marked-row}
 use Rattle.star.specs.Call.{Call, rowsOf, graphOf, weightOf, marked, claimWeight}
-use Rattle.star.specs.Cst.{refused, passed, lighter, between, heavier, improves, rowIn, rowOut, judged, verdict, cst}
+use Rattle.star.specs.Cst.{refused, passed, lighter, between, heavier, improves, rowIn, rowOut, equals, replaces, equalIn, equalOut, only, judged, verdict, cst, EqualRows, rowsBeside, equalRows}
 use Rattle.star.specs.MatrixPath.{pathColumn, matrixPath, matrixOr, matrixAfter}
 use Rattle.star.specs.Refusals.{maxVertices, cstCauses, tableCauses, refusal}
+use Rattle.checks.proofs.Laws.{uppermost-bound}
 use Rattle.claim.proofs.Laws.{claimRows-marked, claimRows-total, rows-fit}
 use Rattle.claim.specs.Claims.{claimRows}
 use Rattle.cst.proofs.Refused.{path-refusal}
-use Rattle.cst.proofs.Sets.{stopped, exhausted}
-use Rattle.cst.specs.steps.Paths.{weightIn, heavierIn, someHeavier, firstHeavier, exchangeOf, firstLighter, Walked}
+use Rattle.cst.proofs.Sets.{passed-over, stopped, exhausted}
+use Rattle.cst.specs.steps.Paths.{weightIn, Search, foundOn, someOn, firstOn, rowWith, exchangeOf, firstLighter, firstEqual, remembered, Walked}
+use Rattle.cst.specs.declared.Equal.{Equal}
 use Rattle.cst.specs.declared.Exchange.{Exchange}
+
+-- a search that gives selected rows alone
+abbrev Selected : Search → Type 0
+Selected search = (f : ℕ → ℤ) (w : ℤ) (X : ℕ → Bool) (i : ℕ) → search f w X i ≡ true → X i ≡ true
+
+greater-selected : Selected greaterThan
+greater-selected f w X i e = greaterThan-in f w X i e .0
+
+equal-selected : Selected sameAs
+equal-selected f w X i e = sameAs-in f w X i e .0
+
+-- the row that comes in by an exchange, the uppermost of rows of which there is one, is not 0
+pub comes-in : (weight : List ℕ) (Z : ℕ → Bool) (x : Exchange) (o i : ℕ) → any size Z ≡ true → i ≡ uppermost size Z → x ≡ exchangeOf weight o i → x .into ≡ 0 → ⊥
+unfolding exchangeOf
+comes-in weight Z x o i h u s e =
+    let (j, z) = any-found size Z h in
+    let k : x .into ≡ i = ap (λ y. y .into) s in
+    omega arith
 
 -- ── Any matrix and any columns ──
 
 module _ (matrix left right weight : List ℕ) where
-  -- no row is heavier than row 0, which is none
-  none-heavier : firstHeavier matrix left right weight 0 ≡ 0
-  unfolding firstHeavier heavierIn greaterThan oneOf inRow
-  none-heavier = uppermost-zero size (heavierIn (weightIn weight) (weightIn weight 0) matrix left right 0) (λ k l u. rw (xor-self (matrixColumn matrix 0 k)))
+  -- nothing is found for row 0, which is none
+  none-first : (search : Search) → Selected search → firstOn search matrix left right weight 0 ≡ 0
+  unfolding firstOn foundOn oneOf inRow
+  none-first search inside =
+      uppermost-zero size (foundOn search (weightIn weight) (weightIn weight 0) matrix left right 0)
+      (λ k l u. refuted _ (λ t. clash (inside _ _ _ k t) (xor-self (matrixColumn matrix 0 k))))
 
   -- the uppermost heavier row of a row that has one is heavier
-  pub heavier-out : (i : ℕ) → someHeavier matrix left right weight i ≡ true → weightIn weight i ≤ℤ weightIn weight (firstHeavier matrix left right weight i)
-  unfolding someHeavier firstHeavier heavierIn
+  pub heavier-out : (i : ℕ) → someOn greaterThan matrix left right weight i ≡ true → weightIn weight i ≤ℤ weightIn weight (firstOn greaterThan matrix left right weight i)
+  unfolding someOn firstOn foundOn
   heavier-out i e =
       let (j, u) = any-found size _ e in
       rw u (omega (arith, integers, greaterThan-in (weightIn weight) _ _ (suc j) (uppermost-some size j _ u .0) .1))
 
   -- while the row sought among the rows Z still to be looked at is the one sought among all rows:
-  module _ (rows Z : ℕ → Bool) (same : uppermost size (both Z (someHeavier matrix left right weight)) ≡ uppermost size (both rows (someHeavier matrix left right weight))) where
+  module _ (rows Z : ℕ → Bool) (same : rowWith greaterThan matrix left right weight Z ≡ rowWith greaterThan matrix left right weight rows) where
     -- the uppermost row of Z, if it has a heavier row, comes in
-    pub exchange-found : (i o : ℕ) → i ≡ uppermost size Z → someHeavier matrix left right weight i ≡ true → o ≡ firstHeavier matrix left right weight i → exchangeOf weight o i ≡ firstLighter matrix left right weight rows
-    unfolding firstLighter
-    exchange-found i o into heavy out = rw (out, ← same, stopped size Z (someHeavier matrix left right weight) (rw (← into) heavy), into)
+    pub exchange-found : (i o : ℕ) → i ≡ uppermost size Z → someOn greaterThan matrix left right weight i ≡ true → o ≡ firstOn greaterThan matrix left right weight i → exchangeOf weight o i ≡ firstLighter matrix left right weight rows
+    unfolding firstLighter rowWith
+    exchange-found i o into heavy out = rw (out, ← same, stopped size Z (someOn greaterThan matrix left right weight) (rw (← into) heavy), into)
 
     -- and where Z has no row, none does
     pub none-found : any size Z ≡ false → record { out = 0; into = 0; saving = 0 } ≡ firstLighter matrix left right weight rows
-    unfolding firstLighter exchangeOf inRow fromBits
-    none-found e = rw (← same, exhausted size Z (someHeavier matrix left right weight) e, none-heavier)
+    unfolding firstLighter rowWith exchangeOf inRow fromBits
+    none-found e = rw (← same, exhausted size Z (someOn greaterThan matrix left right weight) e, none-first greaterThan greater-selected)
+
+  -- what is remembered: the row e, or where it is 0 the row sought among the rows Z still to be looked at, is the one sought among all rows
+  pub record Remembered (rows Z : ℕ → Bool) (e : ℕ) : Type 0 where
+    pub row : cond (eqb e 0) (rowWith sameAs matrix left right weight Z) e ≡ rowWith sameAs matrix left right weight rows
+
+  module _ (rows Z : ℕ → Bool) (e : ℕ) (r : Remembered rows Z e) where
+    -- with the uppermost row of Z looked at
+    pub remembered-more : (i : ℕ) → i ≡ uppermost size Z → any size Z ≡ true
+        → Remembered rows (takeOut Z (uppermost size Z)) (remembered e (foundOn sameAs (weightIn weight) (weightIn weight i) matrix left right i) i)
+    unfolding remembered rowWith someOn
+    remembered-more i u h = rw (← u) (record { row = go (eqb e 0) refl (any size E) refl })
+      where
+        E : ℕ → Bool
+        E = foundOn sameAs (weightIn weight) (weightIn weight i) matrix left right i
+
+        G : ℕ → Bool
+        G = someOn sameAs matrix left right weight
+
+        go : (b : Bool) → eqb e 0 ≡ b → (d : Bool) → any size E ≡ d
+            → cond (eqb (cond b (cond d i 0) e) 0) (rowWith sameAs matrix left right weight (takeOut Z i)) (cond b (cond d i 0) e) ≡ rowWith sameAs matrix left right weight rows
+        go false t d f = rw t (rw t at (r .row))
+        go true t true f =
+            let (j, z) = any-found size Z h in
+            rw (ne-eqb i 0 (λ n. omega arith)) (u ∙ sym (stopped size Z G (rw (← u) f)) ∙ rw t at (r .row))
+        go true t false f = rw (passed-over Z G i f) (rw t at (r .row))
+
+    -- and with all of them looked at, it is the row that comes in by the first exchange of equal rows
+    pub remembered-all : any size Z ≡ false → e ≡ rowWith sameAs matrix left right weight rows
+    unfolding rowWith
+    remembered-all h = go (eqb e 0) refl
+      where
+        go : (b : Bool) → eqb e 0 ≡ b → e ≡ rowWith sameAs matrix left right weight rows
+        go false t = rw t at (r .row)
+        go true t = eqb-true e 0 t ∙ sym (exhausted size Z (someOn sameAs matrix left right weight) h) ∙ rw t at (r .row)
+
+    pub remembered-bound : any size Z ≡ false → e ≤ size
+    unfolding rowWith
+    remembered-bound h = uppermost-bound size e _ (remembered-all h)
+
+  -- the exchange by what is found for that row
+  pub equal-found : (rows : ℕ → Bool) (o e : ℕ) → e ≡ rowWith sameAs matrix left right weight rows → o ≡ firstOn sameAs matrix left right weight e
+      → _≡_ {A = Equal} (record { out = o; into = e }) (firstEqual matrix left right weight rows)
+  unfolding firstEqual
+  equal-found rows o e into out = rw (out, into)
 
 -- ── A call that CST does not refuse ──
 
@@ -100,10 +168,10 @@ module _ (c : Call) (e : refusal (cstCauses c) ≡ none) where
           rw (in-upTo size k l (omega (arith, accepted .few-rows)))
       held j k false h = and-false (upTo size k)
 
-  -- so are the rows that are heavier than row i on the path between its ends: none is above m
-  heavier-above : (i k : ℕ) → rowsOf c < k → heavier c i k ≡ false
-  unfolding heavier between oneOf
-  heavier-above i k u = refuted _ (λ h. go (pathColumn c 1 a k) (pathColumn c 1 b k) refl refl (greaterThan-in (weightOf c) (weightOf c i) (between c i) k h .0))
+  -- so are the rows that a search finds on the path between row i's ends: none is above m
+  found-above : (search : Search) → Selected search → (i k : ℕ) → rowsOf c < k → search (weightOf c) (weightOf c i) (between c i) k ≡ false
+  unfolding between oneOf
+  found-above search inside i k u = refuted _ (λ h. go (pathColumn c 1 a k) (pathColumn c 1 b k) refl refl (inside (weightOf c) (weightOf c i) (between c i) k h))
     where
       a : ℕ
       a = inRow 1 (c .left) i
@@ -130,67 +198,113 @@ module _ (c : Call) (e : refusal (cstCauses c) ≡ none) where
   marked-weight = rw (← accepted .mark-length) (claimRows-total (c .mark) (weightIn (c .weight)) (rw (accepted .mark-length) (accepted .few-rows)))
 
 module _ (c : Call) (matrix : List ℕ) (w : Walked c matrix) where
-  -- the heavier rows that the matrix gives for a row of the table are those of the definition
-  heavier-read : (i : ℕ) → 1 ≤ i → i ≤ rowsOf c → heavierIn (weightIn (c .weight)) (weightIn (c .weight) i) matrix (c .left) (c .right) i ≡ heavier c i
-  unfolding heavierIn heavier between weightOf graphOf
-  heavier-read i l u =
-      let ok = sound c (accepted c (w .unrefused)) in
-      let r = in-upTo (rowsOf c) i l u in
-      rw (w .columns (inRow 1 (c .left) i) (ok .left i r .0) (ok .left i r .1), w .columns (inRow 1 (c .right) i) (ok .right i r .0) (ok .right i r .1))
+  module _ (search : Search) (inside : Selected search) where
+    -- the rows that a search finds on the path between row i's ends, and whether row i is unmarked and has one
+    abbrev found : ℕ → ℕ → Bool
+    found i = search (weightOf c) (weightOf c i) (between c i)
 
-  -- the uppermost unmarked row with a heavier row comes in
-  row-in : uppermost size (both (without (upTo (rowsOf c)) (marked (c .mark))) (someHeavier matrix (c .left) (c .right) (c .weight))) ≡ rowIn c
-  unfolding rowIn improves both someHeavier
-  row-in =
-      let few = accepted c (w .unrefused) .few-rows in
-      uppermost-cut size (rowsOf c) _ few outside
-      ∙ uppermost-ext (rowsOf c) _ (improves c) (λ i l u. rw (heavier-read i l u, any-cut size (rowsOf c) (heavier c i) few (heavier-above c (w .unrefused) i)))
-    where
-      outside : (i : ℕ) → rowsOf c < i → (without (upTo (rowsOf c)) (marked (c .mark)) i && someHeavier matrix (c .left) (c .right) (c .weight) i) ≡ false
-      outside i u = refuted _ (λ t. omega (arith, upTo-in (rowsOf c) i (without-in _ _ i (and-eq-true-iff _ _ .0 t .0) .0) .1))
+    abbrev sought : ℕ → Bool
+    sought i = without (upTo (rowsOf c)) (marked (c .mark)) i && any (rowsOf c) (found i)
 
-  -- and the uppermost of its heavier rows goes out
-  row-out : (j : ℕ) → rowIn c ≡ suc j → firstHeavier matrix (c .left) (c .right) (c .weight) (suc j) ≡ rowOut c
-  unfolding rowIn rowOut firstHeavier
-  row-out j h =
-      rw (h, heavier-read (suc j) (omega arith) (uppermost-some (rowsOf c) j (improves c) h .1))
-      (uppermost-cut size (rowsOf c) (heavier c (suc j)) (accepted c (w .unrefused) .few-rows) (heavier-above c (w .unrefused) (suc j)))
+    -- what the matrix gives for a row of the table is that
+    found-read : (i : ℕ) → 1 ≤ i → i ≤ rowsOf c → foundOn search (weightIn (c .weight)) (weightIn (c .weight) i) matrix (c .left) (c .right) i ≡ found i
+    unfolding foundOn between weightOf graphOf
+    found-read i l u =
+        let ok = sound c (accepted c (w .unrefused)) in
+        let r = in-upTo (rowsOf c) i l u in
+        rw (w .columns (inRow 1 (c .left) i) (ok .left i r .0) (ok .left i r .1), w .columns (inRow 1 (c .right) i) (ok .right i r .0) (ok .right i r .1))
+
+    -- the uppermost unmarked row with such a row comes in
+    row-in : rowWith search matrix (c .left) (c .right) (c .weight) (without (upTo (rowsOf c)) (marked (c .mark))) ≡ uppermost (rowsOf c) sought
+    unfolding rowWith both someOn
+    row-in =
+        let few = accepted c (w .unrefused) .few-rows in
+        uppermost-cut size (rowsOf c) _ few outside
+        ∙ uppermost-ext (rowsOf c) _ sought (λ i l u. rw (found-read i l u, any-cut size (rowsOf c) (found i) few (found-above c (w .unrefused) search inside i)))
+      where
+        outside : (i : ℕ) → rowsOf c < i → (without (upTo (rowsOf c)) (marked (c .mark)) i && someOn search matrix (c .left) (c .right) (c .weight) i) ≡ false
+        outside i u = refuted _ (λ t. omega (arith, upTo-in (rowsOf c) i (without-in _ _ i (and-eq-true-iff _ _ .0 t .0) .0) .1))
+
+    -- and the uppermost of what is found for it goes out
+    row-out : (j : ℕ) → uppermost (rowsOf c) sought ≡ suc j → firstOn search matrix (c .left) (c .right) (c .weight) (suc j) ≡ uppermost (rowsOf c) (found (suc j))
+    unfolding firstOn
+    row-out j h =
+        rw (found-read (suc j) (omega arith) (uppermost-some (rowsOf c) j sought h .1))
+        (uppermost-cut size (rowsOf c) (found (suc j)) (accepted c (w .unrefused) .few-rows) (found-above c (w .unrefused) search inside (suc j)))
 
   -- so CST's answer is passed or lighter, by the exchange that is found among the unmarked rows
-  module _ (x : Exchange) (found : x ≡ firstLighter matrix (c .left) (c .right) (c .weight) (without (both (upTo size) (upTo (rowsOf c))) (claimRows (c .mark)))) where
+  module _ (x : Exchange) (lighter-is : x ≡ firstLighter matrix (c .left) (c .right) (c .weight) (without (both (upTo size) (upTo (rowsOf c))) (claimRows (c .mark)))) where
     into-is : x .into ≡ rowIn c
-    unfolding firstLighter exchangeOf
-    into-is = rw (found, unmarked c (w .unrefused)) row-in
+    unfolding firstLighter exchangeOf rowIn improves heavier
+    into-is = rw (lighter-is, unmarked c (w .unrefused)) (row-in greaterThan greater-selected)
 
-    out-is : x .out ≡ firstHeavier matrix (c .left) (c .right) (c .weight) (x .into)
+    out-is : x .out ≡ firstOn greaterThan matrix (c .left) (c .right) (c .weight) (x .into)
     unfolding firstLighter exchangeOf
-    out-is = rw found
+    out-is = rw lighter-is
 
     saving-is : x .saving ≡ natAbs (weightIn (c .weight) (x .out) -ℤ weightIn (c .weight) (x .into))
     unfolding firstLighter exchangeOf
-    saving-is = rw found
+    saving-is = rw lighter-is
 
-    -- passed where no row comes in, with the weight of the marked rows
-    pub passes : x .into ≡ 0 → passed (total size (weightIn (c .weight)) (claimRows (c .mark))) ≡ cst c
-    unfolding cst verdict judged
-    passes e = rw (w .unrefused, marked-weight c (w .unrefused), ← into-is, e)
+    -- lighter where a row comes in, with the two rows and the difference of their weights; then no exchange of equal rows is given
+    lighter-out : (j : ℕ) → rowIn c ≡ suc j → firstOn greaterThan matrix (c .left) (c .right) (c .weight) (suc j) ≡ rowOut c
+    unfolding rowIn rowOut improves heavier
+    lighter-out j h = row-out greaterThan greater-selected j h ∙ ap (λ k. uppermost (rowsOf c) (heavier c k)) (sym h)
 
-    -- else lighter, with the two rows and the difference of their weights
-    pub lightens : (x .into ≡ 0 → ⊥) → lighter (x .out) (x .into) (x .saving) ≡ cst c
+    lighter-answer : (x .into ≡ 0 → ⊥) → lighter (x .out) (x .into) (x .saving) ≡ cst c
     unfolding cst verdict judged weightOf
-    lightens n = rw (w .unrefused) (go (x .into) refl)
+    lighter-answer n = rw (w .unrefused) (go (x .into) refl)
       where
         go : (k : ℕ) → x .into ≡ k → lighter (x .out) (x .into) (x .saving) ≡ judged c (rowIn c) (rowOut c)
         go zero h = absurd (n h)
         go (suc j) h =
             let into : rowIn c ≡ suc j = sym into-is ∙ h in
-            let out : x .out ≡ rowOut c = out-is ∙ rw h (row-out j into) in
+            let out : x .out ≡ rowOut c = out-is ∙ rw h (lighter-out j into) in
             rw (saving-is, h, into, out)
 
+    pub lightens : (x .into ≡ 0 → ⊥) → (lighter (x .out) (x .into) (x .saving) ≡ cst c) × (record { out = 0; into = 0 } ≡ equalRows c)
+    unfolding equalRows rowsBeside
+    lightens n = let e = lighter-answer n in (e, rw (← e))
+
+    -- else passed, with the weight of the marked rows, and yes where no exchange of equal rows is found
+    module _ (y : Equal) (equal-is : y ≡ firstEqual matrix (c .left) (c .right) (c .weight) (without (both (upTo size) (upTo (rowsOf c))) (claimRows (c .mark)))) where
+      equal-into : y .into ≡ equalIn c
+      unfolding firstEqual equalIn replaces equals
+      equal-into = rw (equal-is, unmarked c (w .unrefused)) (row-in sameAs equal-selected)
+
+      equal-out : y .out ≡ firstOn sameAs matrix (c .left) (c .right) (c .weight) (y .into)
+      unfolding firstEqual
+      equal-out = rw equal-is
+
+      equal-row : (j : ℕ) → equalIn c ≡ suc j → firstOn sameAs matrix (c .left) (c .right) (c .weight) (suc j) ≡ equalOut c
+      unfolding equalIn equalOut replaces equals
+      equal-row j h = row-out sameAs equal-selected j h ∙ ap (λ k. uppermost (rowsOf c) (equals c k)) (sym h)
+
+      passed-answer : x .into ≡ 0 → passed (total size (weightIn (c .weight)) (claimRows (c .mark))) (eqb (y .into) 0) ≡ cst c
+      unfolding cst verdict judged only
+      passed-answer e = rw (w .unrefused, marked-weight c (w .unrefused), ← into-is, e, equal-into)
+
+      -- the rows beside it
+      rows-beside : (weight : ℤ) → record { out = y .out; into = y .into } ≡ rowsBeside c (passed weight (eqb (y .into) 0))
+      unfolding rowsBeside
+      rows-beside weight = go (y .into) refl
+        where
+          go : (k : ℕ) → y .into ≡ k → record { out = y .out; into = y .into } ≡ rowsBeside c (passed weight (eqb (y .into) 0))
+          go zero h = rw (equal-out, h, none-first matrix (c .left) (c .right) (c .weight) sameAs equal-selected)
+          go (suc j) h =
+              let out : y .out ≡ equalOut c = equal-out ∙ rw h (equal-row j (sym equal-into ∙ h)) in
+              rw (out, equal-into, ne-eqb (equalIn c) 0 (λ t. omega (arith, equal-into)))
+
+      pub passes : x .into ≡ 0
+          → (passed (total size (weightIn (c .weight)) (claimRows (c .mark))) (eqb (y .into) 0) ≡ cst c)
+          × (record { out = y .out; into = y .into } ≡ equalRows c)
+      unfolding equalRows
+      passes e = let a = passed-answer e in (a, rw (← a) (rows-beside _))
+
 -- what MatrixPath refuses from vertex 1 on a matrix of 4,080 words, CST refuses
-pub refused-walk : (c : Call) (R : List ℕ) → length R ≡ columnWords * maxVertices → (r : Refusal) → some r ≡ matrixPath c 1 R → refused r ≡ cst c
-unfolding cst verdict
-refused-walk c R l r e = rw (← path-refusal c R l, ← e)
+pub refused-walk : (c : Call) (R : List ℕ) → length R ≡ columnWords * maxVertices → (r : Refusal) → some r ≡ matrixPath c 1 R → (refused r ≡ cst c) × (record { out = 0; into = 0 } ≡ equalRows c)
+unfolding cst verdict equalRows rowsBeside
+refused-walk c R l r e = (rw (← path-refusal c R l, ← e), rw (← path-refusal c R l, ← e))
 
 -- and where it is done the matrix has the path columns
 pub done-walk : (c : Call) (R : List ℕ) → length R ≡ columnWords * maxVertices → (matrix : List ℕ) → none ≡ matrixPath c 1 R → matrix ≡ matrixAfter c 1 R → Walked c matrix

@@ -5,16 +5,18 @@ ghost use lib.Signed.{_≤ℤ_};
 ghost use Rattle.rowset.specs.Bytes.{inRow};
 ghost use Rattle.rowset.specs.Columns.{width};
 ghost use Rattle.rowset.specs.Integers.{fromBits};
+ghost use Rattle.rowset.specs.Searches.{greaterThan, sameAs};
 ghost use Rattle.slice.specs.Slices.{size, component};
-ghost use Rattle.star.specs.Cst.{cst};
+ghost use Rattle.star.specs.Cst.{cst, equalRows};
 ghost use Rattle.star.specs.Call.{Call, callOf};
 ghost use Rattle.table.specs.Loads.{loadedRow};
-ghost use Rattle.cst.specs.steps.Paths.{weightIn, integersAfter, heavierIn, exchangeOf, firstLighter, Walked};
+ghost use Rattle.cst.specs.steps.Paths.{weightIn, integersAfter, foundOn, exchangeOf, remembered, firstLighter, firstEqual, Walked};
 ghost use Rattle.cst.specs.steps.Records.{recordOf};
-ghost use Rattle.cst.specs.Verdicts.{answerOf};
+ghost use Rattle.cst.specs.Verdicts.{answerOf, equalRowsOf};
 use checks::row_byte;
 use checks::row_weight;
 use claim::flipped_weight;
+use lent::Compared;
 use refusal::Outcome;
 use refusal::Refusal;
 use slice::Slice;
@@ -27,15 +29,40 @@ pub struct Exchange {
     pub saving: u32,
 }
 
-// The verdict: passed, with the 64 bits of the claim's weight; lighter, with the exchange; or refused, with the refusal.
+// A claim that passes: the 64 bits of its weight, and whether it is the only spanning tree of that weight.
+pub struct Pass {
+    pub weight: u64,
+    pub only: bool,
+}
+
+// The verdict: passed, with the weight and yes or no; lighter, with the exchange; or refused, with the refusal.
 pub enum Verdict {
-    Passed(u64),
+    Passed(Pass),
     Lighter(Exchange),
     Refused(Refusal),
 }
 
-// The rows on the tree path between row i's ends that are heavier than row i. `weights` has the words of the weight column as a table, of which the first columns are left out, and of row i's weight as many bits.
-fn heavier_rows(
+// The verdict with an exchange that gives another tree of the same weight, where the claim passes and there is one: the row that goes out and the row that comes in, else 0 and 0.
+pub struct Checked {
+    pub verdict: Verdict,
+    pub out: u32,
+    pub into: u32,
+}
+
+// An exchange of two rows of equal weight: the row that goes out and the row that comes in, 0 and 0 where there is none.
+struct Equal {
+    out: u32,
+    into: u32,
+}
+
+// What is found among the unmarked rows: the first exchange that makes the claim lighter, and where there is none, the first of two rows of equal weight.
+struct Found {
+    lighter: Exchange,
+    equal: Equal,
+}
+
+// The rows on the tree path between row i's ends that are heavier than row i, and those that weigh as much. `weights` has the words of the weight column as a table, of which the first columns are left out, and of row i's weight as many bits.
+fn compared_rows(
     matrix: &[u64],
     weights: &[u64],
     first: usize,
@@ -43,8 +70,9 @@ fn heavier_rows(
     right: &[u8],
     weight: &[u8],
     i: usize,
-) -> Slice
-    ensures { λ r. ⌜ component r ≡ heavierIn (integersAfter (now (weights .entry)) first) (fromBits (width - first) (inRow 4 (now (weight .entry)) i)) (now (matrix .entry)) (now (left .entry)) (now (right .entry)) i ⌝ }
+) -> Compared
+    ensures greater { λ r. ⌜ component (r .greater) ≡ foundOn greaterThan (integersAfter (now (weights .entry)) first) (fromBits (width - first) (inRow 4 (now (weight .entry)) i)) (now (matrix .entry)) (now (left .entry)) (now (right .entry)) i ⌝ }
+    ensures equal { λ r. ⌜ component (r .equal) ≡ foundOn sameAs (integersAfter (now (weights .entry)) first) (fromBits (width - first) (inRow 4 (now (weight .entry)) i)) (now (matrix .entry)) (now (left .entry)) (now (right .entry)) i ⌝ }
 {
     let node1 = row_byte(left, i) as usize;
     let node2 = row_byte(right, i) as usize;
@@ -68,44 +96,85 @@ fn exchange_of(weight: &[u8], out: usize, into: usize) -> Exchange
     }
 }
 
-// The rows are taken from the top: the first that has a heavier row on the path between its ends comes in, and the uppermost such row goes out. All is 0 where none has. The weight column is one that can be loaded.
-fn first_lighter(matrix: &[u64], left: &[u8], right: &[u8], weight: &[u8], rows: Slice) -> Exchange
+// The row that was found already to have an equal row on its path; else row i, if there are rows equal to it; 0 where there is none.
+fn remember(found: usize, equal: Slice, i: usize) -> usize
+    ensures { λ r. ⌜ r ≡ remembered found (component equal) i ⌝ }
+{
+    if found != 0 {
+        return found;
+    }
+    if slice::zero(equal) { 0 } else { i }
+}
+
+// The rows are taken from the top: the first that has a heavier row on the path between its ends comes in, and the uppermost such row goes out. All is 0 where none has; then the first with a row of equal weight on that path,
+// and the uppermost such row, are the exchange of equal rows. The weight column is one that can be loaded.
+fn first_found(matrix: &[u64], left: &[u8], right: &[u8], weight: &[u8], rows: Slice) -> Found
     requires { ⌜ loadedRow 4 (now weight) ≡ inRow 4 (now weight) ⌝ }
-    ensures { λ r. ⌜ r ≡ firstLighter (now (matrix .entry)) (now (left .entry)) (now (right .entry)) (now (weight .entry)) (component rows) ⌝ }
+    ensures lighter { λ r. ⌜ r .lighter ≡ firstLighter (now (matrix .entry)) (now (left .entry)) (now (right .entry)) (now (weight .entry)) (component rows) ⌝ }
+    ensures equal { λ r. ⌜ (r .lighter .into ≡ 0 → r .equal ≡ firstEqual (now (matrix .entry)) (now (left .entry)) (now (right .entry)) (now (weight .entry)) (component rows)) ⌝ }
 {
     let weights = table::load_quads(weight).table;
     let first = search::sign_columns(weights);
     let stored = lent::columns_of(weights);
     let mut z = rows;
+    let mut into = 0;
     while slice::some(z) {
         let s = slice::step_value(z);
         z = s.slice;
-        let y = heavier_rows(matrix, &stored.columns, first, left, right, weight, s.at);
-        if slice::some(y) {
-            return exchange_of(weight, slice::fnd(y), s.at);
+        let y = compared_rows(matrix, &stored.columns, first, left, right, weight, s.at);
+        let heavier = y.greater;
+        if slice::some(heavier) {
+            return Found {
+                lighter: exchange_of(weight, slice::fnd(heavier), s.at),
+                equal: Equal { out: 0, into: 0 },
+            };
         }
+        let same = y.equal;
+        into = remember(into, same, s.at);
     }
-    Exchange {
-        out: 0,
-        into: 0,
-        saving: 0,
+    let beside = compared_rows(matrix, &stored.columns, first, left, right, weight, into);
+    let equal = beside.equal;
+    Found {
+        lighter: Exchange {
+            out: 0,
+            into: 0,
+            saving: 0,
+        },
+        equal: Equal {
+            out: slice::fnd(equal) as u32,
+            into: into as u32,
+        },
     }
 }
 
 // The verdict on a claim that is a spanning tree, by its path matrix from vertex 1. The weight column is one that can be loaded.
-fn judge(matrix: &[u64], left: &[u8], right: &[u8], weight: &[u8], mark: &[u8]) -> Verdict
+fn judge(matrix: &[u64], left: &[u8], right: &[u8], weight: &[u8], mark: &[u8]) -> Checked
     requires { ⌜ loadedRow 4 (now weight) ≡ inRow 4 (now weight) ⌝ }
     ensures { λ r.
         let call : ℕ → Call = λ n. callOf n (now (left .entry)) (now (right .entry)) (now (weight .entry)) (now (mark .entry)) in
-        ⌜ ((n : ℕ) → Walked (call n) (now (matrix .entry)) → answerOf r ≡ cst (call n)) ⌝ }
+        ⌜ ((n : ℕ) → Walked (call n) (now (matrix .entry)) → (answerOf (r .verdict) ≡ cst (call n)) × (equalRowsOf r ≡ equalRows (call n))) ⌝ }
 {
     let marked = claim::claim_rows(mark);
     let unmarked = difference::without(claim::rows_to(left.len()), marked);
-    let found = first_lighter(matrix, left, right, weight, unmarked);
-    if found.into == 0 {
-        return Verdict::Passed(claim::weigh(weight, marked));
+    let found = first_found(matrix, left, right, weight, unmarked);
+    let lighter = found.lighter;
+    if lighter.into != 0 {
+        return Checked {
+            verdict: Verdict::Lighter(lighter),
+            out: 0,
+            into: 0,
+        };
     }
-    Verdict::Lighter(found)
+    let equal = found.equal;
+    let pass = Pass {
+        weight: claim::weigh(weight, marked),
+        only: equal.into == 0,
+    };
+    Checked {
+        verdict: Verdict::Passed(pass),
+        out: equal.out,
+        into: equal.into,
+    }
 }
 
 // The record of a refusal; number and place are 0 where there is none.
@@ -121,16 +190,33 @@ fn record_of(answer: Outcome) -> Refusal
     refusal
 }
 
-// CST: the verdict on the claim. Where MatrixPath refuses, its refusal is handed on unread.
+// CST with the exchange: the verdict on the claim, and beside a pass that is not the only one the rows of an exchange that gives another tree of the same weight. Where MatrixPath refuses, its refusal is handed on unread.
+pub fn cst_other(n: u32, left: &[u8], right: &[u8], weight: &[u8], mark: &[u8]) -> Checked
+    ensures verdict { λ r.
+        let c = callOf n (now (left .entry)) (now (right .entry)) (now (weight .entry)) (now (mark .entry)) in
+        ⌜ answerOf (r .verdict) ≡ cst c ⌝ }
+    ensures rows { λ r.
+        let c = callOf n (now (left .entry)) (now (right .entry)) (now (weight .entry)) (now (mark .entry)) in
+        ⌜ equalRowsOf r ≡ equalRows c ⌝ }
+{
+    let mut own = [0u64; path::ALL_WORDS];
+    let answer = path::matrix_path(n, left, right, weight, mark, 1, &mut own);
+    let Outcome::Done = answer else {
+        return Checked {
+            verdict: Verdict::Refused(record_of(answer)),
+            out: 0,
+            into: 0,
+        };
+    };
+    judge(&own, left, right, weight, mark)
+}
+
+// CST: the verdict on the claim.
 pub fn cst(n: u32, left: &[u8], right: &[u8], weight: &[u8], mark: &[u8]) -> Verdict
     ensures { λ r.
         let c = callOf n (now (left .entry)) (now (right .entry)) (now (weight .entry)) (now (mark .entry)) in
         ⌜ answerOf r ≡ cst c ⌝ }
 {
-    let mut own = [0u64; path::ALL_WORDS];
-    let answer = path::matrix_path(n, left, right, weight, mark, 1, &mut own);
-    let Outcome::Done = answer else {
-        return Verdict::Refused(record_of(answer));
-    };
-    judge(&own, left, right, weight, mark)
+    let checked = cst_other(n, left, right, weight, mark);
+    checked.verdict
 }

@@ -14,18 +14,20 @@ pub fn of_verdict(v: Verdict) -> Record
     ensures { λ r. ⌜ fieldsOf r ≡ fields (answerOf v) ⌝ }
 {
     match v {
-        Verdict::Passed(weight) => Record {
+        Verdict::Passed(x) => Record {
             kind: 1,
             number: 0,
             out: 0,
             into: 0,
-            amount: weight,
+            only: x.only as u32,
+            amount: x.weight,
         },
         Verdict::Lighter(x) => Record {
             kind: 2,
             number: 0,
             out: x.out,
             into: x.into,
+            only: 0,
             amount: x.saving as u64,
         },
         Verdict::Refused(r) => Record {
@@ -33,6 +35,7 @@ pub fn of_verdict(v: Verdict) -> Record
             number: r.number,
             out: r.place,
             into: 0,
+            only: 0,
             amount: 0,
         },
     }

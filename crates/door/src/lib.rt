@@ -3,3 +3,4 @@
 pub mod cst_door; // cst_door.rt: CST
 pub mod import_door; // import_door.rt: the import
 pub mod mst1_door; // mst1_door.rt: MST1
+pub mod other_door; // other_door.rt: CST with an exchange that gives another tree of the same weight

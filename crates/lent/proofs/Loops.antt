@@ -156,23 +156,23 @@ module _ (c : ℕ → ℕ → Bool) (first w : ℕ) (z₀ : Slice) where
       }
 
 -- what the rows found greater are after j columns, beside the rows in the running
-pub record Compared (c : ℕ → ℕ → Bool) (first w : ℕ) (z₀ g z : Slice) (j : ℕ) : Type 0 where
+pub record Comparing (c : ℕ → ℕ → Bool) (first w : ℕ) (z₀ g z : Slice) (j : ℕ) : Type 0 where
   pub running : Running c first w z₀ z j
   pub greater : (X : ℕ → Bool)
       → component z₀ ≡ equalTo (inColumns c first 0) (w / 2 ^ (32 - first)) X
       → component g ≡ above (inColumns c first (j - first)) (w / 2 ^ (32 - j)) X
 
 module _ (c : ℕ → ℕ → Bool) (first w : ℕ) (z₀ : Slice) where
-  pub compared-start : (g : Slice) → component g ≡ empty → Compared c first w z₀ g z₀ first
+  pub comparing-start : (g : Slice) → component g ≡ empty → Comparing c first w z₀ g z₀ first
   unfolding inColumns
-  compared-start g e = record { running = running-start c first w z₀; greater = λ X h. rw sub-self (e ∙ sym (great-start _ X)) }
+  comparing-start g e = record { running = running-start c first w z₀; greater = λ X h. rw sub-self (e ∙ sym (great-start _ X)) }
 
-  pub compared-more : (g g′ z z′ : Slice) (j : ℕ) → j < 32
+  pub comparing-more : (g g′ z z′ : Slice) (j : ℕ) → j < 32
       → component g′ ≡ grown (digit (w / 2 ^ (32 - 1 - j))) (component g) (component z) (c (j + 1))
       → component z′ ≡ kept (digit (w / 2 ^ (32 - 1 - j))) (component z) (c (j + 1))
-      → Compared c first w z₀ g z j
-      → Compared c first w z₀ g′ z′ (j + 1)
-  compared-more g g′ z z′ j h e d m =
+      → Comparing c first w z₀ g z j
+      → Comparing c first w z₀ g′ z′ (j + 1)
+  comparing-more g g′ z z′ j h e d m =
       record {
         running = running-more c first w z₀ z z′ j h d (m .running);
         greater = λ X s.
@@ -186,26 +186,26 @@ module _ (c : ℕ → ℕ → Bool) (first w : ℕ) (z₀ : Slice) where
             ) e;
       }
 
-  pub compared-all : (g z : Slice) (j : ℕ) (X : ℕ → Bool) → 32 ≤ j
+  pub comparing-all : (g z : Slice) (j : ℕ) (X : ℕ → Bool) → 32 ≤ j
       → component z₀ ≡ equalTo (inColumns c first 0) (w / 2 ^ (32 - first)) X
-      → Compared c first w z₀ g z j
-      → component g ≡ above (inColumns c first (32 - first)) w X
-  compared-all g z j X h s m =
+      → Comparing c first w z₀ g z j
+      → (component g ≡ above (inColumns c first (32 - first)) w X) × (component z ≡ equalTo (inColumns c first (32 - first)) w X)
+  comparing-all g z j X h s m =
       let e : j - first ≡ 32 - first = omega arith in
       let d : 32 - j ≡ 0 = omega arith in
-      rw (← e) (rw (d, div-one) at (m .greater X s))
+      (rw (← e) (rw (d, div-one) at (m .greater X s)), rw (← e) (rw (d, div-one) at (m .running .equal X s)))
 
   -- where no row is in the running any more, the columns that are left change nothing
-  compared-still : (g z : Slice) (j : ℕ) → component z ≡ empty → j < 32 → Compared c first w z₀ g z j → Compared c first w z₀ g z (j + 1)
-  compared-still g z j e h m = compared-more g g z z j h (rw e (sym (grown-none _ _ _))) (rw e (sym (kept-none _ _))) m
+  comparing-still : (g z : Slice) (j : ℕ) → component z ≡ empty → j < 32 → Comparing c first w z₀ g z j → Comparing c first w z₀ g z (j + 1)
+  comparing-still g z j e h m = comparing-more g g z z j h (rw e (sym (grown-none _ _ _))) (rw e (sym (kept-none _ _))) m
 
-  pub compared-none : (g z : Slice) (j : ℕ) (X : ℕ → Bool) → j < 32 → any size (component z) ≡ false
+  pub comparing-none : (g z : Slice) (j : ℕ) (X : ℕ → Bool) → j < 32 → any size (component z) ≡ false
       → component z₀ ≡ equalTo (inColumns c first 0) (w / 2 ^ (32 - first)) X
-      → Compared c first w z₀ g z j
-      → component g ≡ above (inColumns c first (32 - first)) w X
-  compared-none g z j X h e s m =
-      compared-all g z 32 X (omega arith) s
-      (upwards (Compared c first w z₀ g z) j 32 (omega arith) m (λ n l u h. rw add-one at (compared-still g z n (none-left z e) u h)))
+      → Comparing c first w z₀ g z j
+      → (component g ≡ above (inColumns c first (32 - first)) w X) × (component z ≡ equalTo (inColumns c first (32 - first)) w X)
+  comparing-none g z j X h e s m =
+      comparing-all g z 32 X (omega arith) s
+      (upwards (Comparing c first w z₀ g z) j 32 (omega arith) m (λ n l u h. rw add-one at (comparing-still g z n (none-left z e) u h)))
 
 -- what the rows in the running are after j columns of MIN or MAX: those that come first in the columns read, where z₀ is what they were before the first column
 pub record Sought (c : ℕ → ℕ → Bool) (first : ℕ) (high : Bool) (z₀ z : Slice) (j : ℕ) : Type 0 where

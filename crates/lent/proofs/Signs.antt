@@ -1,13 +1,13 @@
 -- The integers that rows hold in bit columns, and the numbers that the loops compare: those of the columns of which the first is turned over.
--- Main statements: the order is the same (integer-order, integer-above), so each search over the integers is one over those numbers (great-turned, min-turned, max-turned).
+-- Main statements: the order is the same (integer-order, integer-above, integer-same), so each search over the integers is one over those numbers (great-turned, same-turned, min-turned, max-turned).
 -- Assumes nothing.
 use Prim.Native.Nat.{ℕ, zero, suc, _+_, _-_, _*_, _/_, _%_, _^_, _≤_, _<_}
-use borrow.Author.Tests.{ltb-true, ltb-false, lt-ltb, le-ltb, eqb-true, eq-eqb, ne-eqb}
+use borrow.Author.Tests.{ltb-true, ltb-false, lt-ltb, le-ltb, eqb-true, eqb-false, eq-eqb, ne-eqb}
 use lib.Dec.{eqb, ltb}
 use lib.IntN.{ℤ, pos, _-ℤ_}
 use lib.Pow.{pow-mono}
-use lib.Signed.{ltZ}
-use mathlib.Core.Bool.{Bool, true, false, not, cond, _&&_}
+use lib.Signed.{leZ, ltZ}
+use mathlib.Core.Bool.{Bool, true, false, not, cond, _&&_, and-eq-true-iff}
 use mathlib.Core.Logic.{_≢_}
 use mathlib.Core.Path.{_≡_, refl, sym, ap, _∙_, fun-ext}
 use native.Mathlib.Nat.{pow-suc, mod-lt, div-eq-of-lt}
@@ -16,13 +16,13 @@ use native.Mathlib.Omega.{arith}
 use Rattle.lent.proofs.Columns.{number-one}
 use Rattle.lent.proofs.Steps.{match-start}
 use Rattle.lent.specs.steps.Column.{turned, turnedBits, above, extreme}
-use Rattle.rowset.proofs.Integers.{up, down, integers, minus, pos-parts, lt-ltZ, le-ltZ}
-use Rattle.rowset.proofs.Laws.{any-ext, in-upTo}
+use Rattle.rowset.proofs.Integers.{up, down, integers, minus, pos-parts, leZ-true, lt-ltZ, le-leZ, le-ltZ}
+use Rattle.rowset.proofs.Laws.{any-ext, in-upTo, refuted}
 use Rattle.rowset.proofs.Numbers.{number-split, number-below}
 use Rattle.rowset.proofs.Signed.{small-bits}
 use Rattle.rowset.specs.Columns.{inColumns}
 use Rattle.rowset.specs.Integers.{fromBits, integerIn}
-use Rattle.rowset.specs.Searches.{equalTo, greaterThan, smallest, largest}
+use Rattle.rowset.specs.Searches.{equalTo, greaterThan, sameAs, smallest, largest}
 use Rattle.rowset.specs.Sets.{upTo, without, any}
 use Rattle.slice.specs.Slices.{size}
 
@@ -156,6 +156,44 @@ module _ (c : ℕ → ℕ → Bool) (first : ℕ) where
   integer-above zero w i l u = let e : w % 1 ≡ 0 = omega arith in rw e
   integer-above (suc k) w i l u = above-some k w i l u
 
+  -- and so are the integers equal where the numbers are
+  same-some : (k w i : ℕ) → 1 ≤ i → i ≤ size
+      → (leZ (integerIn c first (suc k) i) (fromBits (suc k) w) && leZ (fromBits (suc k) w) (integerIn c first (suc k) i))
+      ≡ eqb (inColumns (turned first c) first (suc k) i) (turnedBits (suc k) w)
+  same-some k w i l u = go (eqb a b) refl
+    where
+      a : ℕ
+      a = inColumns (turned first c) first (suc k) i
+
+      b : ℕ
+      b = turnedBits (suc k) w
+
+      x : ℤ
+      x = integerIn c first (suc k) i
+
+      y : ℤ
+      y = fromBits (suc k) w
+
+      go : (t : Bool) → eqb a b ≡ t → (leZ x y && leZ y x) ≡ t
+      go true e =
+          let d = eqb-true a b e in
+          rw (
+            le-leZ x y (omega (arith, integers, d, word-parts k w, integer-parts k i l u)),
+            le-leZ y x (omega (arith, integers, d, word-parts k w, integer-parts k i l u)),
+          )
+      go false e =
+          refuted _
+          (λ h.
+          let (low, high) = and-eq-true-iff (leZ x y) _ .0 h in
+          eqb-false a b e (omega (arith, integers, leZ-true x y low, leZ-true y x high, word-parts k w, integer-parts k i l u)))
+
+  integer-same : (k w i : ℕ) → 1 ≤ i → i ≤ size
+      → (leZ (integerIn c first k i) (fromBits k w) && leZ (fromBits k w) (integerIn c first k i))
+      ≡ eqb (inColumns (turned first c) first k i) (turnedBits k w)
+  unfolding integerIn fromBits turnedBits inColumns
+  integer-same zero w i l u = let e : w % 1 ≡ 0 = omega arith in rw e
+  integer-same (suc k) w i l u = same-some k w i l u
+
   -- X selects only rows of 1 to 1,024
   module _ (X : ℕ → Bool) (inside : (i : ℕ) → X i ≡ true → (1 ≤ i) × (i ≤ size)) (k : ℕ) where
     same-where : (i : ℕ) (p q : Bool) → (X i ≡ true → p ≡ q) → (X i && p) ≡ (X i && q)
@@ -168,6 +206,10 @@ module _ (c : ℕ → ℕ → Bool) (first : ℕ) where
     pub great-turned : {v : ℕ} (w : ℕ) → v ≡ turnedBits k w → above (inColumns (turned first c) first k) v X ≡ greaterThan (integerIn c first k) (fromBits k w) X
     unfolding greaterThan above
     great-turned w h = rw h (fun-ext (λ i. same-where i _ _ (λ e. let (l, u) = inside i e in sym (integer-above k w i l u))))
+
+    pub same-turned : {v : ℕ} (w : ℕ) → v ≡ turnedBits k w → equalTo (inColumns (turned first c) first k) v X ≡ sameAs (integerIn c first k) (fromBits k w) X
+    unfolding sameAs equalTo
+    same-turned w h = rw h (fun-ext (λ i. same-where i _ _ (λ e. let (l, u) = inside i e in sym (integer-same k w i l u))))
 
     smaller-any : (i : ℕ) → X i ≡ true
         → any size (λ n. X n && ltZ (integerIn c first k n) (integerIn c first k i))

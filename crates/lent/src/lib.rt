@@ -9,7 +9,7 @@ ghost use Prim.Native.Nat.{_+_, _-_, _/_, _^_, _<_};
 ghost use Rattle.rowset.specs.Columns.{width, inColumns};
 ghost use Rattle.rowset.specs.Counts.{equalRight, readWithin};
 ghost use Rattle.rowset.specs.Integers.{fromBits, integerIn};
-ghost use Rattle.rowset.specs.Searches.{equalTo, greaterThan, smallest, largest};
+ghost use Rattle.rowset.specs.Searches.{equalTo, greaterThan, sameAs, smallest, largest};
 ghost use Rattle.matrix.specs.Matrix.{matrixColumn};
 ghost use Rattle.slice.specs.Slices.{size, component};
 ghost use Rattle.table.specs.Tables.{column};
@@ -33,6 +33,12 @@ pub struct Stored {
 pub struct Matched {
     pub rows: Slice,
     pub read: usize,
+}
+
+// What GREAT gives: the rows that are greater than the number compared with, and those that equal it.
+pub struct Compared {
+    pub greater: Slice,
+    pub equal: Slice,
 }
 
 // The columns of a table, to be lent.
@@ -175,9 +181,10 @@ fn turned_bits(first: usize, w: u32) -> u32
     }
 }
 
-// GREAT: the selected rows that are greater than w, of which as many last digits are looked at as there are columns. Beside the rows found greater, g, it carries the rows that are equal so far, z, and stops where there are none.
-pub fn great_from(columns: &[u64], first: usize, w: u32, x: Slice) -> Slice
-    ensures { λ r. ⌜ component r ≡ greaterThan (integerIn (matrixColumn (now (columns .entry))) first (width - first)) (fromBits (width - first) w) (component x) ⌝ }
+// GREAT: the selected rows that are greater than w, of which as many last digits are looked at as there are columns, and those that equal it. Beside the rows found greater, g, it carries the rows that are equal so far, z, and stops where there are none.
+pub fn great_from(columns: &[u64], first: usize, w: u32, x: Slice) -> Compared
+    ensures greater { λ r. ⌜ component (r .greater) ≡ greaterThan (integerIn (matrixColumn (now (columns .entry))) first (width - first)) (fromBits (width - first) w) (component x) ⌝ }
+    ensures equal { λ r. ⌜ component (r .equal) ≡ sameAs (integerIn (matrixColumn (now (columns .entry))) first (width - first)) (fromBits (width - first) w) (component x) ⌝ }
 {
     let v = turned_bits(first, w);
     let mut g = Slice::empty();
@@ -185,7 +192,10 @@ pub fn great_from(columns: &[u64], first: usize, w: u32, x: Slice) -> Slice
     let mut j = first;
     while j < WIDTH {
         if slice::zero(z) {
-            return g;
+            return Compared {
+                greater: g,
+                equal: z,
+            };
         }
         let digit = WIDTH - 1 - j;
         let b = (v >> digit) % 2 == 1;
@@ -194,7 +204,10 @@ pub fn great_from(columns: &[u64], first: usize, w: u32, x: Slice) -> Slice
         z = keep(z, c, b);
         j += 1;
     }
-    g
+    Compared {
+        greater: g,
+        equal: z,
+    }
 }
 
 // MAX where `high` is true and MIN where it is not.

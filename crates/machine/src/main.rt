@@ -1,5 +1,6 @@
 // Runs the machine on cases whose results are known from outside, and prints what it gives; the file stdout has what it should print.
 // Standard input has a line for each case: what is printed before its result.
+use lent::Compared;
 use lent::Matched;
 use libc::STDIN_FILENO;
 use libc::STDOUT_FILENO;
@@ -232,17 +233,26 @@ fn six() -> Slice {
     x
 }
 
+// GREAT whole: the rows that it found greater, and those that it found equal.
+fn compared(c: Compared) {
+    label();
+    positions(c.greater, true);
+    text(b", equal");
+    positions(c.equal, true);
+    text(b"\n");
+}
+
 fn searches(t: Table, x: Slice) {
     show(search::match_rows(t, 5, x));
     show(search::match_rows(t, 4294967295, x));
     show(search::match_rows(t, 2, x));
     show(search::min(t, x));
     show(search::max(t, x));
-    show(search::great(t, 0, x));
-    show(search::great(t, 3, x));
-    show(search::great(t, 4, x));
-    show(search::great(t, 5, x));
-    show(search::great(t, 4294967295, x));
+    compared(search::great(t, 0, x));
+    compared(search::great(t, 3, x));
+    compared(search::great(t, 4, x));
+    compared(search::great(t, 5, x));
+    compared(search::great(t, 4294967295, x));
 }
 
 // MATCH whole: the number of columns that it read, and the rows that it found.
@@ -269,7 +279,9 @@ fn all_selected(t: Table, x: Slice) {
     summary(search::match_rows(t, 0, x));
     summary(search::min(t, x));
     show(search::max(t, x));
-    show(search::great(t, 0, x));
+    let c = search::great(t, 0, x);
+    show(c.greater);
+    summary(c.equal);
 }
 
 fn operations(x: Slice, y: Slice) {

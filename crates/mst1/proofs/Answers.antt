@@ -1,10 +1,10 @@
 -- MST1's answer and marks in each of its three cases: the table is refused, there is no tree, or a tree is built.
 -- Assumes nothing.
 use Prim.Native.Nat.{ℕ, _≤_, _<_}
-use mathlib.Core.Bool.{Bool, true, false, not, _&&_, and-false}
+use mathlib.Core.Bool.{Bool, true, false, not}
 use mathlib.Core.List.{List, [], _∷_, _++_}
 use mathlib.Core.Option.{Option, none, some}
-use mathlib.Core.Path.{_≡_, refl, sym, _∙_, ap, fun-ext}
+use mathlib.Core.Path.{_≡_, refl, sym, _∙_, ap}
 use borrow.Author.Tests.{not-true, not-false}
 use lib.ListN.{length}
 use native.Mathlib.Nat.{mod-one, mul-mod-right}
@@ -17,14 +17,14 @@ use Rattle.refusal.specs.declared.Outcome.the-variants.{Done, Refused}
 use Rattle.refusal.specs.declared.Refusal.{Refusal}
 use Rattle.rowset.specs.Bytes.{inRow}
 use Rattle.rowset.specs.Integers.{fromBits, signed, total}
-use Rattle.rowset.specs.Sets.{empty, upTo, both}
+use Rattle.rowset.specs.Sets.{empty}
 use Rattle.rowset.proofs.Integers.{total-cut}
-use Rattle.rowset.proofs.Laws.{refuted, upTo-in, in-upTo}
+use Rattle.rowset.proofs.Laws.{refuted}
 use Rattle.slice.specs.Slices.{size}
-use Rattle.star.specs.Call.{Call, rowsOf, graphOf, weightOf, claimOf}
+use Rattle.star.specs.Call.{Call, rowsOf, used, graphOf, weightOf, claimOf}
 use Rattle.star.specs.Mst1.{BuildAnswer, unbuilt, treeBuilt, chosenRows, treeRows, built, builtMarks, mst1, mst1Marks}
 use Rattle.star.specs.Refusals.{cause, isNone, noTree, tableCauses, mst1Causes, refusal, orElse, Accepted}
-use Rattle.star.proofs.Accepted.{refusal-append, taken, sound}
+use Rattle.star.proofs.Accepted.{refusal-append, taken, used-row, sound}
 use Rattle.table.specs.Loads.{loadedRow}
 use Rattle.table.proofs.Loads.{load-taken, loaded-taken}
 use Rattle.mst1.specs.steps.Growth.{loadedGraph, Grows}
@@ -36,17 +36,6 @@ unfolding refusal orElse
 refusal-first [] ys r e = cc
 refusal-first (none ∷ xs) ys r e = refusal-first xs ys r e
 refusal-first (some q ∷ xs) ys r e = e
-
--- the positions up to m, of those up to 1,024
-rows-within : (m : ℕ) → m ≤ size → both (upTo size) (upTo m) ≡ upTo m
-unfolding both
-rows-within m h = fun-ext (λ i. go i (upTo m i) refl)
-  where
-    go : (i : ℕ) (b : Bool) → upTo m i ≡ b → (upTo size i && b) ≡ b
-    go i true e =
-        let (l, u) = upTo-in m i e in
-        rw (in-upTo size i l (omega arith))
-    go i false e = and-false (upTo size i)
 
 -- MST1 gives this answer and leaves these marks
 abbrev pub Ends : Call → BuildAnswer → List ℕ → Type 0
@@ -70,18 +59,22 @@ module _ (c : Call) where
     accepted = sym checked ∙ ap refusalOf done
 
     -- the tree that grows on the loaded tables is the tree of the table
-    loaded-tree : tree (loadedGraph (c .n) (c .left) (c .right)) (λ i. signed (loadedRow 4 (c .weight) i)) ≡ tree (graphOf c) (weightOf c)
-    unfolding graphOf weightOf
+    loaded-tree : tree (loadedGraph (c .n) (c .m) (c .inUse) (c .left) (c .right)) (λ i. signed (loadedRow 4 (c .weight) i)) ≡ tree (graphOf c) (weightOf c)
+    unfolding graphOf weightOf used
     loaded-tree =
         let t = taken c accepted in
         let few : rowsOf c ≤ size = t .few-rows in
         rw (
-          loaded-taken 1 (c .left) (load-taken 1 (c .left) (omega arith) (mod-one (rowsOf c))),
+          loaded-taken 1 (c .left) (load-taken 1 (c .left) (omega (arith, t .left-length)) (mod-one (length (c .left)))),
           loaded-taken 1 (c .right) (load-taken 1 (c .right) (omega (arith, t .right-length)) (mod-one (length (c .right)))),
           loaded-taken 4 (c .weight) (load-taken 4 (c .weight) (omega (arith, t .weight-length)) (rw (t .weight-length) (mul-mod-right 4 (rowsOf c)))),
-          rows-within (rowsOf c) few,
         )
-        (tree-cut (graphOf c) (weightOf c) size few (λ i u. refuted _ (λ h. omega (arith, upTo-in (rowsOf c) i h))))
+        (tree-cut (graphOf c) (weightOf c) size few (λ i u. refuted _ (past i u)))
+      where
+        past : (i : ℕ) → rowsOf c < i → used c i ≡ true → ⊥
+        past i u h =
+            let (l, p, x) = used-row c i h in
+            omega arith
 
     -- the chosen rows are rows of the table
     tree-inside : (i : ℕ) → rowsOf c < i → treeRows c i ≡ false
@@ -90,7 +83,10 @@ module _ (c : Call) where
       where
         go : (o : Option Fragment) → tree (graphOf c) (weightOf c) ≡ o → chosenRows o i ≡ false
         go none e = refl
-        go (some f) e = refuted _ (λ h. omega (arith, upTo-in (rowsOf c) i (built-spanning (graphOf c) (sound c (taken c accepted)) (weightOf c) f e .inside i h)))
+        go (some f) e =
+            refuted _ (λ h.
+            let (l, p, x) = used-row c i (built-spanning (graphOf c) (sound c (taken c accepted)) (weightOf c) f e .inside i h) in
+            omega arith)
 
     -- of the causes only the last is left
     last-cause : (b : Bool) → isNone (tree (graphOf c) (weightOf c)) ≡ b → refusal (mst1Causes c) ≡ cause b 11 0
@@ -98,7 +94,7 @@ module _ (c : Call) where
     last-cause true e = refusal-append (tableCauses c) (noTree c ∷ []) accepted ∙ rw e
     last-cause false e = refusal-append (tableCauses c) (noTree c ∷ []) accepted ∙ rw e
 
-    module _ {whole : Bool} {chosen : ℕ → Bool} (g : Grows (loadedGraph (c .n) (c .left) (c .right)) (λ i. signed (loadedRow 4 (c .weight) i)) whole chosen) where
+    module _ {whole : Bool} {chosen : ℕ → Bool} (g : Grows (loadedGraph (c .n) (c .m) (c .inUse) (c .left) (c .right)) (λ i. signed (loadedRow 4 (c .weight) i)) whole chosen) where
       -- whether a tree was grown says whether there is one
       whole-tree : not (isNone (tree (graphOf c) (weightOf c))) ≡ whole
       whole-tree = rw (← loaded-tree) (sym (g .all))

@@ -9,14 +9,18 @@ ghost use Rattle.rowset.specs.Sets.{empty, either, uppermost};
 ghost use Rattle.matrix.specs.Matrix.{matrixColumn};
 ghost use Rattle.slice.specs.Slices.{size, component, written};
 ghost use Rattle.star.specs.Mst1.{mst1, mst1Marks};
-ghost use Rattle.star.specs.Call.{callOf};
+ghost use Rattle.star.specs.Call.{tableOf, callOf, workOf};
 ghost use Rattle.table.specs.Loads.{loadedRow};
 ghost use Rattle.table.specs.Tables.{width, column, row};
 ghost use Rattle.mst1.specs.steps.Growth.{graphOn, loadedGraph, Grows, Reached, meeting};
 ghost use Rattle.mst1.specs.Answers.{answerOf};
 use refusal::Outcome;
 use refusal::Refusal;
+use slice::SIZE;
 use slice::Slice;
+use slice::WORDS;
+use slice::rows::rows_to;
+use slice::words::rows_in_use;
 use table::Table;
 
 // What MST1 answers: the tree's weight, as the 64 bits that stand for it in two's complement, or the refusal.
@@ -160,9 +164,9 @@ pub fn grow_tree(left: Table, right: Table, weight: Table, rows: Slice, n: usize
     grow_from(left, right, weight, rows, n, start)
 }
 
-// The tree of n vertices over the rows of the left column, grown on the columns as tables.
-fn tree_of(n: u32, left: &[u8], right: &[u8], weight: &[u8]) -> Grown
-    ensures { λ r. ⌜ Grows (loadedGraph n (now (left .entry)) (now (right .entry))) (λ i. signed (loadedRow 4 (now (weight .entry)) i)) (r .whole) (component (r .chosen)) ⌝ }
+// The tree of n vertices over the rows of a slice among the first m, grown on the columns as tables.
+fn tree_of(n: u32, m: usize, rows: Slice, left: &[u8], right: &[u8], weight: &[u8]) -> Grown
+    ensures { λ r. ⌜ Grows (loadedGraph n m (component rows) (now (left .entry)) (now (right .entry))) (λ i. signed (loadedRow 4 (now (weight .entry)) i)) (r .whole) (component (r .chosen)) ⌝ }
 {
     let lefts = table::load_bytes(left);
     let rights = table::load_bytes(right);
@@ -171,21 +175,30 @@ fn tree_of(n: u32, left: &[u8], right: &[u8], weight: &[u8]) -> Grown
         lefts.table,
         rights.table,
         weights.table,
-        claim::rows_to(left.len()),
+        slice::rows::rows_among(m, rows),
         n as usize,
     )
 }
 
-// MST1: the refusal, and the marks stay as they were; or the tree's weight, and the marks are 1 for each chosen row and 0 for every other.
-pub fn mst1(n: u32, left: &[u8], right: &[u8], weight: &[u8], mark: &mut [u8]) -> Built
+// MST1 over a table of m rows, of which those of a slice are in use: the refusal, and the marks stay as they were; or the tree's weight, and the marks are 1 for each chosen row and 0 for every other.
+pub fn mst1_rows(
+    n: u32,
+    m: usize,
+    whole: bool,
+    rows: Slice,
+    left: &[u8],
+    right: &[u8],
+    weight: &[u8],
+    mark: &mut [u8],
+) -> Built
     ensures { λ r.
-        let c = callOf n (now (left .entry)) (now (right .entry)) (now (weight .entry)) (now (mark .entry)) in
+        let c = tableOf n m whole (component rows) (now (left .entry)) (now (right .entry)) (now (weight .entry)) (now (mark .entry)) in
         ⌜ (answerOf r ≡ mst1 c) × (now (mark .exit) ≡ mst1Marks c) ⌝ }
 {
-    if let Outcome::Refused(refusal) = checks::table_check(n, left, right, weight, mark) {
+    if let Outcome::Refused(refusal) = checks::table_check(n, m, whole, rows, left, right, weight, mark) {
         return Built::Refused(refusal);
     }
-    let tree = tree_of(n, left, right, weight);
+    let tree = tree_of(n, m, rows, left, right, weight);
     if !tree.whole {
         return Built::Refused(Refusal {
             number: 11,
@@ -194,4 +207,31 @@ pub fn mst1(n: u32, left: &[u8], right: &[u8], weight: &[u8], mark: &mut [u8]) -
     }
     claim::write_claim(mark, tree.chosen);
     Built::Tree(claim::weigh(weight, tree.chosen))
+}
+
+// MST1 over a plain table: a row for each byte of the left column, all in use.
+pub fn mst1(n: u32, left: &[u8], right: &[u8], weight: &[u8], mark: &mut [u8]) -> Built
+    ensures { λ r.
+        let c = callOf n (now (left .entry)) (now (right .entry)) (now (weight .entry)) (now (mark .entry)) in
+        ⌜ (answerOf r ≡ mst1 c) × (now (mark .exit) ≡ mst1Marks c) ⌝ }
+{
+    let m = left.len();
+    mst1_rows(n, m, true, rows_to(m), left, right, weight, mark)
+}
+
+// MST1 over a working table: 1,024 rows, and the rows in use lent as sixteen words. The marks of rows that are not in use become 0.
+pub fn work_mst1(
+    n: u32,
+    words: &[u64],
+    left: &[u8],
+    right: &[u8],
+    weight: &[u8],
+    mark: &mut [u8],
+) -> Built
+    ensures { λ r.
+        let c = workOf n (now (words .entry)) (now (left .entry)) (now (right .entry)) (now (weight .entry)) (now (mark .entry)) in
+        ⌜ (answerOf r ≡ mst1 c) × (now (mark .exit) ≡ mst1Marks c) ⌝ }
+{
+    let whole = words.len() == WORDS;
+    mst1_rows(n, SIZE, whole, rows_in_use(words), left, right, weight, mark)
 }

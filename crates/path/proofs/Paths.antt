@@ -17,30 +17,27 @@ use Rattle.graph.proofs.Reach.{walk-then, walk-back}
 use Rattle.graph.proofs.Trail.{trail-vertices, trail-columns}
 use Rattle.rowset.specs.Bytes.{inRow}
 use Rattle.rowset.specs.Words.{columnWords, columnWordsFrom, matrixWords}
-use Rattle.rowset.proofs.Laws.{in-upTo}
+use Rattle.rowset.proofs.Members.{both-in}
 use Rattle.matrix.proofs.Laws.{columns-whole}
-use Rattle.star.specs.Call.{Call, rowsOf, graphOf, marked}
+use Rattle.star.specs.Call.{Call, used, graphOf, marked, claimed}
 use Rattle.star.specs.MatrixPath.{pathColumn}
 use Rattle.star.specs.Refusals.{badCount, unjoined}
 use Rattle.star.proofs.Accepted.{Taken, sound, cause-none, causeAt-none}
-use Rattle.star.proofs.Claims.{marked-row}
 use Rattle.path.specs.steps.Walks.{State, walk}
 use Rattle.path.proofs.Walks.{Shows, walk-shows}
 
 -- the walk of n steps from s over the marked rows
 abbrev pub walked : Call → ℕ → List ℕ → State
-walked c s words = walk (inRow 1 (c .left)) (inRow 1 (c .right)) (marked (c .mark)) s words (c .n)
+walked c s words = walk (inRow 1 (c .left)) (inRow 1 (c .right)) (claimed c) s words (c .n)
 
 module _ (c : Call) (t : Taken c) (s : ℕ) (low : 1 ≤ s) (high : s ≤ c .n) where
   -- the rows that the claim marks are rows of the table
-  inside : Inside (graphOf c) (marked (c .mark))
-  unfolding graphOf
-  inside i e =
-      let h = marked-row (c .mark) i e in
-      in-upTo (rowsOf c) i (h .0) (omega (arith, h .1, t .mark-length))
+  inside : Inside (graphOf c) (claimed c)
+  unfolding graphOf claimed
+  inside i e = both-in (used c) (marked (c .mark)) i e .0
 
   -- a claim with n − 1 marks whose rows join every vertex to s is a spanning tree
-  pub joined-tree : badCount c ≡ none → unjoined c s ≡ none → SpanningTree (graphOf c) (marked (c .mark))
+  pub joined-tree : badCount c ≡ none → unjoined c s ≡ none → SpanningTree (graphOf c) (claimed c)
   unfolding badCount unjoined graphOf
   joined-tree marks joins =
       record {
@@ -49,29 +46,29 @@ module _ (c : Call) (t : Taken c) (s : ℕ) (low : 1 ≤ s) (high : s ≤ c .n) 
         reached = λ v l h. walk-then (walk-back (from 1 (omega arith) (t .some-vertex))) (from v l h);
       }
     where
-      from : (v : ℕ) → 1 ≤ v → v ≤ c .n → Walk (graphOf c) (marked (c .mark)) s v
-      from = unjoined-none (graphOf c) (sound c t) (marked (c .mark)) inside s low high (causeAt-none 10 _ joins)
+      from : (v : ℕ) → 1 ≤ v → v ≤ c .n → Walk (graphOf c) (claimed c) s v
+      from = unjoined-none (graphOf c) (sound c t) (claimed c) inside s low high (causeAt-none 10 _ joins)
 
   module _ (words : List ℕ) (room : columnWords * c .n ≤ length words) where
     -- the walk shows the trail
-    shown : Shows (graphOf c) (marked (c .mark)) (trail (graphOf c) (marked (c .mark)) s (c .n)) (walked c s words)
+    shown : Shows (graphOf c) (claimed c) (trail (graphOf c) (claimed c) s (c .n)) (walked c s words)
     unfolding graphOf
-    shown = walk-shows (graphOf c) (sound c t) (marked (c .mark)) inside (omega (arith, t .few-vertices)) (t .few-rows) s low high words room (c .n)
+    shown = walk-shows (graphOf c) (sound c t) (claimed c) inside (omega (arith, t .few-vertices)) (t .few-rows) s low high words room (c .n)
 
     -- the vertices reached are those joined to s
-    pub walked-joined : walked c s words .reached ≡ joined (graphOf c) (marked (c .mark)) s
+    pub walked-joined : walked c s words .reached ≡ joined (graphOf c) (claimed c) s
     unfolding graphOf joined
-    walked-joined = shown .reached ∙ trail-vertices (graphOf c) (marked (c .mark)) s (c .n)
+    walked-joined = shown .reached ∙ trail-vertices (graphOf c) (claimed c) s (c .n)
 
     -- over a spanning tree the first 16 · n words are the tree paths from s
-    pub walked-paths : SpanningTree (graphOf c) (marked (c .mark)) → take (columnWords * c .n) (walked c s words .words) ≡ matrixWords (pathColumn c s) (c .n)
+    pub walked-paths : SpanningTree (graphOf c) (claimed c) → take (columnWords * c .n) (walked c s words .words) ≡ matrixWords (pathColumn c s) (c .n)
     unfolding pathColumn graphOf
     walked-paths tree =
         columns-whole (pathColumn c s) (c .n) (walked c s words .words)
         (λ v l h. shown .columns v (reached v l h)
-        ∙ ap (λ (p : ℕ → Bool). columnWordsFrom p 0 columnWords) (trail-columns (graphOf c) (sound c t) (marked (c .mark)) tree s low high (c .n) v (reached v l h)))
+        ∙ ap (λ (p : ℕ → Bool). columnWordsFrom p 0 columnWords) (trail-columns (graphOf c) (sound c t) (claimed c) tree s low high (c .n) v (reached v l h)))
       where
-        reached : (v : ℕ) → 1 ≤ v → v ≤ c .n → trail (graphOf c) (marked (c .mark)) s (c .n) .vertices v ≡ true
+        reached : (v : ℕ) → 1 ≤ v → v ≤ c .n → trail (graphOf c) (claimed c) s (c .n) .vertices v ≡ true
         reached v l h =
             ap (λ (p : ℕ → Bool). p v) (sym (shown .reached) ∙ walked-joined)
-            ∙ tree-joined (graphOf c) (sound c t) (marked (c .mark)) tree s v low high l h
+            ∙ tree-joined (graphOf c) (sound c t) (claimed c) tree s v low high l h

@@ -16,7 +16,7 @@ use Rattle.refusal.specs.declared.Refusal.{Refusal}
 use Rattle.rowset.specs.Bytes.{inRow}
 use Rattle.rowset.specs.Words.{columnWords, matrixWords}
 use Rattle.rowset.proofs.Laws.{clash}
-use Rattle.star.specs.Call.{Call, rowsOf}
+use Rattle.star.specs.Call.{Call, rowsOf, used, claimed}
 use Rattle.star.specs.MatrixPath.{matrixPath, matrixOr, matrixAfter, pathColumn}
 use Rattle.star.specs.Refusals.{maxVertices, tableCauses, badClaim, badSource, shortMatrix, badCount, unreached, unjoined, beforeWalk, orElse, refusal, matrixPathCauses}
 use Rattle.star.proofs.Accepted.{Taken, taken, none-head, none-tail, cause-none}
@@ -100,15 +100,16 @@ module _ (c : Call) (s : ℕ) (R : List ℕ) (o : Outcome) (done : o ≡ Done) (
   module _ (own : List ℕ) (all : length own ≡ columnWords * maxVertices) where
     -- the walk on the loaded columns is that on the byte columns
     abbrev after : State
-    after = claimWalk (c .n) (c .left) (c .right) (c .mark) s own
+    after = claimWalk (c .n) (c .m) (c .inUse) (c .left) (c .right) (c .mark) s own
 
     loaded : (l : List ℕ) → length l ≡ rowsOf c → loadedRow 1 l ≡ inRow 1 l
     loaded l h = loaded-taken 1 l (load-taken 1 l (omega (arith, t .few-rows)) (omega arith))
 
     same-walk : after ≡ walked c s own
+    unfolding claimed used
     same-walk =
         let rows = claimRows-marked (c .mark) (omega (arith, t .few-rows, t .mark-length)) in
-        rw (loaded (c .left) refl, loaded (c .right) (t .right-length), rows)
+        rw (loaded (c .left) (t .left-length), loaded (c .right) (t .right-length), rows)
 
     room : columnWords * c .n ≤ length own
     room = omega (arith, t .few-vertices)

@@ -7,7 +7,7 @@ ghost use Rattle.refusal.specs.Outcomes.{refusalOf};
 ghost use Rattle.slice.specs.Slices.{size, component};
 ghost use Rattle.star.specs.MatrixPath.{matrixPath, matrixAfter};
 ghost use Rattle.star.specs.Refusals.{wrongSource, fewWords, unreached, beforeWalk, refusal};
-ghost use Rattle.star.specs.Call.{callOf};
+ghost use Rattle.star.specs.Call.{tableOf, callOf, workOf};
 ghost use Rattle.table.specs.Loads.{loadedRow};
 ghost use Rattle.path.specs.steps.Walks.{endsIn, stateOf, arrive, pass, along, step, walk, claimWalk};
 use checks::first;
@@ -16,6 +16,9 @@ use checks::refused_if;
 use lent::Stored;
 use refusal::Outcome;
 use slice::Slice;
+use slice::rows::rows_among;
+use slice::rows::rows_to;
+use slice::words::rows_in_use;
 
 // The words of a column of a path matrix, and of a matrix with as many columns as there can be vertices.
 const WORDS: usize = 16;
@@ -144,9 +147,12 @@ fn call_check(n: u32, s: u32, words: usize) -> Outcome
     first(source, refused_if(words < WORDS * n as usize, 8))
 }
 
-// Causes 1 to 4 and 6 to 9.
+// Causes 1 to 4, 15 and 6 to 9.
 fn path_check(
     n: u32,
+    m: usize,
+    whole: bool,
+    rows: Slice,
     left: &[u8],
     right: &[u8],
     weight: &[u8],
@@ -155,15 +161,15 @@ fn path_check(
     words: usize,
 ) -> Outcome
     ensures { λ r.
-        let c = callOf n (now (left .entry)) (now (right .entry)) (now (weight .entry)) (now (mark .entry)) in
+        let c = tableOf n m whole (component rows) (now (left .entry)) (now (right .entry)) (now (weight .entry)) (now (mark .entry)) in
         ⌜ refusalOf r ≡ refusal (beforeWalk c s words) ⌝ }
 {
-    let claim = checks::claim_check(n, left, right, weight, mark);
+    let claim = checks::claim_check(n, m, whole, rows, left, right, weight, mark);
     let Outcome::Done = claim else {
         return claim;
     };
     let call = call_check(n, s, words);
-    first(call, checks::count_check(n, left.len(), mark))
+    first(call, checks::count_check(n, m, rows, mark))
 }
 
 // The words of the table that a column of ends gives.
@@ -174,20 +180,59 @@ fn ends_of(column: &[u8]) -> Stored
     lent::columns_of(loaded.table)
 }
 
-// The walk over the rows that the claim marks, and cause 10.
-fn claim_walk(n: u32, left: &[u8], right: &[u8], mark: &[u8], s: u32, own: &mut [u64]) -> Outcome
+// The walk over the rows of a slice among the first m that the claim marks, and cause 10.
+fn claim_walk(
+    n: u32,
+    m: usize,
+    rows: Slice,
+    left: &[u8],
+    right: &[u8],
+    mark: &[u8],
+    s: u32,
+    own: &mut [u64],
+) -> Outcome
     requires { ⌜ n ≤ size ⌝ }
-    ensures answer { λ o. ⌜ refusalOf o ≡ unreached n (claimWalk n (now (left .entry)) (now (right .entry)) (now (mark .entry)) s (now (own .entry)) .reached) ⌝ }
-    ensures words { λ o. ⌜ now (own .exit) ≡ claimWalk n (now (left .entry)) (now (right .entry)) (now (mark .entry)) s (now (own .entry)) .words ⌝ }
+    ensures answer { λ o. ⌜ refusalOf o ≡ unreached n (claimWalk n m (component rows) (now (left .entry)) (now (right .entry)) (now (mark .entry)) s (now (own .entry)) .reached) ⌝ }
+    ensures words { λ o. ⌜ now (own .exit) ≡ claimWalk n m (component rows) (now (left .entry)) (now (right .entry)) (now (mark .entry)) s (now (own .entry)) .words ⌝ }
 {
     let lefts = ends_of(left);
     let rights = ends_of(right);
-    let rows = claim::claim_rows(mark);
-    let reached = walk(&lefts.columns, &rights.columns, rows, s, n, own);
+    let marked = claim::claim_rows(mark, rows_among(m, rows));
+    let reached = walk(&lefts.columns, &rights.columns, marked, s, n, own);
     joined_check(n, reached)
 }
 
-// MatrixPath: every refusal is settled, the walk's too, before the first 16 n words of r are written.
+// MatrixPath over a table of m rows, of which those of a slice are in use: every refusal is settled, the walk's too, before the first 16 n words of r are written.
+pub fn matrix_path_rows(
+    n: u32,
+    m: usize,
+    whole: bool,
+    rows: Slice,
+    left: &[u8],
+    right: &[u8],
+    weight: &[u8],
+    mark: &[u8],
+    s: u32,
+    r: &mut [u64],
+) -> Outcome
+    ensures { λ o.
+        let c = tableOf n m whole (component rows) (now (left .entry)) (now (right .entry)) (now (weight .entry)) (now (mark .entry)) in
+        ⌜ (refusalOf o ≡ matrixPath c s (now (r .entry))) × (now (r .exit) ≡ matrixAfter c s (now (r .entry))) ⌝ }
+{
+    let checked = path_check(n, m, whole, rows, left, right, weight, mark, s, r.len());
+    let Outcome::Done = checked else {
+        return checked;
+    };
+    let mut own = [0u64; ALL_WORDS];
+    let walked = claim_walk(n, m, rows, left, right, mark, s, &mut own);
+    let Outcome::Done = walked else {
+        return walked;
+    };
+    fill(r, &own, WORDS * n as usize);
+    Outcome::Done
+}
+
+// MatrixPath over a plain table: a row for each byte of the left column, all in use.
 pub fn matrix_path(
     n: u32,
     left: &[u8],
@@ -201,15 +246,25 @@ pub fn matrix_path(
         let c = callOf n (now (left .entry)) (now (right .entry)) (now (weight .entry)) (now (mark .entry)) in
         ⌜ (refusalOf o ≡ matrixPath c s (now (r .entry))) × (now (r .exit) ≡ matrixAfter c s (now (r .entry))) ⌝ }
 {
-    let checked = path_check(n, left, right, weight, mark, s, r.len());
-    let Outcome::Done = checked else {
-        return checked;
-    };
-    let mut own = [0u64; ALL_WORDS];
-    let walked = claim_walk(n, left, right, mark, s, &mut own);
-    let Outcome::Done = walked else {
-        return walked;
-    };
-    fill(r, &own, WORDS * n as usize);
-    Outcome::Done
+    let m = left.len();
+    matrix_path_rows(n, m, true, rows_to(m), left, right, weight, mark, s, r)
+}
+
+// MatrixPath over a working table: 1,024 rows, and the rows in use lent as sixteen words.
+pub fn work_matrix_path(
+    n: u32,
+    words: &[u64],
+    left: &[u8],
+    right: &[u8],
+    weight: &[u8],
+    mark: &[u8],
+    s: u32,
+    r: &mut [u64],
+) -> Outcome
+    ensures { λ o.
+        let c = workOf n (now (words .entry)) (now (left .entry)) (now (right .entry)) (now (weight .entry)) (now (mark .entry)) in
+        ⌜ (refusalOf o ≡ matrixPath c s (now (r .entry))) × (now (r .exit) ≡ matrixAfter c s (now (r .entry))) ⌝ }
+{
+    let whole = words.len() == WORDS;
+    matrix_path_rows(n, slice::SIZE, whole, rows_in_use(words), left, right, weight, mark, s, r)
 }

@@ -1,5 +1,6 @@
 // The searches MATCH, MIN, MAX and GREAT over the rows of a table that a slice selects. Their loops stand in the crate `lent`, over columns that are lent, where the first columns may be left out.
 // What a row holds in the others is the row itself, for MATCH, where every row is below 2 ^ (32 - first) (the law `small-row`); the integer is the row's, for GREAT, MIN and MAX, where `sign_columns` are left out (the law `sign-row`).
+use lent::Compared;
 use lent::Matched;
 use slice::Slice;
 use table::Table;
@@ -7,7 +8,7 @@ ghost use mathlib.Core.Path.{_≡_};
 ghost use Rattle.rowset.specs.Columns.{repeatedColumns};
 ghost use Rattle.rowset.specs.Counts.{columnsRead};
 ghost use Rattle.rowset.specs.Integers.{signed};
-ghost use Rattle.rowset.specs.Searches.{equalTo, greaterThan, smallest, largest};
+ghost use Rattle.rowset.specs.Searches.{equalTo, greaterThan, sameAs, smallest, largest};
 ghost use Rattle.slice.specs.Slices.{size, component};
 ghost use Rattle.table.specs.Tables.{column, row};
 
@@ -46,9 +47,10 @@ pub fn match_count(t: Table, w: u32, x: Slice) -> Matched
     lent::match_right(&stored.columns, 0, w, x)
 }
 
-// GREAT: the selected rows that are greater than w, in the order of the integers that 32 bits stand for.
-pub fn great(t: Table, w: u32, x: Slice) -> Slice
-    ensures { λ r. ⌜ component r ≡ greaterThan (λ i. signed (row t i)) (signed w) (component x) ⌝ }
+// GREAT: the selected rows that are greater than w, in the order of the integers that 32 bits stand for, and those that equal it.
+pub fn great(t: Table, w: u32, x: Slice) -> Compared
+    ensures greater { λ r. ⌜ component (r .greater) ≡ greaterThan (λ i. signed (row t i)) (signed w) (component x) ⌝ }
+    ensures equal { λ r. ⌜ component (r .equal) ≡ sameAs (λ i. signed (row t i)) (signed w) (component x) ⌝ }
 {
     let stored = lent::columns_of(t);
     lent::great_from(&stored.columns, 0, w, x)

@@ -2,7 +2,7 @@
 -- Assumes nothing.
 use Prim.Native.Nat.{ℕ, _+_, _-_, _*_, _/_, _%_, _<_, _≤_}
 use mathlib.Core.Path.{_≡_, refl, sym, ap, ap₂, _∙_, fun-ext}
-use mathlib.Core.Bool.{Bool, true, false, not, cond, _&&_, _||_, true≢false}
+use mathlib.Core.Bool.{Bool, true, false, not, cond, _&&_, _||_, true≢false, and-false}
 use mathlib.Core.List.{List}
 use mathlib.Core.Logic.{by-cases}
 use native.Mathlib.Decide.{ℕ-discrete, decLe}
@@ -11,7 +11,8 @@ use lib.Dec.{eqb}
 use lib.ListN.{length, getD, set, replicate, getD-replicate}
 use lib.Seq.{ext-getD, getD-set-same, getD-set-other}
 use borrow.Author.Tests.{eq-eqb, ne-eqb, eqb-true, eqb-false}
-use Rattle.rowset.specs.Sets.{upTo, put, takeOut}
+use Rattle.rowset.specs.Sets.{upTo, both, put, takeOut}
+use Rattle.rowset.specs.Words.{inWords}
 use Rattle.slice.specs.Slices.{size, bit, component, written, SameComponents}
 use Rattle.slice.specs.declared.Slice.{Slice}
 use Rattle.slice.proofs.Bits.{same-bits, bit-of-zero}
@@ -27,6 +28,15 @@ component-below x i h = component-outside x i (upTo-below size i h)
 
 pub component-above : (x : Slice) (i : ℕ) → size < i → component x i ≡ false
 component-above x i h = component-outside x i (upTo-above size i h)
+
+-- cutting a set to 1 to 1,024 changes nothing of what it shares with a slice
+pub both-rows : (p : ℕ → Bool) (x : Slice) → both (both (upTo size) p) (component x) ≡ both p (component x)
+unfolding both component
+both-rows p x = fun-ext (λ i. go (upTo size i) (p i) _)
+  where
+    go : (a b d : Bool) → (a && b && (a && d)) ≡ (b && (a && d))
+    go true b d = refl
+    go false b d = sym (and-false b)
 
 -- a component of 1 to 1,024 is a bit of a word
 pub component-inside : (x : Slice) (i : ℕ) → 1 ≤ i → i ≤ size → component x i ≡ bit (getD (x .words) ((i - 1) / 64) 0) ((i - 1) % 64)
@@ -70,6 +80,15 @@ component-ext x p out inside = fun-ext (λ i. go i (upTo size i) refl)
         component-inside x i (bounds .0) (bounds .1)
         ∙ inside ((i - 1) / 64) ((i - 1) % 64) (omega arith) (omega arith)
         ∙ ap p at
+
+-- a slice whose sixteen words are the first of l has the components of l
+pub same-words : (x : Slice) (l : List ℕ) → ((k : ℕ) → k < 16 → getD (x .words) k 0 ≡ getD l k 0) → component x ≡ inWords l
+unfolding component inWords bit
+same-words x l h = fun-ext (λ i. go i (upTo size i) refl)
+  where
+    go : (i : ℕ) (b : Bool) → upTo size i ≡ b → (b && bit (getD (x .words) ((i - 1) / 64) 0) ((i - 1) % 64)) ≡ (b && bit (getD l ((i - 1) / 64) 0) ((i - 1) % 64))
+    go i true e = let bounds = upTo-bounds size i e in ap (λ w. bit w ((i - 1) % 64)) (h ((i - 1) / 64) (omega arith))
+    go i false e = refl
 
 -- two stored slices with the same components are equal
 pub same-components : SameComponents

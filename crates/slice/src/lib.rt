@@ -7,6 +7,7 @@ ghost use Rattle.slice.specs.Slices.{size, component, written};
 
 pub mod difference; // difference.rt: one slice without another
 pub mod rows; // rows.rt: the rows of a table
+pub mod words; // words.rt: a slice that is lent as words
 
 // The number of components of a slice, of the words that hold them, and of the components in a word.
 pub const SIZE: usize = 1024;

@@ -1,4 +1,4 @@
-// The rows of a table of m rows, as a slice.
+// The rows of a table of m rows, and those of them that are in use, as a slice.
 ghost use mathlib.Core.Path.{_≡_};
 ghost use Prim.Native.Nat.{ℕ, _+_, _*_, _<_};
 ghost use lib.Dec.{leb};
@@ -33,4 +33,11 @@ pub fn rows_to(m: usize) -> Slice
         k += 1;
     }
     r
+}
+
+// The components 1 to m of x.
+pub fn rows_among(m: usize, x: Slice) -> Slice
+    ensures { λ r. ⌜ component r ≡ both (upTo m) (component x) ⌝ }
+{
+    crate::and(rows_to(m), x)
 }

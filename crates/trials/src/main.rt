@@ -1,6 +1,8 @@
-// Reads trials on standard input and prints what MatrixPath, CST and MST1 answer; the file stdout has what they should.
-// A line is a trial: its name, a colon, and numbers: the procedure (1 CST, 2 MST1, 3 MatrixPath on a matrix of 112 words), n, s (for
+// Reads trials on standard input and prints what MatrixPath, CST and MST1 answer; the file stdout has what they should. Beside a weight that passes stands yes where no other tree weighs the same, else no.
+// A line is a trial: its name, a colon, and numbers: the procedure (1 CST, 2 MST1, 3 MatrixPath on a matrix of 112 words, 4 CST with the rows of an exchange that gives another tree of the same weight), n, s (for
 // MatrixPath), and then each column, as its length and its entries: left, right, prices, marks. A price is the number of its 32 bits: 4294967295 is -1.
+use cst::Checked;
+use cst::Pass;
 use cst::Verdict;
 use libc::STDIN_FILENO;
 use libc::STDOUT_FILENO;
@@ -53,16 +55,33 @@ fn lighter(x: cst::Exchange) {
     text(b"\n");
 }
 
+fn passed(x: Pass) {
+    text(b"passed, ");
+    integer(x.weight);
+    if x.only {
+        text(b", yes\n");
+    } else {
+        text(b", no\n");
+    }
+}
+
 fn verdict(v: Verdict) {
     match v {
-        Verdict::Passed(weight) => {
-            text(b"passed, ");
-            integer(weight);
-            text(b"\n");
-        }
+        Verdict::Passed(x) => passed(x),
         Verdict::Lighter(x) => lighter(x),
         Verdict::Refused(r) => refused(r),
     }
+}
+
+// A verdict, and the rows of the exchange beside it.
+fn checked(x: Checked) {
+    let v = x.verdict;
+    verdict(v);
+    text(b"    another tree: out ");
+    number(x.out as u64);
+    text(b", in ");
+    number(x.into as u64);
+    text(b"\n");
 }
 
 // The marked rows of a claim, each after a blank.
@@ -292,6 +311,8 @@ fn trial(s: &[u8], from: usize, kind: u32, n: u32, source: u32) -> usize {
         verdict(cst::cst(n, &left[..i], &right[..j], &weight[..k], &mark[..l]));
     } else if kind == 2 {
         build(n, &left[..i], &right[..j], &weight[..k], &mut mark[..l]);
+    } else if kind == 4 {
+        checked(cst::cst_other(n, &left[..i], &right[..j], &weight[..k], &mark[..l]));
     } else {
         walk(n, &left[..i], &right[..j], &weight[..k], &mark[..l], source);
     }

@@ -1,21 +1,23 @@
--- What CST reads from a path matrix: the rows on the tree path between a row's ends that are heavier than that row, and the first exchange that they allow.
+-- What CST reads from a path matrix: the rows on the tree path between a row's ends that are heavier than that row, or weigh as much, and the first exchange that they allow.
 -- Assumes nothing.
 use Prim.Native.Nat.{ℕ, _-_, _≤_}
-use mathlib.Core.Bool.{Bool}
+use mathlib.Core.Bool.{Bool, cond}
 use mathlib.Core.List.{List}
 use mathlib.Core.Option.{none}
 use mathlib.Core.Path.{_≡_}
+use lib.Dec.{eqb}
 use lib.IntN.{ℤ, natAbs, _-ℤ_}
 use Rattle.rowset.specs.Bytes.{inRow}
 use Rattle.rowset.specs.Columns.{width}
 use Rattle.rowset.specs.Integers.{integerIn, signed}
-use Rattle.rowset.specs.Searches.{greaterThan}
+use Rattle.rowset.specs.Searches.{greaterThan, sameAs}
 use Rattle.rowset.specs.Sets.{both, oneOf, any, uppermost}
 use Rattle.matrix.specs.Matrix.{matrixColumn}
 use Rattle.slice.specs.Slices.{size}
 use Rattle.star.specs.Call.{Call}
 use Rattle.star.specs.MatrixPath.{pathColumn}
 use Rattle.star.specs.Refusals.{cstCauses, refusal}
+use Rattle.cst.specs.declared.Equal.{Equal}
 use Rattle.cst.specs.declared.Exchange.{Exchange}
 
 -- the weight of row i in the bytes of a weight column
@@ -26,18 +28,26 @@ weightIn weight i = signed (inRow 4 weight i)
 abbrev pub integersAfter : List ℕ → ℕ → ℕ → ℤ
 integersAfter words first = integerIn (matrixColumn words) first (width - first)
 
--- of the xor of the columns of row i's ends, the rows whose weight, by f, is greater than w
-unfoldable pub heavierIn : (f : ℕ → ℤ) → (w : ℤ) → (matrix left right : List ℕ) → ℕ → ℕ → Bool
-heavierIn f w matrix left right i =
-    greaterThan f w
+-- one of GREAT's two slices, of the rows whose weights are given, compared with a weight, among the selected ones
+abbrev pub Search : Type 0
+Search = (ℕ → ℤ) → ℤ → (ℕ → Bool) → ℕ → Bool
+
+-- what it finds in the xor of the columns of row i's ends, where f has the weights and w is compared with
+unfoldable pub foundOn : Search → (f : ℕ → ℤ) → (w : ℤ) → (matrix left right : List ℕ) → ℕ → ℕ → Bool
+foundOn search f w matrix left right i =
+    search f w
     (oneOf (matrixColumn matrix (inRow 1 left i)) (matrixColumn matrix (inRow 1 right i)))
 
--- whether one of those rows is heavier than row i, and the uppermost that is
-unfoldable pub someHeavier : (matrix left right weight : List ℕ) → ℕ → Bool
-someHeavier matrix left right weight i = any size (heavierIn (weightIn weight) (weightIn weight i) matrix left right i)
+-- whether it finds a row there, compared with row i's own weight, and the uppermost that it finds
+unfoldable pub someOn : Search → (matrix left right weight : List ℕ) → ℕ → Bool
+someOn search matrix left right weight i = any size (foundOn search (weightIn weight) (weightIn weight i) matrix left right i)
 
-unfoldable pub firstHeavier : (matrix left right weight : List ℕ) → ℕ → ℕ
-firstHeavier matrix left right weight i = uppermost size (heavierIn (weightIn weight) (weightIn weight i) matrix left right i)
+unfoldable pub firstOn : Search → (matrix left right weight : List ℕ) → ℕ → ℕ
+firstOn search matrix left right weight i = uppermost size (foundOn search (weightIn weight) (weightIn weight i) matrix left right i)
+
+-- the uppermost of the rows for which it finds one, 0 where there is none
+unfoldable pub rowWith : Search → (matrix left right weight : List ℕ) → (ℕ → Bool) → ℕ
+rowWith search matrix left right weight rows = uppermost size (both rows (someOn search matrix left right weight))
 
 -- the exchange of row out for row into
 unfoldable pub exchangeOf : List ℕ → (out into : ℕ) → Exchange
@@ -46,8 +56,18 @@ exchangeOf weight out into = record { out = out; into = into; saving = natAbs (w
 -- the uppermost of the rows that has a heavier row comes in, and its uppermost heavier row goes out; both are 0 where there is none
 unfoldable pub firstLighter : (matrix left right weight : List ℕ) → (ℕ → Bool) → Exchange
 firstLighter matrix left right weight rows =
-    let i = uppermost size (both rows (someHeavier matrix left right weight)) in
-    exchangeOf weight (firstHeavier matrix left right weight i) i
+    let i = rowWith greaterThan matrix left right weight rows in
+    exchangeOf weight (firstOn greaterThan matrix left right weight i) i
+
+-- the same with rows of equal weight
+unfoldable pub firstEqual : (matrix left right weight : List ℕ) → (ℕ → Bool) → Equal
+firstEqual matrix left right weight rows =
+    let i = rowWith sameAs matrix left right weight rows in
+    record { out = firstOn sameAs matrix left right weight i; into = i }
+
+-- the row found already, else row i, if E has a row; 0 where there is none
+unfoldable pub remembered : ℕ → (ℕ → Bool) → ℕ → ℕ
+remembered found E i = cond (eqb found 0) (cond (any size E) i 0) found
 
 -- a call that CST does not refuse, and a matrix with its path columns from vertex 1
 pub record Walked (c : Call) (matrix : List ℕ) : Type 0 where

@@ -13,8 +13,8 @@ load-bytes-requires-2 c κs = search needs
 load-quads-requires : tie.Need-load-quads-requires
 load-quads-requires c κs = search needs
 
-rows-to-requires : tie.Need-rows-to-requires
-rows-to-requires c κs = search needs
+rows-among-requires : tie.Need-rows-among-requires
+rows-among-requires c κs = search needs
 
 grow-tree-requires : tie.Need-grow-tree-requires
 grow-tree-requires c κs = search needs
@@ -25,7 +25,7 @@ returns c =
       ← c .before .before .before .before .load-bytes .ensures .1,
       ← c .before .before .before .load-bytes2 .ensures .1,
       ← c .before .before .load-quads .ensures .1,
-      ← c .before .rows-to .ensures,
+      ← c .before .rows-among .ensures,
     )
     (c .grow-tree .ensures)
 
@@ -36,6 +36,6 @@ tree-of-spec =
     load-bytes-requires
     load-bytes-requires-2
     load-quads-requires
-    rows-to-requires
+    rows-among-requires
     grow-tree-requires
     returns)

@@ -6,7 +6,6 @@ use mathlib.Core.List.{List}
 use mathlib.Core.Option.{some}
 use mathlib.Core.Path.{_≡_}
 use lib.IntN.{ℤ}
-use lib.ListN.{length}
 use Rattle.graph.specs.Builder.{treeOf, tree}
 use Rattle.graph.specs.Graph.{Graph}
 use Rattle.rowset.specs.Searches.{equalTo}
@@ -27,10 +26,10 @@ graphBy a b rows n = record { n = n; m = size; a = a; b = b; rows = component ro
 abbrev pub graphOn : Table → Table → Slice → ℕ → Graph
 graphOn left right rows n = graphBy (row left) (row right) rows n
 
--- the graph that the tables hold after the left and the right column are loaded
-abbrev pub loadedGraph : ℕ → List ℕ → List ℕ → Graph
-loadedGraph n left right =
-    record { n = n; m = size; a = loadedRow 1 left; b = loadedRow 1 right; rows = both (upTo size) (upTo (length left)) }
+-- the graph that the tables hold after the left and the right column are loaded, over the rows among the first m
+abbrev pub loadedGraph : (n m : ℕ) → (rows : ℕ → Bool) → (left right : List ℕ) → Graph
+loadedGraph n m rows left right =
+    record { n = n; m = size; a = loadedRow 1 left; b = loadedRow 1 right; rows = both (upTo m) rows }
 
 -- what is grown: whether there is a tree, and its rows, none where there is no tree
 pub record Grows (g : Graph) (w : ℕ → ℤ) (whole : Bool) (chosen : ℕ → Bool) : Type 0 where

@@ -1,62 +1,17 @@
--- `path::matrix_path` meets its contract: the checks refuse, or the walk does, or the walk's words are copied.
--- Assumes nothing.
-use Rattle.path.proofs.Result.{settled, check-refuses, walk-refuses, walk-done}
+-- `path::matrix_path` meets its contract: the plain call with its rows as a slice holds them. Assumes nothing.
 use borrow.Author.Needs.{needs}
-use mathlib.Core.Path.{refl}
-use native.Mathlib.Omega.{arith}
+use mathlib.Core.Path.{_∙_}
+use Rattle.star.proofs.Plain.{plain-path, plain-matrix}
 use Rattle.path.proofs.matrix_path.Statement.{statement}
 use Rattle.path.proofs.matrix_path.Tie as tie
 
 returns : tie.Need-returns
-returns c = check-refuses _ _ _ _ _ (c .enum-told2 .given .1) (c .before .before .path-check .ensures)
-
-claim-walk-requires : tie.Need-claim-walk-requires
-claim-walk-requires c κs =
-    let check = c .before .before .before in
-    let a = check .before .before .before .before .before .before .args in
-    let h = settled _ _ (a .r .now) _ (c .before .enum-told .given .1) (check .path-check .ensures) in
-    omega (arith, h .table .few-vertices)
-
-returns-2 : tie.Need-returns-2
-returns-2 c =
-    let walk = c .before .before .before in
-    let check = walk .before .before .before .before in
-    let a = check .before .before .before .before .before .before .args in
-    walk-refuses _ _ (a .r .now) _ (walk .before .before .enum-told .given .1) (check .path-check .ensures) _ refl _ (walk .claim-walk .ensures .0)
-    _ (c .enum-told4 .given .1)
-
-fill-requires : tie.Need-fill-requires
-fill-requires c κs =
-    let walk = c .before .before .before .before .before in
-    let check = walk .before .before .before .before in
-    let a = check .before .before .before .before .before .before .args in
-    let h = settled _ _ (a .r .now) _ (walk .before .before .enum-told .given .1) (check .path-check .ensures) in
-    (h .room, omega (arith, h .table .few-vertices))
-
-returns-3 : tie.Need-returns-3
-returns-3 c =
-    let told = c .before .before .before .before .before in
-    let walk = told .before .before .before in
-    let check = walk .before .before .before .before in
-    let a = check .before .before .before .before .before .before .args in
-    walk-done _ _ (a .r .now) _ (walk .before .before .enum-told .given .1) (check .path-check .ensures) _ refl _ (walk .claim-walk .ensures .0)
-    (told .enum-told3 .given .1) _ _ (walk .claim-walk .ensures .1) (c .before .before .fill .ensures)
+returns c =
+    let b = c .before .before in
+    let rows = b .before .before in
+    let a = rows .before .before .before .before .before .before .args in
+    let (answer, words) = rw (rows .rows-to .ensures) at (b .matrix-path-rows .ensures) in
+    (answer ∙ plain-path (a .n) (a .left .now) (a .right .now) (a .weight .now) (a .mark .now) (a .s) (a .r .now), words ∙ plain-matrix (a .n) (a .left .now) (a .right .now) (a .weight .now) (a .mark .now) (a .s) (a .r .now))
 
 pub matrix-path-spec : {M : Type 1} → statement M
-matrix-path-spec =
-    tie.close
-    (tie.spec
-    (λ c κs. search needs)
-    (λ c. search needs)
-    (λ c. search needs)
-    returns
-    (λ c. search needs)
-    claim-walk-requires
-    (λ c. search needs)
-    (λ c. search needs)
-    returns-2
-    (λ c. search needs)
-    (λ c. search needs)
-    fill-requires
-    (λ c. search needs)
-    returns-3)
+matrix-path-spec = tie.close (tie.spec (λ c κs. search needs) (λ c κs. search needs) (λ c. search needs) returns)

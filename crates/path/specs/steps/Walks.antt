@@ -5,7 +5,7 @@ use mathlib.Core.Bool.{Bool, true, cond}
 use mathlib.Core.List.{List}
 use Rattle.rowset.specs.Columns.{inColumns}
 use Rattle.rowset.specs.Searches.{equalTo}
-use Rattle.rowset.specs.Sets.{empty, either, oneOf, uppermost}
+use Rattle.rowset.specs.Sets.{empty, upTo, both, either, oneOf, uppermost}
 use Rattle.matrix.specs.Matrix.{matrixColumn, withColumn}
 use Rattle.slice.specs.Slices.{size, component, written}
 use Rattle.table.specs.Loads.{loadedRow}
@@ -71,6 +71,6 @@ steps a b T x (suc k) = step a b T (steps a b T x k)
 unfoldable pub walk : (ℕ → ℕ) → (ℕ → ℕ) → (ℕ → Bool) → ℕ → List ℕ → ℕ → State
 walk a b T s words = steps a b T (arrive a b T (nowhere words) s empty)
 
--- the walk of n steps from vertex s over the rows that a claim marks, with the ends that the byte columns hold
-abbrev pub claimWalk : ℕ → (left right mark : List ℕ) → ℕ → List ℕ → State
-claimWalk n left right mark s words = walk (loadedRow 1 left) (loadedRow 1 right) (claimRows mark) s words n
+-- the walk of n steps from vertex s over those of the rows among the first m that a claim marks, with the ends that the byte columns hold
+abbrev pub claimWalk : (n m : ℕ) → (rows : ℕ → Bool) → (left right mark : List ℕ) → ℕ → List ℕ → State
+claimWalk n m rows left right mark s words = walk (loadedRow 1 left) (loadedRow 1 right) (both (both (upTo m) rows) (claimRows mark)) s words n

@@ -8,7 +8,9 @@ use Rattle.search.proofs.great.Tie as tie
 
 returns : tie.Need-returns
 unfolding row integerIn
-returns c = rw (c .before .before .before .before .columns-of .ensures) at (c .great-from .ensures)
+returns c =
+    let columns = c .before .before .before .before .columns-of .ensures in
+    (rw columns at (c .great-from .ensures .0), rw columns at (c .great-from .ensures .1))
 
 pub great-spec : {M : Type 1} → statement M
 great-spec = tie.close (tie.spec (λ c κs. search needs) (λ c κs. search needs) returns)

@@ -1,0 +1,60 @@
+// CST for C, with the rows of an exchange that gives another tree of the same weight.
+use crate::cst_door::of_verdict;
+use answer::Record;
+use answer::write_answer;
+use cst::Checked;
+ghost use mathlib.Core.Path.{_≡_};
+ghost use Rattle.answer.specs.Records.{fieldsOf};
+ghost use Rattle.star.specs.Call.{callOf};
+ghost use Rattle.demand3.specs.Bytes.{OtherCall};
+ghost use Rattle.cst.specs.Verdicts.{answerOf, equalRowsOf};
+ghost use Rattle.star.specs.Door.{fieldsBeside, doorReturns, otherDoor};
+
+// The fields of CST's verdict, and beside a pass that is not the only one the two rows of the exchange.
+pub fn of_checked(x: Checked) -> Record
+    ensures { λ r. ⌜ fieldsOf r ≡ fieldsBeside (answerOf (x .verdict)) (equalRowsOf x) ⌝ }
+{
+    let v = x.verdict;
+    let plain = of_verdict(v);
+    if plain.kind != 1 {
+        return plain;
+    }
+    if plain.only != 0 {
+        return plain;
+    }
+    Record {
+        kind: 1,
+        number: 0,
+        out: x.out,
+        into: x.into,
+        only: 0,
+        amount: plain.amount,
+    }
+}
+
+// CST with the exchange through the door. `means` says what the bytes are worth: what is read back, and what it says of the table's spanning trees.
+#[no_mangle]
+pub extern "C" fn star_other(
+    n: u32,
+    left: &[u8],
+    right: &[u8],
+    weight: &[u8],
+    mark: &[u8],
+    answer: &mut [u8],
+) -> u32
+    ensures returned { λ r. ⌜ r ≡ doorReturns (now (answer .entry)) ⌝ }
+    ensures answered { λ r.
+        let c = callOf n (now (left .entry)) (now (right .entry)) (now (weight .entry)) (now (mark .entry)) in
+        ⌜ now (answer .exit) ≡ otherDoor c (now (answer .entry)) ⌝ }
+    ensures means { λ r.
+        let c = callOf n (now (left .entry)) (now (right .entry)) (now (weight .entry)) (now (mark .entry)) in
+        ⌜ OtherCall c (now (answer .entry)) (now (answer .exit)) r ⌝ }
+{
+    if answer.len() != 16 {
+        return 0;
+    }
+    let checked = cst::cst_other(n, left, right, weight, mark);
+    let x = of_checked(checked);
+    write_answer(answer, x);
+    1
+}
