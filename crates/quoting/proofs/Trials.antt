@@ -1,0 +1,24 @@
+-- The trials hold: the definitions compute to what each trial says.
+-- Assumes nothing.
+use mathlib.Core.Bool.{xor}
+use mathlib.Core.Path.{refl}
+use Rattle.graph.specs.Builder.{cheapest, choose, first, next, fragment, treeOf, tree}
+use Rattle.graph.specs.Graph.{crosses, withEnds}
+use Rattle.prices.specs.Quote.{priced}
+use Rattle.rowset.specs.Bytes.{little, inRow}
+use Rattle.rowset.specs.Integers.{fromBits, toBits, total}
+use Rattle.rowset.specs.Searches.{smallest}
+use Rattle.rowset.specs.Sets.{empty, upTo, both, put, any, firstOf, uppermost}
+use Rattle.rowset.specs.Trials.{these}
+use Rattle.rowset.specs.Words.{inWords}
+use Rattle.star.specs.Call.{used, graphOf, weightOf}
+use Rattle.star.specs.Door.{bytesOf, fieldBytes}
+use Rattle.star.specs.Mst1.{chosenRows}
+use Rattle.star.specs.Refusals.{cause, causeAt, badVertices, tooManyRows, badLengths, wrongRow, badEnds, badRow, repeatsAbove, repeats, repeatedRow, isNone, noTree, tableCauses, orElse, refusal}
+use Rattle.quoting.specs.Door.{quoteFields, afterOf, quoteBytes, lentQuote, quoteReturns, quoteDoor}
+use Rattle.quoting.specs.Quote.{noRow, quoteCauses, builtTotal, newPrices, quoteOr, quote}
+use Rattle.quoting.specs.Trials.{TrialsHold}
+
+pub trials-hold : TrialsHold
+unfolding xor cheapest choose first next fragment treeOf tree crosses withEnds priced little inRow fromBits toBits total smallest empty upTo both put any firstOf uppermost these inWords used graphOf weightOf bytesOf fieldBytes chosenRows cause causeAt badVertices tooManyRows badLengths wrongRow badEnds badRow repeatsAbove repeats repeatedRow isNone noTree tableCauses orElse refusal quoteFields afterOf quoteBytes lentQuote quoteReturns quoteDoor noRow quoteCauses builtTotal newPrices quoteOr quote
+trials-hold = (refl, refl, refl)

@@ -1,0 +1,4 @@
+pub mod Quote
+pub mod Means
+pub mod Door
+pub mod Trials
