@@ -45,7 +45,7 @@ module _ (n : ℕ) (left right weight mark : List ℕ) where
       (both-inside maxRows (upTo (length left)) (λ i e. let b = upTo-in (length left) i e in (b .0, omega arith)))
 
   -- what is the same where both are refused is the same
-  same : {A : Type 0} (f : Call → A)
+  pub same : {A : Type 0} (f : Call → A)
       → ((r : Refusal) → ((later : List (Option Refusal)) → refusal (tableCauses cutRows ++ later) ≡ some r) → ((later : List (Option Refusal)) → refusal (tableCauses plain ++ later) ≡ some r) → f cutRows ≡ f plain)
       → f cutRows ≡ f plain
   same f refused =
