@@ -25,7 +25,7 @@ use Rattle.quoting.specs.Quote.{noRow, rowAsked, quoteCauses, builtTotal
 
 -- an accepted table and a row in use: only the last cause is left
 module _ (c : Call) (k : ℕ) where
-  last-cause : Accepted c → Row c k → refusal (quoteCauses c k) ≡ cause (isNone (tree (graphOf c) (weightOf c))) 11 0
+  pub last-cause : Accepted c → Row c k → refusal (quoteCauses c k) ≡ cause (isNone (tree (graphOf c) (weightOf c))) 11 0
   unfolding quoteCauses noRow noTree cause refusal orElse
   last-cause ok row = refusal-append (tableCauses c) (noRow c k ∷ noTree c ∷ []) ok ∙ rw (row-used c k row) (go (isNone (tree (graphOf c) (weightOf c))))
     where
@@ -87,7 +87,7 @@ module _ (c : Call) (ok : Accepted c) where
         go (some f) e = tree-connected (built-least g fine (weightOf c) f e .tree)
 
     -- and its totals are those of the trees that are built
-    totals-built : (before after : ℤ) → quote c k x ≡ quoted before after → (builtTotal c (weightOf c) ≡ before) × (builtTotal c (newPrices c k x) ≡ after)
+    pub totals-built : (before after : ℤ) → quote c k x ≡ quoted before after → (builtTotal c (weightOf c) ≡ before) × (builtTotal c (newPrices c k x) ≡ after)
     totals-built before after h =
         let q = quote-connected (connected-quote before after h) in
         (cc, cc)

@@ -1,24 +1,20 @@
+-- `quotedoor::quote_door::of_quoted` meets its contract: each case's fields, written out, with the totals' bits handed on. Assumes nothing.
 use borrow.Author.Needs.{needs}
+use mathlib.Core.Path.{refl}
+use Rattle.answer.specs.Records.{fieldsOf}
+use Rattle.quote.specs.Answers.{answerOf}
 use Rattle.quotedoor.proofs.quote_door.of_quoted.Statement.{statement}
 use Rattle.quotedoor.proofs.quote_door.of_quoted.Tie as tie
-use Rattle.quotedoor.proofs.quote_door.of_quoted.Reads as reads
-use Rattle.quotedoor.proofs.quote_door.of_quoted.Lts as lts
+use Rattle.quoting.specs.Door.{quoteFields, afterOf}
+use Rattle.rowset.specs.Integers.{fromBits}
 
--- src/quote_door.rt:30:24
-enum-known-q : tie.Need-enum-known-q
-enum-known-q c = search needs
-
--- src/quote_door.rt:41:25
-enum-known-q-2 : tie.Need-enum-known-q-2
-enum-known-q-2 c = search needs
-
--- src/quote_door.rt:25:1
 returns : tie.Need-returns
-returns c = ?
+unfolding fieldsOf quoteFields afterOf answerOf
+returns c = rw (c .before .q .given .1) (refl, refl)
 
--- src/quote_door.rt:25:1
 returns-2 : tie.Need-returns-2
-returns-2 c = ?
+unfolding fieldsOf quoteFields afterOf answerOf fromBits
+returns-2 c = rw (c .before .q2 .given .1) (refl, refl)
 
 pub of-quoted-spec : {M : Type 1} → statement M
-of-quoted-spec = tie.close (tie.spec enum-known-q enum-known-q-2 returns returns-2)
+of-quoted-spec = tie.close (tie.spec (λ c. search needs) (λ c. search needs) returns returns-2)

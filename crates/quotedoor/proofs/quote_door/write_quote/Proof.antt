@@ -1,54 +1,42 @@
+-- `quotedoor::quote_door::write_quote` meets its contract. The loop's invariant: the first i bytes of the answer are those of the array.
+-- Assumes nothing.
+use Prim.Native.Nat.{_≤_, _-_}
+use borrow.Author.Needs.{needs}
+use borrow.Author.Tests.{eq-eqb, ne-eqb}
+use lib.ListN.{length, take, length-set}
+use mathlib.Core.Path.{_≡_, refl, _∙_}
+use native.Mathlib.Omega.{arith}
+use Rattle.answer.proofs.Copies.{copy-more, copy-all}
 use Rattle.quotedoor.proofs.quote_door.write_quote.Statement.{statement}
 use Rattle.quotedoor.proofs.quote_door.write_quote.Tie as tie
-use Rattle.quotedoor.proofs.quote_door.write_quote.Reads as reads
-use Rattle.quotedoor.proofs.quote_door.write_quote.Lts as lts
-use Rattle.quotedoor.proofs.quote_door.quote_bytes.Reads as quote-bytes-reads
+use Rattle.quoting.specs.Door.{lentQuote}
 
 abbrev Inv-loop : tie.InvT-loop
-Inv-loop answer₀ bytes i₀ answer i = ?
+Inv-loop answer₀ bytes i₀ answer i = (i ≤ 24) × (length answer ≡ 24) × (length bytes ≡ 24) × (take i answer ≡ take i bytes)
 
 abbrev μ-loop : tie.MeasureT-loop
-μ-loop answer₀ bytes i₀ answer i = ?
+μ-loop answer₀ bytes i₀ answer i = 24 - i
 
--- src/quote_door.rt:102:9
 returns : tie.Need-returns Inv-loop μ-loop
-returns c = ?
+unfolding lentQuote
+returns c = rw (ne-eqb (length (c .before .before .args .answer .now)) 24 (c .if1 .taken))
 
--- src/quote_door.rt:104:17
-quote-bytes-requires : tie.Need-quote-bytes-requires Inv-loop μ-loop
-quote-bytes-requires c κs = ?
-
--- src/quote_door.rt:106:5
 loop-holds : tie.Need-loop-holds Inv-loop μ-loop
-loop-holds c = ?
+loop-holds c = (omega arith, omega arith, search needs, refl)
 
--- src/quote_door.rt:107:21
-array-read-answer : tie.Need-array-read-answer Inv-loop μ-loop
-array-read-answer c = ?
-
--- src/quote_door.rt:107:9
-slice-write-answer : tie.Need-slice-write-answer Inv-loop μ-loop
-slice-write-answer c = ?
-
--- src/quote_door.rt:108:9
-add-i : tie.Need-add-i Inv-loop μ-loop
-add-i c = ?
-
--- src/quote_door.rt:106:5
-loop-less : tie.Need-loop-less Inv-loop μ-loop
-loop-less c = ?
-
--- src/quote_door.rt:106:5
 loop-again : tie.Need-loop-again Inv-loop μ-loop
-loop-again c = ?
+loop-again c = (
+  omega arith,
+  simp length-set (omega arith),
+  omega arith,
+  copy-more (c .before .before .quote-bytes .result) (c .before .loop .answer) (c .before .loop .i) (omega arith) (omega arith) (c .before .loop .inv .3),
+)
 
--- src/quote_door.rt:98:1
-same-length : tie.Need-same-length Inv-loop μ-loop
-same-length c = ?
-
--- src/quote_door.rt:98:1
 returns-2 : tie.Need-returns-2 Inv-loop μ-loop
-returns-2 c = ?
+unfolding lentQuote
+returns-2 c =
+    rw (eq-eqb (length (c .before .before .before .before .before .args .answer .now)) 24 (omega arith))
+    (copy-all (c .before .before .quote-bytes .result) (c .before .loop .answer) (c .before .loop .i) (omega arith) (omega arith) (c .before .loop .inv .3) ∙ c .before .before .quote-bytes .ensures)
 
 pub write-quote-spec : {M : Type 1} → statement M
 write-quote-spec =
@@ -57,12 +45,12 @@ write-quote-spec =
     Inv-loop
     μ-loop
     returns
-    quote-bytes-requires
+    (λ c κs. search needs)
     loop-holds
-    array-read-answer
-    slice-write-answer
-    add-i
-    loop-less
+    (λ c. omega arith)
+    (λ c. omega arith)
+    (λ c. omega arith)
+    (λ c. omega arith)
     loop-again
-    same-length
+    (λ c. omega arith)
     returns-2)
