@@ -195,7 +195,16 @@ pub fn mst1_rows(
         let c = tableOf n m whole (component rows) (now (left .entry)) (now (right .entry)) (now (weight .entry)) (now (mark .entry)) in
         ⌜ (answerOf r ≡ mst1 c) × (now (mark .exit) ≡ mst1Marks c) ⌝ }
 {
-    if let Outcome::Refused(refusal) = checks::table_check(n, m, whole, rows, left, right, weight, mark) {
+    if let Outcome::Refused(refusal) = checks::table_check(
+        n,
+        m,
+        whole,
+        rows,
+        left,
+        right,
+        weight,
+        mark,
+    ) {
         return Built::Refused(refusal);
     }
     let tree = tree_of(n, m, rows, left, right, weight);
@@ -233,5 +242,14 @@ pub fn work_mst1(
         ⌜ (answerOf r ≡ mst1 c) × (now (mark .exit) ≡ mst1Marks c) ⌝ }
 {
     let whole = words.len() == WORDS;
-    mst1_rows(n, SIZE, whole, rows_in_use(words), left, right, weight, mark)
+    mst1_rows(
+        n,
+        SIZE,
+        whole,
+        rows_in_use(words),
+        left,
+        right,
+        weight,
+        mark,
+    )
 }

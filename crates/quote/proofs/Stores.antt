@@ -38,8 +38,8 @@ copied-more weight bytes i h c =
       done = λ j l. elim (decLt j i) [
         | yes u ↦ getD-set-other bytes i j (getD weight i 0) 0 (λ e. omega arith) ∙ c .done j u
         | no u ↦
-          let e : j ≡ i = omega arith in
-          rw e (getD-set-same bytes i (getD weight i 0) 0 (omega (arith, c .size)))
+            let e : j ≡ i = omega arith in
+            rw e (getD-set-same bytes i (getD weight i 0) 0 (omega (arith, c .size)))
       ];
       rest = λ j l. getD-set-other bytes i j (getD weight i 0) 0 (λ e. omega arith) ∙ c .rest j (omega arith);
     }
@@ -69,19 +69,19 @@ module _ (l : List ℕ) (at b0 b1 b2 b3 : ℕ) where
   stores-row : at + 4 ≤ length l → little (stores l at b0 b1 b2 b3) at 4 ≡ b0 + 256 * (b1 + 256 * (b2 + 256 * b3))
   stores-row h =
       let p0 : getD (stores l at b0 b1 b2 b3) at 0 ≡ b0 =
-        getD-set-other (set (set (set l at b0) (at + 1) b1) (at + 2) b2) (at + 3) at b3 0 (λ e. omega arith)
-        ∙ getD-set-other (set (set l at b0) (at + 1) b1) (at + 2) at b2 0 (λ e. omega arith)
-        ∙ getD-set-other (set l at b0) (at + 1) at b1 0 (λ e. omega arith)
-        ∙ getD-set-same l at b0 0 (omega arith) in
+      getD-set-other (set (set (set l at b0) (at + 1) b1) (at + 2) b2) (at + 3) at b3 0 (λ e. omega arith)
+      ∙ getD-set-other (set (set l at b0) (at + 1) b1) (at + 2) at b2 0 (λ e. omega arith)
+      ∙ getD-set-other (set l at b0) (at + 1) at b1 0 (λ e. omega arith)
+      ∙ getD-set-same l at b0 0 (omega arith) in
       let p1 : getD (stores l at b0 b1 b2 b3) (at + 1) 0 ≡ b1 =
-        getD-set-other (set (set (set l at b0) (at + 1) b1) (at + 2) b2) (at + 3) (at + 1) b3 0 (λ e. omega arith)
-        ∙ getD-set-other (set (set l at b0) (at + 1) b1) (at + 2) (at + 1) b2 0 (λ e. omega arith)
-        ∙ getD-set-same (set l at b0) (at + 1) b1 0 (omega (arith, length-set l at b0)) in
+      getD-set-other (set (set (set l at b0) (at + 1) b1) (at + 2) b2) (at + 3) (at + 1) b3 0 (λ e. omega arith)
+      ∙ getD-set-other (set (set l at b0) (at + 1) b1) (at + 2) (at + 1) b2 0 (λ e. omega arith)
+      ∙ getD-set-same (set l at b0) (at + 1) b1 0 (omega (arith, length-set l at b0)) in
       let p2 : getD (stores l at b0 b1 b2 b3) (at + 2) 0 ≡ b2 =
-        getD-set-other (set (set (set l at b0) (at + 1) b1) (at + 2) b2) (at + 3) (at + 2) b3 0 (λ e. omega arith)
-        ∙ getD-set-same (set (set l at b0) (at + 1) b1) (at + 2) b2 0 (omega (arith, length-set l at b0, length-set (set l at b0) (at + 1) b1)) in
+      getD-set-other (set (set (set l at b0) (at + 1) b1) (at + 2) b2) (at + 3) (at + 2) b3 0 (λ e. omega arith)
+      ∙ getD-set-same (set (set l at b0) (at + 1) b1) (at + 2) b2 0 (omega (arith, length-set l at b0, length-set (set l at b0) (at + 1) b1)) in
       let p3 : getD (stores l at b0 b1 b2 b3) (at + 3) 0 ≡ b3 =
-        getD-set-same (set (set (set l at b0) (at + 1) b1) (at + 2) b2) (at + 3) b3 0 (omega (arith, length-set l at b0, length-set (set l at b0) (at + 1) b1, length-set (set (set l at b0) (at + 1) b1) (at + 2) b2)) in
+      getD-set-same (set (set (set l at b0) (at + 1) b1) (at + 2) b2) (at + 3) b3 0 (omega (arith, length-set l at b0, length-set (set l at b0) (at + 1) b1, length-set (set (set l at b0) (at + 1) b1) (at + 2) b2)) in
       rw (little-four (stores l at b0 b1 b2 b3) at, p0, p1, p2, p3)
 
 -- the four bytes of a number

@@ -124,14 +124,7 @@ pub fn quote_rows(
 }
 
 // The quote over a plain table: a row for each byte of the left column, all in use.
-pub fn quote(
-    n: u32,
-    left: &[u8],
-    right: &[u8],
-    weight: &[u8],
-    row: u32,
-    price: u32,
-) -> Quoted
+pub fn quote(n: u32, left: &[u8], right: &[u8], weight: &[u8], row: u32, price: u32) -> Quoted
     ensures { λ r.
         let c = asked n (now (left .entry)) (now (right .entry)) (now (weight .entry)) in
         ⌜ answerOf r ≡ quote c row price ⌝ }

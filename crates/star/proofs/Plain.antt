@@ -52,8 +52,8 @@ module _ (n : ℕ) (left right weight mark : List ℕ) where
       elim (decLe (length left) maxRows) [
         | yes h ↦ ap f (same-call h)
         | no h ↦
-          let t = too-many n (length left) (omega arith) in
-          refused (t .0) (t .1 true _ left right weight mark) (t .1 true _ left right weight mark)
+            let t = too-many n (length left) (omega arith) in
+            refused (t .0) (t .1 true _ left right weight mark) (t .1 true _ left right weight mark)
       ]
 
   pub plain-cst : cst cutRows ≡ cst plain
