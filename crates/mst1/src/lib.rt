@@ -165,7 +165,7 @@ pub fn grow_tree(left: Table, right: Table, weight: Table, rows: Slice, n: usize
 }
 
 // The tree of n vertices over the rows of a slice among the first m, grown on the columns as tables.
-fn tree_of(n: u32, m: usize, rows: Slice, left: &[u8], right: &[u8], weight: &[u8]) -> Grown
+pub fn tree_of(n: u32, m: usize, rows: Slice, left: &[u8], right: &[u8], weight: &[u8]) -> Grown
     ensures { λ r. ⌜ Grows (loadedGraph n m (component rows) (now (left .entry)) (now (right .entry))) (λ i. signed (loadedRow 4 (now (weight .entry)) i)) (r .whole) (component (r .chosen)) ⌝ }
 {
     let lefts = table::load_bytes(left);

@@ -46,7 +46,7 @@ module _ (n : ℕ) (left right weight mark : List ℕ) where
   plain = callOf n left right weight mark
 
   -- what is the same where both are refused is the same
-  same : {A : Type 0} (f : Call → A)
+  pub same : {A : Type 0} (f : Call → A)
       → ((r : Refusal) → ((later : List (Option Refusal)) → refusal (tableCauses cutRows ++ later) ≡ some r) → ((later : List (Option Refusal)) → refusal (tableCauses plain ++ later) ≡ some r) → f cutRows ≡ f plain)
       → f cutRows ≡ f plain
   same f refused =

@@ -1,25 +1,15 @@
 -- `answer::write_answer` meets its contract. The loop's invariant: the first i bytes of the answer are those of the array.
 -- Assumes nothing.
-use Prim.Native.Nat.{ℕ, _+_, _≤_, _<_, _-_}
+use Prim.Native.Nat.{_≤_, _-_}
 use borrow.Author.Needs.{needs}
 use borrow.Author.Tests.{eq-eqb, ne-eqb}
-use lib.ListN.{length, take, getD, set, length-set}
-use lib.Seq.{take-suc, take-suc-set, take-all}
-use mathlib.Core.List.{List, _++_, _∷_, []}
-use mathlib.Core.Path.{_≡_, refl, sym, ap, _∙_}
-use native.Mathlib.Numerals.{add-one}
+use lib.ListN.{length, take, length-set}
+use mathlib.Core.Path.{_≡_, refl, _∙_}
 use native.Mathlib.Omega.{arith}
+use Rattle.answer.proofs.Copies.{copy-more, copy-all}
 use Rattle.answer.proofs.write_answer.Statement.{statement}
 use Rattle.answer.proofs.write_answer.Tie as tie
 use Rattle.star.specs.Door.{wellLent, answerAfter}
-
--- one byte more is copied
-copy-more : (s d : List ℕ) (i : ℕ) → i < length s → i < length d → take i d ≡ take i s → take (i + 1) (set d i (getD s i 0)) ≡ take (i + 1) s
-copy-more s d i hs hd e = rw add-one (take-suc-set d i (getD s i 0) hd ∙ ap (λ l. l ++ (getD s i 0 ∷ [])) e ∙ sym (take-suc s i 0 hs))
-
--- all is copied
-copy-all : (s d : List ℕ) (i : ℕ) → length s ≡ length d → length s ≤ i → take i d ≡ take i s → d ≡ s
-copy-all s d i h u e = sym (take-all i d (omega arith)) ∙ e ∙ take-all i s u
 
 abbrev Inv-loop : tie.InvT-loop
 Inv-loop answer₀ bytes i₀ answer i = (i ≤ 16) × (length answer ≡ 16) × (length bytes ≡ 16) × (take i answer ≡ take i bytes)

@@ -1,0 +1,1 @@
+// The quote of a new price as a definition on byte columns, its trials, and what it means of the table's spanning trees: specs/ and proofs/, no code.
