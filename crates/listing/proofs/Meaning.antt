@@ -15,13 +15,14 @@ use Rattle.listing.proofs.Sizes.{line-size, lines-size, total-size}
 use Rattle.listing.specs.DigList.{rowLine, rowLines, totalLine, listTotal, digList, builtList, tableList}
 use Rattle.listing.specs.Meaning.{Says, SaysTree, DigListHolds, DigListTheorem}
 use Rattle.listing.specs.Reading.{listed}
+use Rattle.rowset.proofs.Laws.{both-inside}
 use Rattle.rowset.specs.Bytes.{inRow}
 use Rattle.rowset.specs.Integers.{signed, total}
 use Rattle.rowset.specs.Sets.{count}
-use Rattle.star.proofs.Accepted.{accepted-means}
+use Rattle.star.proofs.Accepted.{accepted-means, plain-means, used-plain}
 use Rattle.star.proofs.Claims.{marked-row, marked-zero}
-use Rattle.star.specs.Accepted.{AcceptedTable}
-use Rattle.star.specs.Call.{callOf, graphOf, weightOf, marked, claimWeight}
+use Rattle.star.specs.Accepted.{PlainTable}
+use Rattle.star.specs.Call.{callOf, graphOf, weightOf, marked, claimed, claimWeight}
 use Rattle.star.specs.Mst1.{treeBuilt, mst1, mst1Marks}
 use Rattle.star.specs.Refusals.{Accepted}
 
@@ -52,34 +53,41 @@ module _ (n : ℕ) (left right weight mark : List ℕ) where
         as-stored = digs-stored left right weight (length left) (marked mark);
       }
 
+  -- every row of a plain table is in use, so its marked rows are those of its bytes
+  claimed-rows : length mark ≡ length left → claimed (callOf n left right weight mark) ≡ marked mark
+  unfolding claimed
+  claimed-rows h =
+      rw (used-plain n left right weight mark)
+      (both-inside (length left) (marked mark) (λ i e. let r = marked-row mark i e in (r .0, omega (arith, h))))
+
   -- a tree has n − 1 marks
   marks : ClaimTree (callOf n left right weight mark) → suc (count (length left) (marked mark)) ≡ n
   unfolding graphOf
-  marks t = t .spanning .marks
+  marks t = rw (claimed-rows (t .bytes)) at (t .spanning .marks)
 
-  short : AcceptedTable (callOf n left right weight mark) → count (length left) (marked mark) ≤ 254 → length (digList left right weight mark) ≤ 6370
+  short : PlainTable n left right weight mark → count (length left) (marked mark) ≤ 254 → length (digList left right weight mark) ≤ 6370
   unfolding digList listTotal
   short a k =
       simp length-append
       (omega (
         arith,
         lines-size (rowLine left right weight) 25 (length left) (marked mark)
-            (λ i u v. line-size left right weight i (omega (arith, a .rows)) (omega (arith, a .left-end i (u, v), a .vertices)) (omega (arith, a .right-end i (u, v), a .vertices))),
+            (λ i u v. line-size left right weight i (omega (arith, a .rows)) (omega (arith, a .good-rows .left-end i (u, v), a .vertices)) (omega (arith, a .good-rows .right-end i (u, v), a .vertices))),
         total-size (length left) (inRow 4 weight) (marked mark) k,
       ))
 
-  weighs : total (length left) (λ i. signed (inRow 4 weight i)) (marked mark) ≡ claimWeight (callOf n left right weight mark)
+  weighs : length mark ≡ length left → total (length left) (λ i. signed (inRow 4 weight i)) (marked mark) ≡ claimWeight (callOf n left right weight mark)
   unfolding claimWeight weightOf
-  weighs = refl
+  weighs h = rw (claimed-rows h)
 
   says-tree : Accepted (callOf n left right weight mark) → ClaimTree (callOf n left right weight mark) → SaysTree n left right weight mark (digList left right weight mark)
   unfolding says
   says-tree accepted t =
-      let a = accepted-means (callOf n left right weight mark) .0 accepted in
+      let a = plain-means n left right weight mark .0 (accepted-means (callOf n left right weight mark) .0 accepted) in
       record {
         says = says (a .mark-length);
         number = rw (digs-number left right weight (length left) (marked mark)) (marks t);
-        weight-of = digs-weighed left right weight (length left) (marked mark) ∙ weighs;
+        weight-of = digs-weighed left right weight (length left) (marked mark) ∙ weighs (a .mark-length);
         short = short a (omega (arith, marks t, a .vertices));
       }
 
