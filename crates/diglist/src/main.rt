@@ -11,7 +11,7 @@ const TEXT_BYTES: usize = 65537;
 fn list(text: &[u8]) {
     let mut bytes = [0u8; LIST_BYTES];
     let size = printer::text_list(text, &mut bytes);
-    if !streams::write_text(STDOUT_FILENO, &bytes[..size]) {
+    if !streams::write_text(STDOUT_FILENO, &bytes, size) {
         os::fail(b"diglist: the list is not printed whole");
     }
 }

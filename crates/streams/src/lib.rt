@@ -1,4 +1,5 @@
 // Whole texts read and written, with errors told apart from ends. No contract can say which bytes a call of C reads or writes: what is said here is where they stand.
+ghost use Prim.Native.Nat.{_≤_};
 ghost use Rattle.io.specs.Counts.{Counts};
 
 // What was read: the number of bytes at the buffer's start, and whether an error ended the reading.
@@ -39,9 +40,17 @@ pub fn read_text(fd: i32, buffer: &mut [u8]) -> Input
     }
 }
 
-// Writes all of a text and closes the file, so that an error that is told late is told too. False where some of it may not have been written.
-pub fn write_text(fd: i32, text: &[u8]) -> bool {
-    if !io::write_all(fd, text) {
+// The smaller of two numbers.
+fn least(a: usize, b: usize) -> usize
+    ensures { λ r. ⌜ r ≤ b ⌝ }
+{
+    if a < b { a } else { b }
+}
+
+// Writes the first `size` bytes of a buffer, all of it where it has fewer, and closes the file, so that an error that is told late is told too. False where some of them may not have been written.
+pub fn write_text(fd: i32, buffer: &[u8], size: usize) -> bool {
+    let end = least(size, buffer.len());
+    if !io::write_all(fd, &buffer[..end]) {
         return false;
     }
     libc::close(fd) == 0
