@@ -76,7 +76,7 @@ fn import(text: &[u8], out: &mut [u8]) -> usize {
 fn print(text: &[u8]) {
     let mut bytes = [0u8; PRINTED];
     let size = import(text, &mut bytes);
-    if !streams::write_text(STDOUT_FILENO, &bytes[..size]) {
+    if !streams::write_text(STDOUT_FILENO, &bytes, size) {
         os::fail(b"readstp: the answer is not printed whole");
     }
 }
