@@ -1,6 +1,6 @@
 // Striking a row of a working table for C.
-use answer::write_answer;
 use crate::outcome::of_outcome;
+use answer::write_answer;
 ghost use mathlib.Core.Path.{_≡_};
 ghost use Rattle.star.specs.Door.{doorReturns};
 ghost use Rattle.worktable.specs.Door.{strikeDoor, strikeDoorWords};

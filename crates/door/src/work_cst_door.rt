@@ -1,6 +1,6 @@
 // CST over a working table for C.
-use answer::write_answer;
 use crate::cst_door::of_verdict;
+use answer::write_answer;
 ghost use mathlib.Core.Path.{_≡_};
 ghost use Rattle.star.specs.Call.{workOf};
 ghost use Rattle.demand3.specs.Bytes.{CstCall};

@@ -1,6 +1,6 @@
 // MST1 over a working table for C.
-use answer::write_answer;
 use crate::mst1_door::of_built;
+use answer::write_answer;
 ghost use mathlib.Core.Path.{_≡_};
 ghost use Rattle.star.specs.Call.{workOf};
 ghost use Rattle.demand3.specs.Bytes.{Mst1Call};

@@ -1,6 +1,6 @@
 // CST over a working table for C, with the rows of an exchange that gives another tree of the same weight.
-use answer::write_answer;
 use crate::other_door::of_checked;
+use answer::write_answer;
 ghost use mathlib.Core.Path.{_≡_};
 ghost use Rattle.star.specs.Call.{workOf};
 ghost use Rattle.demand3.specs.Bytes.{OtherCall};

@@ -1,6 +1,6 @@
 // MatrixPath over a working table for C.
-use answer::write_answer;
 use crate::outcome::of_outcome;
+use answer::write_answer;
 ghost use mathlib.Core.Path.{_≡_};
 ghost use Rattle.star.specs.Call.{workOf};
 ghost use Rattle.star.specs.Door.{doorReturns, pathsDoor, pathsDoorMatrix};
