@@ -8,6 +8,8 @@ use mathlib.Core.Option.{Option, none, some}
 use mathlib.Core.Path.{_≡_, refl, sym, ap, _∙_}
 use native.Mathlib.Omega.{arith}
 use Rattle.checks.proofs.Laws.{refusal-both}
+use Rattle.claim.proofs.Laws.{claimRows-marked}
+use Rattle.claim.specs.Claims.{claimRows}
 use Rattle.decimal.proofs.Laws.{puts-whole, puts-size}
 use Rattle.decimal.specs.Puts.{Puts}
 use Rattle.demand3.proofs.Demand3.{built-accepted, unbuilt-built}
@@ -18,10 +20,15 @@ use Rattle.mst1.specs.declared.Built.{Built}
 use Rattle.mst1.specs.declared.Built.the-variants.{Tree, Refused}
 use Rattle.printer.specs.Prints.{Prints}
 use Rattle.refusal.specs.declared.Refusal.{Refusal}
-use Rattle.rowset.specs.Integers.{fromBits}
+use Rattle.rowset.proofs.Integers.{total-cut}
+use Rattle.rowset.proofs.Laws.{refuted, both-inside}
+use Rattle.rowset.specs.Integers.{fromBits, total}
+use Rattle.rowset.specs.Sets.{upTo, both}
+use Rattle.slice.specs.Slices.{size}
 use Rattle.star.proofs.Accepted.{accepted-means}
 use Rattle.star.specs.Accepted.{AcceptedTable}
-use Rattle.star.specs.Call.{Call, callOf, withClaim}
+use Rattle.star.proofs.Claims.{marked-row}
+use Rattle.star.specs.Call.{Call, callOf, withClaim, marked}
 use Rattle.star.specs.Mst1.{BuildAnswer, unbuilt, treeBuilt, built, mst1, mst1Marks}
 use Rattle.star.specs.Refusals.{noTree, tableCauses, mst1Causes, orElse, refusal, Accepted}
 use Rattle.steinlib.proofs.Accepted.{import-holds}
@@ -121,3 +128,9 @@ module _ (text : List ℕ) (n m : ℕ) (e : taken n m ≡ imported text 1024 102
 pub refused-text : (text : List ℕ) (r : Refusal) → untaken r ≡ imported text 1024 1024 4096 → {out after : List ℕ} {size : ℕ} → Prints out after size (refusedLine r) → Prints out after size (textList text)
 unfolding textList readList
 refused-text text r e p = rw (← e) p
+
+-- the rows that a claim of at most 1,024 bytes marks, found among all rows of a slice, weigh what its marked rows weigh
+pub marked-total : (l : List ℕ) (w : ℕ → ℤ) → length l ≤ size → total size w (both (upTo size) (claimRows l)) ≡ total (length l) w (marked l)
+marked-total l w h =
+    rw (claimRows-marked l h, both-inside size (marked l) (λ i m. let r = marked-row l i m in (r .0, omega arith)))
+    (total-cut size (length l) w (marked l) h (λ i q. refuted (marked l i) (λ m. omega (arith, marked-row l i m))))

@@ -18,6 +18,7 @@ use decimal::put_price;
 use decimal::put_text;
 use mst1::Built;
 use refusal::Refusal;
+use slice::Slice;
 use stp::Imported;
 use stp::Sizes;
 
@@ -102,7 +103,7 @@ fn put_list(out: &mut [u8], left: &[u8], right: &[u8], weight: &[u8], mark: &[u8
     requires { ⌜ (length (now mark) ≤ 1024) × (length (now left) ≡ length (now mark)) ⌝ }
     ensures { λ r. ⌜ Puts (now (out .entry)) 0 (digList (now (left .entry)) (now (right .entry)) (now (weight .entry)) (now (mark .entry))) (now (out .exit)) r ⌝ }
 {
-    let bits = claim::weigh(weight, claim::claim_rows(mark));
+    let bits = claim::weigh(weight, claim::claim_rows(mark, Slice::full()));
     let next = put_rows(out, left, right, weight, mark);
     put_total(out, next, bits)
 }

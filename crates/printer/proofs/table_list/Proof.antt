@@ -7,12 +7,14 @@ use Rattle.printer.proofs.table_list.Tie as tie
 put-list-requires : tie.Need-put-list-requires
 put-list-requires c κs =
     let m = c .before .before .before .before .before .before .mst1 .ensures in
-    tree-rows _ _ _ _ _ _ _ (tree-answer _ _ _ (c .before .before .enum-told .given .1) (m .0)) (m .1)
+    let x = c .before .before .before .before .before .before .before .before .before .before .before .before .before .args in
+    tree-rows (x .n) (x .left .now) (x .right .now) (x .weight .now) (x .mark .now) _ _ (tree-answer _ _ _ (c .before .before .enum-told .given .1) (m .0)) (m .1)
 
 returns : tie.Need-returns
 returns c =
     let m = c .before .before .before .before .before .before .before .before .before .mst1 .ensures in
-    (tree-list _ _ _ _ _ _ _ (tree-answer _ _ _ (c .before .before .before .before .before .enum-told .given .1) (m .0)) (m .1) (c .before .before .put-list .ensures), m .1)
+    let x = c .before .before .before .before .before .before .before .before .before .before .before .before .before .before .before .before .args in
+    (tree-list (x .n) (x .left .now) (x .right .now) (x .weight .now) (x .mark .now) _ _ (tree-answer _ _ _ (c .before .before .before .before .before .enum-told .given .1) (m .0)) (m .1) (c .before .before .put-list .ensures), m .1)
 
 returns-2 : tie.Need-returns-2
 returns-2 c =
