@@ -7,24 +7,11 @@ use mathlib.Core.Option.{some}
 use mathlib.Core.Path.{_≡_}
 use lib.IntN.{pos}
 use lib.ListN.{replicate}
-use Rattle.star.specs.Call.{Call, workOf}
 use Rattle.star.specs.Cst.{refused, passed}
 use Rattle.star.specs.Door.{cstDoor, mst1Door, otherDoor, mst1DoorMarks, pathsDoor, pathsDoorMatrix}
 use Rattle.star.specs.Mst1.{unbuilt, treeBuilt}
-use Rattle.star.specs.Trials.{Result, checked, built, filled, checks, builds, fills, small, because}
-
--- a working table with n vertices, no row in use, and columns of bytes 7 of the lengths given
-abbrev pub idle : (n words left right weight mark : ℕ) → Call
-idle n words left right weight mark =
-    workOf n (replicate words 0) (replicate left 7) (replicate right 7) (replicate weight 7) (replicate mark 7)
-
--- a working table of two vertices whose row 1,024 joins them, of weight 9, and whose other rows hold 7; the words say which rows are in use
-abbrev pub last : List ℕ → List ℕ → Call
-last words claim = workOf 2 words (replicate 1023 7 ++ (1 ∷ [])) (replicate 1023 7 ++ (2 ∷ [])) (replicate 4092 7 ++ small 9) claim
-
--- the words with row 1,024 alone in use
-abbrev lastRow : List ℕ
-lastRow = replicate 15 0 ++ (9223372036854775808 ∷ [])
+use Rattle.star.specs.Trials.{Result, checked, built, filled, checks, builds, fills, because}
+use Rattle.star.specs.WorkTrials.{idle, last, lastRow}
 
 -- all columns have 1,024 rows and the rows in use sixteen words, else 3, after 1; row 1,024 is a row; the builder writes 0 at rows not in use
 abbrev pub givenWork : List Result

@@ -3,14 +3,13 @@
 use Prim.Native.Nat.{ℕ}
 use mathlib.Core.Bool.{Bool, true, false}
 use mathlib.Core.List.{List, [], _∷_, _++_}
-use mathlib.Core.Option.{none, some}
+use mathlib.Core.Option.{none}
 use mathlib.Core.Path.{_≡_}
 use lib.IntN.{pos}
 use lib.ListN.{replicate}
 use Rattle.rowset.specs.Trials.{these}
 use Rattle.star.specs.Call.{Call, tableOf, callOf, workOf}
 use Rattle.star.specs.Cst.{refused, passed, lighter, EqualRows, equalRows}
-use Rattle.star.specs.Door.{cstDoor, mst1Door, otherDoor, mst1DoorMarks, pathsDoor, pathsDoorMatrix}
 use Rattle.star.specs.Mst1.{unbuilt, treeBuilt}
 use Rattle.star.specs.Trials.{Result, checked, built, filled, checks, builds, fills, small, because, column, yard, twice}
 
@@ -85,6 +84,21 @@ givenRows =
 
 abbrev pub expectedRows : List EqualRows
 expectedRows = record { out = 1; into = 3 } ∷ record { out = 0; into = 0 } ∷ []
+
+-- ── Working tables of 1,024 rows, for trials of other crates too ──
+
+-- a working table with n vertices, no row in use, and columns of bytes 7 of the lengths given
+abbrev pub idle : (n words left right weight mark : ℕ) → Call
+idle n words left right weight mark =
+    workOf n (replicate words 0) (replicate left 7) (replicate right 7) (replicate weight 7) (replicate mark 7)
+
+-- a working table of two vertices whose row 1,024 joins them, of weight 9, and whose other rows hold 7; the words say which rows are in use
+abbrev pub last : List ℕ → List ℕ → Call
+last words claim = workOf 2 words (replicate 1023 7 ++ (1 ∷ [])) (replicate 1023 7 ++ (2 ∷ [])) (replicate 4092 7 ++ small 9) claim
+
+-- the words with row 1,024 alone in use
+abbrev pub lastRow : List ℕ
+lastRow = replicate 15 0 ++ (9223372036854775808 ∷ [])
 
 -- the theorem: each trial gives what it should
 abbrev pub WorkTrialsHold : Type 0
