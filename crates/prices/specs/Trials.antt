@@ -2,30 +2,13 @@
 -- Assumes nothing.
 use Prim.Native.Nat.{ℕ}
 use lib.IntN.{ℤ, pos, negsuc}
-use lib.ListN.{getD, length}
 use mathlib.Core.List.{List, [], _∷_}
 use mathlib.Core.Option.{Option, none, some}
 use mathlib.Core.Path.{_≡_}
 use Rattle.graph.specs.Graph.{Graph}
+use Rattle.graph.specs.Yard.{graphFrom, pricesFrom, yard, yardPrices}
 use Rattle.prices.specs.Breaking.{breaking, counted}
 use Rattle.prices.specs.Quote.{Totals, quote}
-use Rattle.rowset.specs.Sets.{upTo}
-
--- the graph of n vertices whose rows, from the top, have these left and right ends
-abbrev graph : ℕ → List ℕ → List ℕ → Graph
-graph n left right =
-    record { n = n; m = length left; a = λ i. getD (0 ∷ left) i 0; b = λ i. getD (0 ∷ right) i 0; rows = upTo (length left) }
-
--- these prices, from the top
-abbrev prices : List ℤ → ℕ → ℤ
-prices l i = getD (pos 0 ∷ l) i (pos 0)
-
--- the yard: 1-2 of 5, 2-3 of 3, 3-4 of 5, 1-4 of 4, 1-3 of 6
-abbrev yard : Graph
-yard = graph 4 (1 ∷ 2 ∷ 3 ∷ 1 ∷ 1 ∷ []) (2 ∷ 3 ∷ 4 ∷ 4 ∷ 3 ∷ [])
-
-abbrev yardPrices : ℕ → ℤ
-yardPrices = prices (pos 5 ∷ pos 3 ∷ pos 5 ∷ pos 4 ∷ pos 6 ∷ [])
 
 abbrev quoted : ℤ → ℤ → Option Totals
 quoted x y = some (record { before = x; after = y })
@@ -40,7 +23,7 @@ QuotesHold =
     -- row 3 of 5 stands in for row 1 of 5: row 1 dearer costs nothing, and row 1 cheaper is worth the whole fall
     ∷ quote yard yardPrices 1 (pos 7) ∷ quote yard yardPrices 1 (negsuc 0)
     -- one row between two vertices moves by the whole change; no row between them: no quote
-    ∷ quote (graph 2 (1 ∷ []) (2 ∷ [])) (prices (negsuc 4 ∷ [])) 1 (pos 2) ∷ quote (graph 2 [] []) (prices []) 1 (pos 2)
+    ∷ quote (graphFrom 2 1 (1 ∷ []) (2 ∷ [])) (pricesFrom (negsuc 4 ∷ [])) 1 (pos 2) ∷ quote (graphFrom 2 0 [] []) (pricesFrom []) 1 (pos 2)
     ∷ [])
     ≡ (
     quoted (pos 12) (pos 13) ∷ quoted (pos 12) (pos 5)
@@ -52,17 +35,17 @@ QuotesHold =
 
 -- 1-2 of 2, 2-3 of 3, 1-3 of 7, 3-4 of -1
 abbrev tail : Graph
-tail = graph 4 (1 ∷ 2 ∷ 1 ∷ 3 ∷ []) (2 ∷ 3 ∷ 3 ∷ 4 ∷ [])
+tail = graphFrom 4 4 (1 ∷ 2 ∷ 1 ∷ 3 ∷ []) (2 ∷ 3 ∷ 3 ∷ 4 ∷ [])
 
 abbrev tailPrices : ℕ → ℤ
-tailPrices = prices (pos 2 ∷ pos 3 ∷ pos 7 ∷ negsuc 0 ∷ [])
+tailPrices = pricesFrom (pos 2 ∷ pos 3 ∷ pos 7 ∷ negsuc 0 ∷ [])
 
 -- 1-2 three times, of -3, 8 and -1
 abbrev triple : Graph
-triple = graph 2 (1 ∷ 2 ∷ 1 ∷ []) (2 ∷ 1 ∷ 2 ∷ [])
+triple = graphFrom 2 3 (1 ∷ 2 ∷ 1 ∷ []) (2 ∷ 1 ∷ 2 ∷ [])
 
 abbrev triplePrices : ℕ → ℤ
-triplePrices = prices (negsuc 2 ∷ pos 8 ∷ negsuc 0 ∷ [])
+triplePrices = pricesFrom (negsuc 2 ∷ pos 8 ∷ negsuc 0 ∷ [])
 
 abbrev BreakingHolds : Type 0
 BreakingHolds =

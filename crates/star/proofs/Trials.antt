@@ -34,7 +34,7 @@ refusal-trials-hold = refl
 
 pub answer-trials-hold : AnswerTrialsHold
 unfolding xor cheapest choose first next fragment treeOf tree crosses withEnds step grow joined between heavier improves rowIn rowOut equals replaces equalIn equalOut only onPath little inRow greaterThan sameAs smallest largest empty upTo both oneOf without put takeOut any firstOf uppermost sum count fromBits toBits total used graphOf weightOf marked claimed claimWeight claimFrom claimOf judged verdict cst wordAt columnWordsFrom matrixWords pathColumn matrixPath matrixOr matrixAfter chosenRows treeRows built mst1 builtMarks mst1Marks cause causeAt badVertices tooManyRows badLengths wrongRow badEnds badRow repeatsAbove repeats repeatedRow wrongByte badClaim badSource shortMatrix badCount unjoined isNone noTree tableCauses matrixPathCauses cstCauses mst1Causes orElse refusal exchanged fields builtFields bytesOf fieldBytes readBack wellLent doorReturns answerAfter cstDoor mst1Door mst1DoorMarks outcomeFields pathsDoor pathsDoorMatrix
-answer-trials-hold = (refl, refl, refl, refl, refl, refl, refl)
+answer-trials-hold = (refl, refl, refl, refl, refl)
 
 pub signed-trials-hold : SignedTrialsHold
 unfolding xor cheapest choose first next fragment treeOf tree crosses withEnds step grow joined between heavier improves rowIn rowOut equals replaces equalIn equalOut only onPath little inRow greaterThan sameAs smallest largest empty upTo both oneOf without put takeOut any firstOf uppermost sum count fromBits toBits total used graphOf weightOf marked claimed claimWeight claimFrom claimOf judged verdict cst wordAt columnWordsFrom matrixWords pathColumn matrixPath matrixOr matrixAfter chosenRows treeRows built mst1 builtMarks mst1Marks cause causeAt badVertices tooManyRows badLengths wrongRow badEnds badRow repeatsAbove repeats repeatedRow wrongByte badClaim badSource shortMatrix badCount unjoined isNone noTree tableCauses matrixPathCauses cstCauses mst1Causes orElse refusal exchanged fields builtFields bytesOf fieldBytes readBack wellLent doorReturns answerAfter cstDoor mst1Door mst1DoorMarks
@@ -46,4 +46,4 @@ only-trials-hold = (refl, refl, refl)
 
 pub work-trials-hold : WorkTrialsHold
 unfolding xor cheapest choose first next fragment treeOf tree crosses withEnds step grow joined between heavier improves rowIn rowOut equals replaces equalIn equalOut only onPath little inRow greaterThan sameAs smallest largest empty upTo both oneOf without put takeOut any firstOf uppermost sum count fromBits toBits total used graphOf weightOf marked claimed claimWeight claimFrom claimOf judged verdict cst wordAt columnWordsFrom matrixWords pathColumn matrixPath matrixOr matrixAfter chosenRows treeRows built mst1 builtMarks mst1Marks cause causeAt badVertices tooManyRows badLengths wrongRow badEnds badRow repeatsAbove repeats repeatedRow wrongByte badClaim badSource shortMatrix badCount unjoined isNone noTree tableCauses matrixPathCauses cstCauses mst1Causes orElse refusal exchanged fields builtFields fieldsBeside otherFields bytesOf fieldBytes readBack wellLent doorReturns answerAfter cstDoor mst1Door otherDoor rowsBeside equalRows mst1DoorMarks these inWords outcomeFields pathsDoor pathsDoorMatrix
-work-trials-hold = (refl, refl, refl, refl)
+work-trials-hold = (refl, refl)

@@ -10,5 +10,4 @@ pub mod RefusalTrials
 pub mod AnswerTrials
 pub mod SignedTrials
 pub mod OnlyTrials
-pub mod RepeatTrials
 pub mod WorkTrials

@@ -11,13 +11,13 @@ use native.Mathlib.Omega.{arith}
 use Rattle.rowset.specs.Bytes.{inRow}
 use Rattle.rowset.specs.Sets.{upTo, both}
 use Rattle.rowset.proofs.Laws.{refuted, any-some, none-any, uppermost-is, in-upTo}
 use Rattle.star.specs.Accepted.{PlainTable}
 use Rattle.star.specs.Call.{Call, used}
 use Rattle.star.specs.Refusals.{causeAt, samePair, repeatsAbove, repeats, repeatedRow}
-use Rattle.star.specs.RepeatTrials.{listed, rowsOfEnds, lefts, rights, lastLefts, lastRights, RepeatTrialsHold}
+use Rattle.largetrials.specs.RepeatTrials.{listed, rowsOfEnds, lefts, rights, lastLefts, lastRights, RepeatTrialsHold}
 use Rattle.star.specs.Trials.{because}
 use Rattle.star.proofs.Accepted.{pair-same, accepted-means, plain-means}
 use Rattle.star.proofs.Claims.{inRow-byte}
 
 listed-length : (f : ℕ → ℕ) (i k : ℕ) → length (listed f i k) ≡ k
 unfolding listed

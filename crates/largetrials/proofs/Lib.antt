@@ -1,0 +1,2 @@
+mod Trials
+mod RepeatTrials

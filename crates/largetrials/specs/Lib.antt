@@ -1,0 +1,3 @@
+pub mod WorkTrials
+pub mod RepeatTrials
+pub mod MatrixTrials
