@@ -1,5 +1,5 @@
 // Reads an STP text on standard input and prints the dig list of MST1's tree: a line a row with its position, ends and weight, and the total; or the line of a refusal.
-// The list is made whole by printer::text_list, whose contract says what it is, before a byte is printed. An error of reading or of writing is told on standard error.
+// The list is made whole by printer::print_text, whose contract says what it is, before a byte is printed. An error of reading or of writing is told on standard error.
 use libc::STDIN_FILENO;
 use libc::STDOUT_FILENO;
 use printer::LIST_BYTES;
@@ -10,7 +10,7 @@ const TEXT_BYTES: usize = 65537;
 // Prints the list of a text.
 fn list(text: &[u8]) {
     let mut bytes = [0u8; LIST_BYTES];
-    let size = printer::text_list(text, &mut bytes);
+    let size = printer::print_text(text, &mut bytes);
     if !streams::write_text(STDOUT_FILENO, &bytes, size) {
         os::fail(b"diglist: the list is not printed whole");
     }

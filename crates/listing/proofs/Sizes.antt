@@ -32,15 +32,15 @@ line-size left right weight i h l r =
       integer-length 9 (signed (inRow 4 weight i)) (omega arith) (omega arith),
     ))
 
--- lines of at most k bytes
-pub lines-size : (line : ℕ → List ℕ) (k m : ℕ) (p : ℕ → Bool) → ((i : ℕ) → 1 ≤ i → i ≤ m → length (line i) ≤ k) → length (rowLines line m p) ≤ k * count m p
+-- lines of at most k bytes each
+pub lines-size : (line : ℕ → List ℕ) (k m : ℕ) (p : ℕ → Bool) → ((i : ℕ) → 1 ≤ i → i ≤ m → p i ≡ true → length (line i) ≤ k) → length (rowLines line m p) ≤ k * count m p
 unfolding rowLines count sum
 lines-size line k zero p h = omega arith
-lines-size line k (suc m) p h = simp length-append (go (lines-size line k m p (λ i a b. h i a (omega arith))) (p (suc m)))
+lines-size line k (suc m) p h = simp length-append (go (lines-size line k m p (λ i a b. h i a (omega arith))) (p (suc m)) refl)
   where
-    go : length (rowLines line m p) ≤ k * sum m (λ i. 1) p → (b : Bool) → length (rowLines line m p) + length (cond b (line (suc m)) []) ≤ k * (sum m (λ i. 1) p + cond b 1 0)
-    go e true = omega (arith, h (suc m) (omega arith) (omega arith))
-    go e false = omega arith
+    go : length (rowLines line m p) ≤ k * sum m (λ i. 1) p → (b : Bool) → p (suc m) ≡ b → length (rowLines line m p) + length (cond b (line (suc m)) []) ≤ k * (sum m (λ i. 1) p + cond b 1 0)
+    go e true q = omega (arith, h (suc m) (omega arith) (omega arith) q)
+    go e false q = omega arith
 
 -- a sum of numbers that are at most c
 sum-count : (c m : ℕ) (w : ℕ → ℕ) (p : ℕ → Bool) → ((i : ℕ) → w i ≤ c) → sum m w p ≤ c * count m p

@@ -5,14 +5,14 @@ use Rattle.decimal.specs.Decimal.{digitsBy, natural, integer}
 use Rattle.decimal.specs.Reading.{readNatural, readInteger}
 use Rattle.graph.specs.Builder.{cheapest, choose, first, next, fragment, treeOf, tree}
 use Rattle.graph.specs.Graph.{crosses, withEnds}
-use Rattle.listing.specs.DigList.{rowLine, rowLines, totalLine, listTotal, digList, refusedLine, builtList, tableList, readList, textList}
+use Rattle.listing.specs.DigList.{rowLine, rowLines, totalLine, digList, refusedLine, builtList, tableList, readList, textList, printed}
 use Rattle.listing.specs.Reading.{onFirst, split, alike, digFrom, readRow, readTotal, atEnd, withRow, readLines, read}
 use Rattle.listing.specs.Trials.{PrintedHold, TextsHold, ReadHold, TrialsHold}
 use Rattle.rowset.specs.Bytes.{little, inRow}
 use Rattle.rowset.specs.Integers.{fromBits, toBits, total}
 use Rattle.rowset.specs.Searches.{smallest}
 use Rattle.rowset.specs.Sets.{empty, upTo, both, put, any, firstOf, uppermost, sum, count}
-use Rattle.star.specs.Call.{used, graphOf, weightOf, marked, claimFrom, claimOf}
+use Rattle.star.specs.Call.{used, graphOf, weightOf, marked, claimed, claimWeight, claimFrom, claimOf}
 use Rattle.star.specs.Door.{bytesOf}
 use Rattle.star.specs.Mst1.{chosenRows, treeRows, built, mst1, builtMarks, mst1Marks}
 use Rattle.star.specs.Refusals.{cause, causeAt, badVertices, tooManyRows, badLengths, wrongRow, badEnds, badRow, repeatsAbove, repeats, repeatedRow, isNone, noTree, tableCauses, mst1Causes, orElse, refusal}
@@ -24,11 +24,11 @@ use Rattle.words.specs.Numbers.{allDigits, isEmpty, decimal, digitsTo, numberOf
 use Rattle.words.specs.Text as text
 
 printed-hold : PrintedHold
-unfolding xor digitsBy natural integer cheapest choose first next fragment treeOf tree crosses withEnds rowLine rowLines totalLine listTotal digList refusedLine builtList tableList little inRow fromBits toBits total smallest empty upTo both put any firstOf uppermost sum count used graphOf weightOf marked claimFrom claimOf chosenRows treeRows built mst1 builtMarks mst1Marks cause causeAt badVertices tooManyRows badLengths wrongRow badEnds badRow repeatsAbove repeats repeatedRow isNone noTree tableCauses mst1Causes orElse refusal bytes
+unfolding xor digitsBy natural integer cheapest choose first next fragment treeOf tree crosses withEnds rowLine rowLines totalLine digList refusedLine printed builtList tableList little inRow fromBits toBits total smallest empty upTo both put any firstOf uppermost sum count used graphOf weightOf marked claimed claimWeight claimFrom claimOf chosenRows treeRows built mst1 builtMarks mst1Marks cause causeAt badVertices tooManyRows badLengths wrongRow badEnds badRow repeatsAbove repeats repeatedRow isNone noTree tableCauses mst1Causes orElse refusal bytes
 printed-hold = refl
 
 texts-hold : TextsHold
-unfolding xor digitsBy natural integer cheapest choose first next fragment treeOf tree crosses withEnds rowLine rowLines totalLine listTotal digList refusedLine builtList tableList readList textList bytesOf little inRow fromBits toBits total smallest empty upTo both put any firstOf uppermost sum count used graphOf weightOf marked claimFrom claimOf chosenRows treeRows built mst1 builtMarks mst1Marks cause causeAt badVertices tooManyRows badLengths wrongRow badEnds badRow repeatsAbove repeats repeatedRow isNone noTree tableCauses mst1Causes orElse refusal bounded readText tableOf badColumns badEdges importCauses sizes answered imported columnsOf reader.nothingRead reader.withGraph reader.withNodes reader.withEdges reader.endOf reader.withRow reader.when reader.counted reader.numberThen reader.priceThen reader.nextSection reader.named reader.skipLine reader.graphLine reader.next reader.isClosed reader.follow reader.readFrom bytes within classOf ofWords upper same is allDigits isEmpty decimal digitsTo numberOf opensBelow below priceOf text.after text.isFirst text.begins text.run text.prepend text.wordsFrom text.words
+unfolding xor digitsBy natural integer cheapest choose first next fragment treeOf tree crosses withEnds rowLine rowLines totalLine digList refusedLine printed builtList tableList readList textList bytesOf little inRow fromBits toBits total smallest empty upTo both put any firstOf uppermost sum count used graphOf weightOf marked claimed claimWeight claimFrom claimOf chosenRows treeRows built mst1 builtMarks mst1Marks cause causeAt badVertices tooManyRows badLengths wrongRow badEnds badRow repeatsAbove repeats repeatedRow isNone noTree tableCauses mst1Causes orElse refusal bounded readText tableOf badColumns badEdges importCauses sizes answered imported columnsOf reader.nothingRead reader.withGraph reader.withNodes reader.withEdges reader.endOf reader.withRow reader.when reader.counted reader.numberThen reader.priceThen reader.nextSection reader.named reader.skipLine reader.graphLine reader.next reader.isClosed reader.follow reader.readFrom bytes within classOf ofWords upper same is allDigits isEmpty decimal digitsTo numberOf opensBelow below priceOf text.after text.isFirst text.begins text.run text.prepend text.wordsFrom text.words
 texts-hold = refl
 
 read-hold : ReadHold

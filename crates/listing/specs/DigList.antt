@@ -1,15 +1,14 @@
--- The dig list: a line a marked row from the top, and the total; the line of a refusal; and what is printed of a table and of an STP text.
+-- The dig list: a line a marked row from the top, and the total; what is listed of a table and of an STP text, or the refusal; and what is printed of either.
 -- Assumes nothing.
 use Prim.Native.Nat.{ℕ, zero, suc, _*_}
 use mathlib.Core.Bool.{Bool, cond}
 use mathlib.Core.List.{List, [], _∷_, _++_}
 use lib.IntN.{ℤ}
-use lib.ListN.{length, replicate}
 use Rattle.decimal.specs.Decimal.{natural, integer}
 use Rattle.refusal.specs.declared.Refusal.{Refusal}
 use Rattle.rowset.specs.Bytes.{inRow}
-use Rattle.rowset.specs.Integers.{signed, total}
-use Rattle.star.specs.Call.{Call, callOf, marked}
+use Rattle.rowset.specs.Integers.{signed}
+use Rattle.star.specs.Call.{Call, callOf, withClaim, rowsOf, claimed, claimWeight}
 use Rattle.star.specs.Mst1.{BuildAnswer, unbuilt, treeBuilt, mst1, mst1Marks}
 use Rattle.star.specs.Refusals.{maxRows}
 use Rattle.steinlib.specs.Import.{ImportAnswer, untaken, taken, imported, readText, columnsOf}
@@ -34,30 +33,36 @@ rowLines line (suc m) p = rowLines line m p ++ cond (p (suc m)) (line (suc m)) [
 unfoldable pub totalLine : ℤ → List ℕ
 totalLine z = bytes "Total " ++ integer z ++ bytes "\n"
 
--- the sum of the marked rows' weights
-unfoldable pub listTotal : (left weight mark : List ℕ) → ℤ
-listTotal left weight mark = total (length left) (λ i. signed (inRow 4 weight i)) (marked mark)
+-- the dig list of a table and its claim: the lines of the claim's marked rows, and the sum of their weights
+unfoldable pub digList : Call → List ℕ
+digList c = rowLines (rowLine (c .left) (c .right) (c .weight)) (rowsOf c) (claimed c) ++ totalLine (claimWeight c)
 
--- the dig list of a table and its marks
-unfoldable pub digList : (left right weight mark : List ℕ) → List ℕ
-digList left right weight mark = rowLines (rowLine left right weight) (length left) (marked mark) ++ totalLine (listTotal left weight mark)
+-- what is listed: a text, or the refusal
+pub data ListAnswer : Type 0 where
+  unlisted : Refusal → ListAnswer
+  listing : List ℕ → ListAnswer
+
+-- of a table, plain or working: the list of MST1's tree
+unfoldable pub builtList : Call → BuildAnswer → ListAnswer
+builtList c (unbuilt r) = unlisted r
+builtList c (treeBuilt w) = listing (digList (withClaim c (mst1Marks c)))
+
+unfoldable pub tableList : Call → ListAnswer
+tableList c = builtList c (mst1 c)
+
+-- of an STP text: the import's refusal, or the list of the table that was read. No mark is read; the left column stands in for the marks, whose bytes MST1 does not look at
+unfoldable pub readList : Read → ImportAnswer → ListAnswer
+readList t (untaken r) = unlisted r
+readList t (taken n m) = tableList (callOf n (t .left) (t .right) (t .weight) (t .left))
+
+unfoldable pub textList : List ℕ → ListAnswer
+textList text = readList (columnsOf (readText text)) (imported text maxRows maxRows (4 * maxRows))
 
 -- the line of a refusal
 unfoldable pub refusedLine : Refusal → List ℕ
 refusedLine r = bytes "Refused " ++ spaced (r .number) ++ natural (r .place) ++ bytes "\n"
 
--- what is printed of a table: the list of MST1's tree, or its refusal
-unfoldable pub builtList : Call → BuildAnswer → List ℕ
-builtList c (unbuilt r) = refusedLine r
-builtList c (treeBuilt w) = digList (c .left) (c .right) (c .weight) (mst1Marks c)
-
-unfoldable pub tableList : Call → List ℕ
-tableList c = builtList c (mst1 c)
-
--- what is printed of an STP text: the import's refusal, or the list of the table that was read; its mark column, which MST1 does not read, is m zeros
-unfoldable pub readList : Read → ImportAnswer → List ℕ
-readList t (untaken r) = refusedLine r
-readList t (taken n m) = tableList (callOf n (t .left) (t .right) (t .weight) (replicate m 0))
-
-unfoldable pub textList : List ℕ → List ℕ
-textList text = readList (columnsOf (readText text)) (imported text maxRows maxRows (4 * maxRows))
+-- what is printed: the list, or the line of the refusal
+unfoldable pub printed : ListAnswer → List ℕ
+printed (unlisted r) = refusedLine r
+printed (listing text) = text

@@ -1,4 +1,5 @@
 pub mod DigList
+pub mod Door
 pub mod Reading
 pub mod Meaning
 pub mod Trials

@@ -8,11 +8,11 @@ use mathlib.Core.Path.{_≡_}
 use lib.IntN.{ℤ}
 use lib.ListN.{length}
 use Rattle.demand3.specs.Demand3.{ClaimTree}
-use Rattle.listing.specs.DigList.{digList, tableList}
+use Rattle.listing.specs.DigList.{digList, listing, tableList}
 use Rattle.listing.specs.Reading.{Dig, Listed, read, weighed, listed}
 use Rattle.rowset.specs.Bytes.{inRow}
 use Rattle.rowset.specs.Integers.{signed}
-use Rattle.star.specs.Call.{callOf, marked, claimWeight}
+use Rattle.star.specs.Call.{Call, withClaim, claimed, claimWeight}
 use Rattle.star.specs.Mst1.{treeBuilt, mst1, mst1Marks}
 use Rattle.star.specs.Refusals.{Accepted}
 
@@ -35,30 +35,29 @@ unfoldable pub AllStored : (left right weight : List ℕ) → List Dig → Type 
 AllStored left right weight [] = Unit
 AllStored left right weight (d ∷ ds) = AsStored left right weight d × AllStored left right weight ds
 
--- what the text of a list says of the table and the marks
-pub record Says (left right weight mark text : List ℕ) : Type 0 where
+-- what the text of a list says of a table and its claim
+pub record Says (c : Call) (text : List ℕ) : Type 0 where
   pub rows : List Dig
   -- the text reads back: these rows are on its lines above the last, and on the last is the sum of their weights
   pub reads : read text ≡ some (record { rows = rows; total = weighed rows })
   -- they stand from the top, each once
   pub from-top : Ascending 0 rows
-  -- they are exactly the marked rows
-  pub exactly : (i : ℕ) → listed i rows ≡ marked mark i
+  -- they are exactly the marked rows; a row that is not in use is never one
+  pub exactly : (i : ℕ) → listed i rows ≡ claimed c i
   -- with the ends and the weights of the table
-  pub as-stored : AllStored left right weight rows
+  pub as-stored : AllStored (c .left) (c .right) (c .weight) rows
 
 -- of a tree: n − 1 rows, the total is the tree's weight, and the text is at most 6,370 bytes long
-pub record SaysTree (n : ℕ) (left right weight mark text : List ℕ) : Type 0 where
-  pub says : Says left right weight mark text
-  pub number : suc (length (says .rows)) ≡ n
-  pub weight-of : weighed (says .rows) ≡ claimWeight (callOf n left right weight mark)
+pub record SaysTree (c : Call) (text : List ℕ) : Type 0 where
+  pub says : Says c text
+  pub number : suc (length (says .rows)) ≡ c .n
+  pub weight-of : weighed (says .rows) ≡ claimWeight c
   pub short : length text ≤ maxList
 
--- the theorem: of every accepted table and every spanning tree of it; and so of what is printed where MST1 builds a tree
-pub record DigListHolds (n : ℕ) (left right weight mark : List ℕ) : Type 0 where
-  pub every-tree : ClaimTree (callOf n left right weight mark) → SaysTree n left right weight mark (digList left right weight mark)
-  pub mst1-tree : (w : ℤ) → mst1 (callOf n left right weight mark) ≡ treeBuilt w
-      → SaysTree n left right weight (mst1Marks (callOf n left right weight mark)) (tableList (callOf n left right weight mark))
+-- the theorem: of every accepted table, plain or working, and every spanning tree of it; and so of what is listed where MST1 builds a tree
+pub record DigListHolds (c : Call) : Type 0 where
+  pub every-tree : ClaimTree c → SaysTree c (digList c)
+  pub mst1-tree : (w : ℤ) → mst1 c ≡ treeBuilt w → (text : List ℕ) × (tableList c ≡ listing text) × SaysTree (withClaim c (mst1Marks c)) text
 
 abbrev pub DigListTheorem : Type 0
-DigListTheorem = (n : ℕ) (left right weight mark : List ℕ) → Accepted (callOf n left right weight mark) → DigListHolds n left right weight mark
+DigListTheorem = (c : Call) → Accepted c → DigListHolds c

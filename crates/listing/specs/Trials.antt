@@ -2,14 +2,16 @@
 -- Assumes nothing.
 use Prim.Native.Nat.{ℕ}
 use Prim.Native.String.{String}
+use mathlib.Core.Bool.{true, not}
 use mathlib.Core.List.{List, [], _∷_, _++_}
 use mathlib.Core.Option.{Option, none, some}
 use mathlib.Core.Path.{_≡_}
+use lib.Dec.{eqb}
 use lib.IntN.{ℤ, pos, negsuc}
 use lib.ListN.{replicate}
-use Rattle.listing.specs.DigList.{digList, refusedLine, tableList, textList}
+use Rattle.listing.specs.DigList.{digList, refusedLine, tableList, textList, printed}
 use Rattle.listing.specs.Reading.{Dig, Listed, read}
-use Rattle.star.specs.Call.{Call, callOf}
+use Rattle.star.specs.Call.{Call, tableOf, callOf}
 use Rattle.words.specs.Bytes.{bytes}
 
 -- a weight below 256 as four bytes
@@ -26,26 +28,35 @@ yardRight = 2 ∷ 3 ∷ 4 ∷ 4 ∷ 3 ∷ []
 abbrev yardWeight : List ℕ
 yardWeight = small 5 ++ (small 3 ++ (small 5 ++ (small 4 ++ small 6)))
 
+-- the yard with this claim, of which row 4 is not in use
+abbrev struck : List ℕ → Call
+struck = tableOf 4 5 true (λ i. not (eqb i 4)) yardLeft yardRight yardWeight
+
 -- what is printed
 abbrev pub PrintedHold : Type 0
 PrintedHold =
     (
     -- the yard's tree, and another tree of the yard
-    tableList (callOf 4 yardLeft yardRight yardWeight (replicate 5 0))
-    ∷ digList yardLeft yardRight yardWeight (0 ∷ 1 ∷ 1 ∷ 1 ∷ 0 ∷ [])
+    printed (tableList (callOf 4 yardLeft yardRight yardWeight (replicate 5 0)))
+    ∷ digList (callOf 4 yardLeft yardRight yardWeight (0 ∷ 1 ∷ 1 ∷ 1 ∷ 0 ∷ []))
+    -- the yard without row 4: its tree, and a tree with a byte 1 at the struck row
+    ∷ printed (tableList (struck (replicate 5 0)))
+    ∷ digList (struck (1 ∷ 1 ∷ 1 ∷ 1 ∷ 0 ∷ []))
     -- one vertex; one row 2-1 of the least weight; rows of -3 and 12
-    ∷ tableList (callOf 1 [] [] [] [])
-    ∷ tableList (callOf 2 (2 ∷ []) (1 ∷ []) (0 ∷ 0 ∷ 0 ∷ 128 ∷ []) (0 ∷ []))
-    ∷ digList (7 ∷ 255 ∷ []) (10 ∷ 100 ∷ []) (253 ∷ 255 ∷ 255 ∷ 255 ∷ small 12) (1 ∷ 1 ∷ [])
+    ∷ printed (tableList (callOf 1 [] [] [] []))
+    ∷ printed (tableList (callOf 2 (2 ∷ []) (1 ∷ []) (0 ∷ 0 ∷ 0 ∷ 128 ∷ []) (0 ∷ [])))
+    ∷ digList (callOf 255 (7 ∷ 255 ∷ []) (10 ∷ 100 ∷ []) (253 ∷ 255 ∷ 255 ∷ 255 ∷ small 12) (1 ∷ 1 ∷ []))
     -- no spanning tree; equal ends in row 1
-    ∷ tableList (callOf 2 [] [] [] [])
-    ∷ tableList (callOf 2 (1 ∷ []) (1 ∷ []) (small 1) (0 ∷ []))
+    ∷ printed (tableList (callOf 2 [] [] [] []))
+    ∷ printed (tableList (callOf 2 (1 ∷ []) (1 ∷ []) (small 1) (0 ∷ [])))
     -- a refusal by its number and place
     ∷ refusedLine (record { number = 12; place = 65536 })
     ∷ [])
     ≡ (
     bytes "1 1 2 5\n2 2 3 3\n4 1 4 4\nTotal 12\n"
     ∷ bytes "2 2 3 3\n3 3 4 5\n4 1 4 4\nTotal 12\n"
+    ∷ bytes "1 1 2 5\n2 2 3 3\n3 3 4 5\nTotal 13\n"
+    ∷ bytes "1 1 2 5\n2 2 3 3\n3 3 4 5\nTotal 13\n"
     ∷ bytes "Total 0\n"
     ∷ bytes "1 2 1 -2147483648\nTotal -2147483648\n"
     ∷ bytes "1 7 10 -3\n2 255 100 12\nTotal 9\n"
@@ -58,9 +69,9 @@ PrintedHold =
 abbrev pub TextsHold : Type 0
 TextsHold =
     (
-    textList (bytes "33D32945\nSECTION Graph\nNodes 4\nEdges 5\nE 1 2 5\nE 2 3 3\nE 3 4 5\nE 1 4 4\nE 1 3 6\nEND\nEOF\n")
-    ∷ textList (bytes "33D32945\nGraph\n")
-    ∷ textList (bytes "33D32945\nSECTION Graph\nNodes 2\nEdges 0\nEND\nEOF")
+    printed (textList (bytes "33D32945\nSECTION Graph\nNodes 4\nEdges 5\nE 1 2 5\nE 2 3 3\nE 3 4 5\nE 1 4 4\nE 1 3 6\nEND\nEOF\n"))
+    ∷ printed (textList (bytes "33D32945\nGraph\n"))
+    ∷ printed (textList (bytes "33D32945\nSECTION Graph\nNodes 2\nEdges 0\nEND\nEOF"))
     ∷ [])
     ≡ (bytes "1 1 2 5\n2 2 3 3\n4 1 4 4\nTotal 12\n" ∷ bytes "Refused 12 9\n" ∷ bytes "Refused 11 0\n" ∷ [])
 

@@ -1,107 +1,154 @@
--- Laws of what is put at the start of a column: a text that is short stands there whole, and what follows from MST1's answer and from the import's.
+-- What is listed, by the checks, the tree that grows and the import's answer; and what is printed of it.
 -- Assumes nothing.
-use Prim.Native.Nat.{ℕ, zero, suc, _*_, _≤_}
+use Prim.Native.Nat.{ℕ, _*_, _≤_}
+use borrow.Author.Tests.{not-true, not-false}
 use lib.IntN.{ℤ}
 use lib.ListN.{length, take, replicate}
+use mathlib.Core.Bool.{Bool, true, false, not}
 use mathlib.Core.List.{List, [], _∷_, _++_}
 use mathlib.Core.Option.{Option, none, some}
 use mathlib.Core.Path.{_≡_, refl, sym, ap, _∙_}
 use native.Mathlib.Omega.{arith}
-use Rattle.checks.proofs.Laws.{refusal-both}
-use Rattle.claim.proofs.Laws.{claimRows-marked}
-use Rattle.claim.specs.Claims.{claimRows}
-use Rattle.decimal.proofs.Laws.{puts-whole, puts-size}
 use Rattle.decimal.specs.Puts.{Puts}
-use Rattle.demand3.proofs.Demand3.{built-accepted, unbuilt-built}
+use Rattle.graph.proofs.Builder.{built-spanning}
+use Rattle.graph.specs.Builder.{Fragment, tree}
+use Rattle.lines.proofs.Laws.{prints}
+use Rattle.lines.specs.Prints.{Prints}
 use Rattle.listing.proofs.Meaning.{dig-list-holds}
-use Rattle.listing.specs.DigList.{digList, refusedLine, builtList, tableList, readList, textList}
-use Rattle.mst1.specs.Answers.{answerOf}
-use Rattle.mst1.specs.declared.Built.{Built}
-use Rattle.mst1.specs.declared.Built.the-variants.{Tree, Refused}
-use Rattle.printer.specs.Prints.{Prints}
+use Rattle.listing.specs.DigList.{rowLine, rowLines, totalLine, digList, refusedLine, ListAnswer, unlisted, listing, builtList, tableList, readList, textList, printed}
+use Rattle.mst1.proofs.Answers.{loaded-weights, loaded-graph, tree-inside}
+use Rattle.mst1.proofs.Answers as answers
+use Rattle.mst1.specs.steps.Growth.{loadedGraph, Grows}
+use Rattle.printer.specs.Lists.{Lists}
+use Rattle.printer.specs.declared.Listed.{Listed}
+use Rattle.printer.specs.declared.Listed.the-variants as lists
+use Rattle.refusal.specs.Outcomes.{refusalOf}
+use Rattle.refusal.specs.declared.Outcome.{Outcome}
+use Rattle.refusal.specs.declared.Outcome.the-variants.{Done, Refused}
 use Rattle.refusal.specs.declared.Refusal.{Refusal}
 use Rattle.rowset.proofs.Integers.{total-cut}
-use Rattle.rowset.proofs.Laws.{refuted, both-inside}
-use Rattle.rowset.specs.Integers.{fromBits, total}
-use Rattle.rowset.specs.Sets.{upTo, both}
+use Rattle.rowset.proofs.Laws.{both-subset}
+use Rattle.rowset.specs.Bytes.{inRow}
+use Rattle.rowset.specs.Integers.{signed, total}
+use Rattle.rowset.specs.Sets.{empty, both}
 use Rattle.slice.specs.Slices.{size}
-use Rattle.star.proofs.Accepted.{accepted-means}
-use Rattle.star.specs.Accepted.{AcceptedTable}
-use Rattle.star.proofs.Claims.{marked-row}
-use Rattle.star.specs.Call.{Call, callOf, withClaim, marked}
-use Rattle.star.specs.Mst1.{BuildAnswer, unbuilt, treeBuilt, built, mst1, mst1Marks}
-use Rattle.star.specs.Refusals.{noTree, tableCauses, mst1Causes, orElse, refusal, Accepted}
+use Rattle.star.proofs.Accepted.{refusal-append, Taken, taken, used-row, sound}
+use Rattle.star.proofs.Claims.{marked-claimOf}
+use Rattle.star.proofs.Plain.{cutRows, same}
+use Rattle.star.specs.Call.{Call, callOf, withClaim, rowsOf, used, graphOf, weightOf, marked, claimed, claimWeight, claimOf}
+use Rattle.star.specs.Mst1.{unbuilt, treeBuilt, chosenRows, treeRows, built, builtMarks, mst1, mst1Marks}
+use Rattle.star.specs.Refusals.{Accepted, cause, isNone, noTree, tableCauses, mst1Causes, orElse, refusal}
 use Rattle.steinlib.proofs.Accepted.{import-holds}
 use Rattle.steinlib.specs.Accepted.{ImportTaken}
-use Rattle.steinlib.specs.Import.{ImportAnswer, untaken, taken, imported, readText, columnsOf, leftAfter, rightAfter, weightAfter}
-use Rattle.stp.specs.Answers.{answerOf as imported-answer}
+use Rattle.steinlib.specs.Import.{ImportAnswer, untaken, taken as imports, imported, readText, columnsOf, leftAfter, rightAfter, weightAfter}
+use Rattle.stp.specs.Answers.{answerOf}
 use Rattle.stp.specs.declared.Imported.{Imported}
-use Rattle.stp.specs.declared.Imported.the-variants.{Taken}
-use Rattle.stp.specs.declared.Imported.the-variants as imports
+use Rattle.stp.specs.declared.Imported.the-variants as stp
 use Rattle.stp.specs.declared.Sizes.{Sizes}
+use Rattle.table.specs.Loads.{loadedRow}
 
--- a text that is short enough
-pub prints : {before after text : List ℕ} {size : ℕ} → length text ≤ 6370 → Puts before 0 text after size → Prints before after size text
-prints h p = record { puts = p; short = h; whole = λ l. puts-whole p (omega arith); size-of = λ l. puts-size p (omega arith) }
+listing-text : {a b : List ℕ} → listing a ≡ listing b → a ≡ b
+listing-text q = cc
 
--- a table of which a tree is built is accepted
-tree-accepted : (c : Call) (w : ℤ) → treeBuilt w ≡ mst1 c → Accepted c
-unfolding mst1 built mst1Causes orElse
-tree-accepted c w e = go (refusal (tableCauses c)) refl
-  where
-    go : (o : Option Refusal) → refusal (tableCauses c) ≡ o → o ≡ none
-    go none h = refl
-    go (some r) h =
-        let q : refusal (tableCauses c ++ (noTree c ∷ [])) ≡ some r = refusal-both (tableCauses c) (noTree c ∷ []) ∙ ap (λ x. orElse x (refusal (noTree c ∷ []))) h in
-        absurd (unbuilt-built (ap (built c) q) (sym e))
+-- ── Tables ──
 
-module _ (n : ℕ) (left right weight mark marks : List ℕ) where
-  -- the marks that MST1 leaves are as many as the rows
-  pub tree-rows : (w : ℤ) → treeBuilt w ≡ mst1 (callOf n left right weight mark) → marks ≡ mst1Marks (callOf n left right weight mark)
-      → (length marks ≤ 1024) × (length left ≡ length marks)
-  tree-rows w e m =
-      let c = callOf n left right weight mark in
-      let a = accepted-means (withClaim c (mst1Marks c)) .0 (built-accepted c (tree-accepted c w e) w (sym e)) in
-      let l : length marks ≡ length left = ap length m ∙ a .mark-length in
-      (omega (arith, a .rows), sym l)
+module _ (c : Call) where
+  -- a table that the checks refuse
+  pub table-refused : {o : Outcome} {r : Refusal} → refusalOf o ≡ refusal (tableCauses c) → o ≡ Refused r → tableList c ≡ unlisted r
+  unfolding tableList builtList
+  table-refused e q = rw (← answers.table-refused c e q .0) refl
 
-  module _ {out after : List ℕ} {size : ℕ} where
-    -- the list of a tree
-    pub tree-list : (w : ℤ) → treeBuilt w ≡ mst1 (callOf n left right weight mark) → marks ≡ mst1Marks (callOf n left right weight mark)
-        → Puts out 0 (digList left right weight marks) after size → Prints out after size (tableList (callOf n left right weight mark))
-    unfolding tableList builtList
-    tree-list w e m p =
-        let c = callOf n left right weight mark in
-        let s = dig-list-holds n left right weight mark (tree-accepted c w e) .mst1-tree w (sym e) .short in
-        prints s (rw (← e) (rw m at p))
+  -- a table that they accept
+  module _ {o : Outcome} (checked : refusalOf o ≡ refusal (tableCauses c)) (done : o ≡ Done) where
+    accepted : Accepted c
+    unfolding refusalOf
+    accepted = sym checked ∙ ap refusalOf done
 
--- the line of MST1's refusal
-pub refused-list : (c : Call) {out after : List ℕ} {size : ℕ} (r : Refusal) → unbuilt r ≡ mst1 c → Prints out after size (refusedLine r) → Prints out after size (tableList c)
-unfolding tableList builtList
-refused-list c r e p = rw (← e) p
+    t : Taken c
+    t = taken c accepted
 
--- MST1's answer by its cases
-pub tree-answer : (b : Built) (bits : ℕ) (x : BuildAnswer) → b ≡ Tree bits → answerOf b ≡ x → treeBuilt (fromBits 64 bits) ≡ x
-unfolding answerOf
-tree-answer b bits x h e = rw h at e
+    loaded-tree : tree (loadedGraph (c .n) (c .m) (c .inUse) (c .left) (c .right)) (λ i. signed (loadedRow 4 (c .weight) i)) ≡ tree (graphOf c) (weightOf c)
+    unfolding graphOf weightOf used
+    loaded-tree = rw (loaded-weights c t) (loaded-graph c t (c .inUse) (weightOf c))
 
-pub refused-answer : (b : Built) (r : Refusal) (x : BuildAnswer) → b ≡ Refused r → answerOf b ≡ x → unbuilt r ≡ x
-unfolding answerOf
-refused-answer b r x h e = rw h at e
+    -- the rows of the tree are in use
+    tree-used : (i : ℕ) → treeRows c i ≡ true → used c i ≡ true
+    unfolding treeRows chosenRows graphOf empty
+    tree-used i = go (tree (graphOf c) (weightOf c)) refl
+      where
+        go : (x : Option Fragment) → tree (graphOf c) (weightOf c) ≡ x → chosenRows x i ≡ true → used c i ≡ true
+        go none e h = cc
+        go (some f) e h = built-spanning (graphOf c) (sound c t) (weightOf c) f e .inside i h
 
--- zeros lent for m rows
-pub take-zeros : (k m : ℕ) → m ≤ k → _≡_ {A = List ℕ} (take m (replicate k 0)) (replicate m 0)
-take-zeros k zero h = refl
-take-zeros zero (suc m) h = absurd (omega arith)
-take-zeros (suc k) (suc m) h = rw (take-zeros k m (omega arith))
+    tree-rows : (i : ℕ) → treeRows c i ≡ true → (1 ≤ i) × (i ≤ rowsOf c)
+    tree-rows i h = let (l, p, x) = used-row c i (tree-used i h) in (l, p)
+
+    module _ {whole : Bool} {chosen : ℕ → Bool} (g : Grows (loadedGraph (c .n) (c .m) (c .inUse) (c .left) (c .right)) (λ i. signed (loadedRow 4 (c .weight) i)) whole chosen) where
+      -- where there is no tree
+      pub tree-refused : whole ≡ false → tableList c ≡ unlisted (record { number = 11; place = 0 })
+      unfolding tableList builtList
+      tree-refused e = rw (← answers.tree-refused c checked done g e .0) refl
+
+      -- where there is one
+      module _ (e : whole ≡ true) where
+        no-cause : refusal (mst1Causes c) ≡ none
+        unfolding mst1Causes refusal orElse noTree cause
+        no-cause =
+            let q : isNone (tree (graphOf c) (weightOf c)) ≡ false = not-true _ ((rw (← loaded-tree) (sym (g .all))) ∙ e) in
+            refusal-append (tableCauses c) (noTree c ∷ []) accepted ∙ rw q
+
+        chosen-tree : chosen ≡ treeRows c
+        unfolding treeRows
+        chosen-tree = rw (← loaded-tree) (g .rows)
+
+        tree-built : mst1 c ≡ treeBuilt (total (rowsOf c) (weightOf c) (treeRows c))
+        unfolding mst1 built
+        tree-built = rw no-cause
+
+        tree-marks : mst1Marks c ≡ claimOf (rowsOf c) (treeRows c)
+        unfolding mst1Marks builtMarks
+        tree-marks = rw no-cause
+
+        -- the claim that MST1 writes marks the rows that were chosen
+        claimed-tree : claimed (withClaim c (mst1Marks c)) ≡ chosen
+        unfolding claimed used
+        claimed-tree =
+            rw (tree-marks, marked-claimOf (rowsOf c) (treeRows c) tree-rows, chosen-tree) (both-subset (used c) (treeRows c) tree-used)
+
+        chosen-weight : total size (λ i. signed (inRow 4 (c .weight) i)) chosen ≡ total (rowsOf c) (weightOf c) chosen
+        unfolding weightOf treeRows
+        chosen-weight = rw chosen-tree (total-cut size (rowsOf c) (weightOf c) (treeRows c) (t .few-rows) (tree-inside c t (weightOf c)))
+
+        -- their list is that of MST1's tree
+        chosen-list : rowLines (rowLine (c .left) (c .right) (c .weight)) (c .m) chosen ++ totalLine (total size (λ i. signed (inRow 4 (c .weight) i)) chosen) ≡ digList (withClaim c (mst1Marks c))
+        unfolding digList claimWeight weightOf
+        chosen-list = rw (claimed-tree, chosen-weight) refl
+
+        listed : tableList c ≡ listing (digList (withClaim c (mst1Marks c)))
+        unfolding tableList builtList
+        listed = rw tree-built refl
+
+        pub tree-listed : {out after : List ℕ} {k : ℕ} → Puts out 0 (rowLines (rowLine (c .left) (c .right) (c .weight)) (c .m) chosen ++ totalLine (total size (λ i. signed (inRow 4 (c .weight) i)) chosen)) after k
+            → (text : List ℕ) × (tableList c ≡ listing text) × Prints out after k text
+        tree-listed p =
+            let h = dig-list-holds c accepted .mst1-tree _ tree-built in
+            let z = listing-text (sym listed ∙ h .1) in
+            (digList (withClaim c (mst1Marks c)), listed, prints (rw (← z) at (h .2 .short)) (rw chosen-list at p))
+
+-- the plain call with its rows as a slice holds them is listed as the plain call
+pub plain-list : (n : ℕ) (left right weight : List ℕ) → tableList (cutRows n left right weight left) ≡ tableList (callOf n left right weight left)
+unfolding tableList builtList mst1 built mst1Causes
+plain-list n left right weight = same n left right weight left tableList (λ r p q. rw (p _, q _))
+
+-- ── Texts ──
 
 -- the import's answer by its cases
-pub taken-answer : (a : Imported) (s : Sizes) (x : ImportAnswer) → a ≡ Taken s → imported-answer a ≡ x → taken (s .n) (s .m) ≡ x
-unfolding imported-answer
+pub taken-answer : (a : Imported) (s : Sizes) (x : ImportAnswer) → a ≡ stp.Taken s → answerOf a ≡ x → imports (s .n) (s .m) ≡ x
+unfolding answerOf
 taken-answer a s x h e = rw h at e
 
-pub untaken-answer : (a : Imported) (r : Refusal) (x : ImportAnswer) → a ≡ imports.Refused r → imported-answer a ≡ x → untaken r ≡ x
-unfolding imported-answer
+pub untaken-answer : (a : Imported) (r : Refusal) (x : ImportAnswer) → a ≡ stp.Refused r → answerOf a ≡ x → untaken r ≡ x
+unfolding answerOf
 untaken-answer a r x h e = rw h at e
 
 -- columns of zeros, into which a text is imported
@@ -111,26 +158,31 @@ short = replicate 1024 0
 abbrev long : List ℕ
 long = replicate 4096 0
 
--- the list of a text that is taken, and the line of the import's refusal
-module _ (text : List ℕ) (n m : ℕ) (e : taken n m ≡ imported text 1024 1024 4096) where
+-- a text that is taken, and one that is refused
+module _ (text : List ℕ) (n m : ℕ) (e : imports n m ≡ imported text 1024 1024 4096) where
   import-taken : ImportTaken text short short long n m
   import-taken = import-holds text short short long .takes n m (sym e)
 
   pub few-rows : m ≤ 1024
   few-rows = import-taken .few-rows
 
-  pub taken-text : {left right weight : List ℕ} {out after : List ℕ} {size : ℕ} → left ≡ leftAfter text short short long → right ≡ rightAfter text short short long → weight ≡ weightAfter text short short long
-      → Prints out after size (tableList (callOf n (take m left) (take m right) (take (4 * m) weight) (replicate m 0))) → Prints out after size (textList text)
+  pub taken-text : {left right weight : List ℕ} → left ≡ leftAfter text short short long → right ≡ rightAfter text short short long → weight ≡ weightAfter text short short long
+      → tableList (callOf n (take m left) (take m right) (take (4 * m) weight) (take m left)) ≡ textList text
   unfolding textList readList
-  taken-text l r w p =
-      rw (← e, ← import-taken .left-rows, ← import-taken .right-rows, ← import-taken .weight-rows) (rw (l, r, w) at p)
+  taken-text l r w =
+      rw (← e, l, r, w, import-taken .left-rows, import-taken .right-rows, import-taken .weight-rows) refl
 
-pub refused-text : (text : List ℕ) (r : Refusal) → untaken r ≡ imported text 1024 1024 4096 → {out after : List ℕ} {size : ℕ} → Prints out after size (refusedLine r) → Prints out after size (textList text)
+pub refused-text : (text : List ℕ) (r : Refusal) → untaken r ≡ imported text 1024 1024 4096 → textList text ≡ unlisted r
 unfolding textList readList
-refused-text text r e p = rw (← e) p
+refused-text text r e = rw (← e) refl
 
--- the rows that a claim of at most 1,024 bytes marks, found among all rows of a slice, weigh what its marked rows weigh
-pub marked-total : (l : List ℕ) (w : ℕ → ℤ) → length l ≤ size → total size w (both (upTo size) (claimRows l)) ≡ total (length l) w (marked l)
-marked-total l w h =
-    rw (claimRows-marked l h, both-inside size (marked l) (λ i m. let r = marked-row l i m in (r .0, omega arith)))
-    (total-cut size (length l) w (marked l) h (λ i q. refuted (marked l i) (λ m. omega (arith, marked-row l i m))))
+-- ── What is printed ──
+
+module _ (a : ListAnswer) {out after : List ℕ} (l : Listed) (h : Lists a out after l) where
+  pub listed-printed : (k : ℕ) → l ≡ lists.Text k → Prints out after k (printed a)
+  unfolding Lists printed
+  listed-printed k e = let (text, q, p) = rw e at h in rw q p
+
+  pub refusal-printed : (r : Refusal) → l ≡ lists.Refused r → {later : List ℕ} {k : ℕ} → Prints after later k (refusedLine r) → Prints out later k (printed a)
+  unfolding Lists printed
+  refusal-printed r e p = let (q, same) = rw e at h in rw q (rw same at p)

@@ -1,24 +1,20 @@
-// The dig list, made in a lent column of bytes: of a table, by MST1's tree, and of an STP text, by the import and MST1.
-// What is printed is these bytes; nothing is printed here.
-ghost use mathlib.Core.Bool.{cond};
-ghost use mathlib.Core.List.{[]};
+// The dig list of MST1's tree, made in a lent column of bytes: of a table, plain or working, and of an STP text.
+// What is printed is these bytes, or the line of the refusal; nothing is printed here.
 ghost use mathlib.Core.Path.{_≡_};
 ghost use Prim.Native.Nat.{_*_, _≤_};
-ghost use lib.ListN.{length, take, replicate};
-ghost use Rattle.decimal.specs.Puts.{Puts};
-ghost use Rattle.listing.specs.DigList.{spaced, rowLine, rowLines, totalLine, digList, refusedLine, tableList, textList};
-ghost use Rattle.printer.specs.Prints.{Prints};
-ghost use Rattle.rowset.specs.Integers.{fromBits};
-ghost use Rattle.star.specs.Call.{callOf, marked};
-ghost use Rattle.star.specs.Mst1.{mst1Marks};
-use decimal::put_byte;
-use decimal::put_integer;
-use decimal::put_natural;
-use decimal::put_price;
-use decimal::put_text;
-use mst1::Built;
+ghost use lib.ListN.{length, take};
+ghost use Rattle.lines.specs.Prints.{Prints};
+ghost use Rattle.listing.specs.DigList.{tableList, textList, printed};
+ghost use Rattle.printer.specs.Lists.{Lists};
+ghost use Rattle.slice.specs.Slices.{component};
+ghost use Rattle.star.specs.Call.{tableOf, callOf, workOf};
+use refusal::Outcome;
 use refusal::Refusal;
+use slice::SIZE;
 use slice::Slice;
+use slice::WORDS;
+use slice::rows::rows_to;
+use slice::words::rows_in_use;
 use stp::Imported;
 use stp::Sizes;
 
@@ -30,134 +26,92 @@ const ROWS: usize = 1024;
 
 const WEIGHT_BYTES: usize = 4096;
 
-// The bytes LF and space.
-const LINE_END: u8 = 10;
-
-const SPACE: u8 = 32;
-
-// A number and the space after it.
-fn put_spaced(out: &mut [u8], at: usize, x: u64) -> usize
-    ensures { λ r. ⌜ Puts (now (out .entry)) at (spaced x) (now (out .exit)) r ⌝ }
-{
-    let next = put_natural(out, at, x);
-    put_byte(out, next, SPACE)
+// What is listed: the length of the text, or the refusal.
+pub enum Listed {
+    Text(usize),
+    Refused(Refusal),
 }
 
-// The line of row i: position, left, right, weight.
-fn put_row(out: &mut [u8], at: usize, left: &[u8], right: &[u8], weight: &[u8], i: usize) -> usize
-    ensures { λ r. ⌜ Puts (now (out .entry)) at (rowLine (now (left .entry)) (now (right .entry)) (now (weight .entry)) i) (now (out .exit)) r ⌝ }
-{
-    let l = checks::row_byte(left, i) as u64;
-    let r = checks::row_byte(right, i) as u64;
-    let w = checks::row_weight(weight, i);
-    let first = put_spaced(out, at, i as u64);
-    let second = put_spaced(out, first, l);
-    let third = put_spaced(out, second, r);
-    let last = put_price(out, third, w);
-    put_byte(out, last, LINE_END)
-}
-
-// The line of row i where it is marked, and nothing where it is not.
-fn put_marked(
-    out: &mut [u8],
-    at: usize,
-    left: &[u8],
-    right: &[u8],
-    weight: &[u8],
-    mark: &[u8],
-    i: usize,
-) -> usize
-    requires { ⌜ at ≤ length (now out) ⌝ }
-    ensures { λ r. ⌜ Puts (now (out .entry)) at (cond (marked (now (mark .entry)) i) (rowLine (now (left .entry)) (now (right .entry)) (now (weight .entry)) i) []) (now (out .exit)) r ⌝ }
-{
-    if checks::row_byte(mark, i) == 1 {
-        return put_row(out, at, left, right, weight, i);
-    }
-    at
-}
-
-// The lines of the marked rows, from the top.
-fn put_rows(out: &mut [u8], left: &[u8], right: &[u8], weight: &[u8], mark: &[u8]) -> usize
-    ensures { λ r. ⌜ Puts (now (out .entry)) 0 (rowLines (rowLine (now (left .entry)) (now (right .entry)) (now (weight .entry))) (length (now (left .entry))) (marked (now (mark .entry)))) (now (out .exit)) r ⌝ }
-{
-    let mut next = 0;
-    let mut i = 0;
-    while i < left.len() {
-        i += 1;
-        next = put_marked(out, next, left, right, weight, mark, i);
-    }
-    next
-}
-
-// The last line, of the total that 64 bits stand for.
-fn put_total(out: &mut [u8], at: usize, bits: u64) -> usize
-    ensures { λ r. ⌜ Puts (now (out .entry)) at (totalLine (fromBits 64 bits)) (now (out .exit)) r ⌝ }
-{
-    let word = put_text(out, at, b"Total ");
-    let number = put_integer(out, word, bits);
-    put_byte(out, number, LINE_END)
-}
-
-// The list of a table of at most 1,024 rows and its marks.
-fn put_list(out: &mut [u8], left: &[u8], right: &[u8], weight: &[u8], mark: &[u8]) -> usize
-    requires { ⌜ (length (now mark) ≤ 1024) × (length (now left) ≡ length (now mark)) ⌝ }
-    ensures { λ r. ⌜ Puts (now (out .entry)) 0 (digList (now (left .entry)) (now (right .entry)) (now (weight .entry)) (now (mark .entry))) (now (out .exit)) r ⌝ }
-{
-    let bits = claim::weigh(weight, claim::claim_rows(mark, Slice::full()));
-    let next = put_rows(out, left, right, weight, mark);
-    put_total(out, next, bits)
-}
-
-// The line of a refusal.
-fn put_refused(out: &mut [u8], r: Refusal) -> usize
-    ensures { λ k. ⌜ Prints (now (out .entry)) (now (out .exit)) k (refusedLine r) ⌝ }
-{
-    let word = put_text(out, 0, b"Refused ");
-    let number = put_spaced(out, word, r.number as u64);
-    let place = put_natural(out, number, r.place as u64);
-    put_byte(out, place, LINE_END)
-}
-
-// The list of MST1's tree over a table, or its refusal; the marks afterwards are MST1's.
-pub fn table_list(
+// The list over a table of m rows, of which those of a slice are in use. No mark column is taken; the left column stands in its place.
+pub fn rows_list(
     n: u32,
+    m: usize,
+    whole: bool,
+    rows: Slice,
     left: &[u8],
     right: &[u8],
     weight: &[u8],
-    mark: &mut [u8],
     out: &mut [u8],
-) -> usize
-    ensures list { λ r. ⌜ Prints (now (out .entry)) (now (out .exit)) r (tableList (callOf n (now (left .entry)) (now (right .entry)) (now (weight .entry)) (now (mark .entry)))) ⌝ }
-    ensures marks { λ r. ⌜ now (mark .exit) ≡ mst1Marks (callOf n (now (left .entry)) (now (right .entry)) (now (weight .entry)) (now (mark .entry))) ⌝ }
+) -> Listed
+    ensures { λ r.
+        let c = tableOf n m whole (component rows) (now (left .entry)) (now (right .entry)) (now (weight .entry)) (now (left .entry)) in
+        ⌜ Lists (tableList c) (now (out .entry)) (now (out .exit)) r ⌝ }
 {
-    let built = mst1::mst1(n, left, right, weight, mark);
-    match built {
-        Built::Tree(_) => put_list(out, left, right, weight, mark),
-        Built::Refused(r) => put_refused(out, r),
+    if let Outcome::Refused(refusal) = checks::table_check(
+        n,
+        m,
+        whole,
+        rows,
+        left,
+        right,
+        weight,
+        left,
+    ) {
+        return Listed::Refused(refusal);
     }
+    let tree = mst1::tree_of(n, m, rows, left, right, weight);
+    if !tree.whole {
+        return Listed::Refused(Refusal {
+            number: 11,
+            place: 0,
+        });
+    }
+    let size = lines::put_list(out, m, left, right, weight, tree.chosen);
+    Listed::Text(size)
 }
 
-// The list of the table that an import wrote into columns of 1,024 rows; its marks are zeros before MST1 writes them.
-fn imported_list(s: Sizes, left: &[u8], right: &[u8], weight: &[u8], out: &mut [u8]) -> usize
-    requires { ⌜ (s .m ≤ 1024) × (length (now left) ≡ 1024) × (length (now right) ≡ 1024) × (length (now weight) ≡ 4096) ⌝ }
-    ensures { λ r. ⌜ Prints (now (out .entry)) (now (out .exit)) r (tableList (callOf (s .n) (take (s .m) (now (left .entry))) (take (s .m) (now (right .entry))) (take (4 * s .m) (now (weight .entry))) (replicate (s .m) 0))) ⌝ }
+// The list over a plain table: a row for each byte of the left column, all in use.
+pub fn table_list(n: u32, left: &[u8], right: &[u8], weight: &[u8], out: &mut [u8]) -> Listed
+    ensures { λ r.
+        let c = callOf n (now (left .entry)) (now (right .entry)) (now (weight .entry)) (now (left .entry)) in
+        ⌜ Lists (tableList c) (now (out .entry)) (now (out .exit)) r ⌝ }
 {
-    let mut mark = [0u8; ROWS];
+    let m = left.len();
+    rows_list(n, m, true, rows_to(m), left, right, weight, out)
+}
+
+// The list over a working table: 1,024 rows, and the rows in use lent as sixteen words.
+pub fn work_list(
+    n: u32,
+    words: &[u64],
+    left: &[u8],
+    right: &[u8],
+    weight: &[u8],
+    out: &mut [u8],
+) -> Listed
+    ensures { λ r.
+        let c = workOf n (now (words .entry)) (now (left .entry)) (now (right .entry)) (now (weight .entry)) (now (left .entry)) in
+        ⌜ Lists (tableList c) (now (out .entry)) (now (out .exit)) r ⌝ }
+{
+    let whole = words.len() == WORDS;
+    rows_list(n, SIZE, whole, rows_in_use(words), left, right, weight, out)
+}
+
+// The list of the table that an import wrote into columns of 1,024 rows.
+fn imported_list(s: Sizes, left: &[u8], right: &[u8], weight: &[u8], out: &mut [u8]) -> Listed
+    requires { ⌜ (s .m ≤ 1024) × (length (now left) ≡ 1024) × (length (now right) ≡ 1024) × (length (now weight) ≡ 4096) ⌝ }
+    ensures { λ r.
+        let c = callOf (s .n) (take (s .m) (now (left .entry))) (take (s .m) (now (right .entry))) (take (4 * s .m) (now (weight .entry))) (take (s .m) (now (left .entry))) in
+        ⌜ Lists (tableList c) (now (out .entry)) (now (out .exit)) r ⌝ }
+{
     let m = s.m as usize;
     let w = 4 * m;
-    table_list(
-        s.n,
-        &left[..m],
-        &right[..m],
-        &weight[..w],
-        &mut mark[..m],
-        out,
-    )
+    table_list(s.n, &left[..m], &right[..m], &weight[..w], out)
 }
 
 // The list of an STP text's table, or the refusal of the import or of MST1.
-pub fn text_list(text: &[u8], out: &mut [u8]) -> usize
-    ensures { λ r. ⌜ Prints (now (out .entry)) (now (out .exit)) r (textList (now (text .entry))) ⌝ }
+pub fn text_list(text: &[u8], out: &mut [u8]) -> Listed
+    ensures { λ r. ⌜ Lists (textList (now (text .entry))) (now (out .entry)) (now (out .exit)) r ⌝ }
 {
     let mut left = [0u8; ROWS];
     let mut right = [0u8; ROWS];
@@ -165,6 +119,17 @@ pub fn text_list(text: &[u8], out: &mut [u8]) -> usize
     let answer = stp::import(text, &mut left, &mut right, &mut weight);
     match answer {
         Imported::Taken(s) => imported_list(s, &left, &right, &weight, out),
-        Imported::Refused(r) => put_refused(out, r),
+        Imported::Refused(r) => Listed::Refused(r),
+    }
+}
+
+// What is printed of an STP text: its list, or the line of the refusal; the number of bytes is returned.
+pub fn print_text(text: &[u8], out: &mut [u8]) -> usize
+    ensures { λ r. ⌜ Prints (now (out .entry)) (now (out .exit)) r (printed (textList (now (text .entry)))) ⌝ }
+{
+    let list = text_list(text, out);
+    match list {
+        Listed::Text(size) => size,
+        Listed::Refused(r) => lines::put_refused(out, r),
     }
 }

@@ -117,9 +117,11 @@ pub fn quote_rows(
     }
     let prices = replaced(weight, row as usize, price);
     let new = mst1::tree_of(n, m, rows, left, right, &prices.bytes);
+    let before = claim::weigh(weight, old.chosen);
+    let after = claim::weigh(&prices.bytes, new.chosen);
     Quoted::Totals(Totals {
-        before: claim::weigh(weight, old.chosen),
-        after: claim::weigh(&prices.bytes, new.chosen),
+        before: before,
+        after: after,
     })
 }
 

@@ -7,6 +7,7 @@ ghost use mathlib.Core.List.{_++_};
 ghost use mathlib.Core.Path.{_≡_};
 ghost use Rattle.answer.specs.Records.{fieldsOf};
 ghost use Rattle.quote.specs.Answers.{answerOf};
+ghost use Rattle.quoting.specs.Bytes.{QuoteCall};
 ghost use Rattle.quoting.specs.Door.{quoteFields, afterOf, lentQuote, quoteReturns, quoteDoor};
 ghost use Rattle.quoting.specs.Quote.{asked, askedWork};
 ghost use Rattle.rowset.specs.Integers.{fromBits, toBits};
@@ -110,6 +111,7 @@ fn write_quote(answer: &mut [u8], x: QuoteRecord)
 }
 
 // The quote through the door: row's price becomes the one whose 32 bits are price.
+// `means` says what the bytes are worth: both totals that are read back are least totals, of the table and of the table with the row's price replaced.
 #[no_mangle]
 pub extern "C" fn star_quote(
     n: u32,
@@ -124,6 +126,9 @@ pub extern "C" fn star_quote(
     ensures answered { λ r.
         let c = asked n (now (left .entry)) (now (right .entry)) (now (weight .entry)) in
         ⌜ now (answer .exit) ≡ quoteDoor c row price (now (answer .entry)) ⌝ }
+    ensures means { λ r.
+        let c = asked n (now (left .entry)) (now (right .entry)) (now (weight .entry)) in
+        ⌜ QuoteCall c row price (now (answer .entry)) (now (answer .exit)) r ⌝ }
 {
     if answer.len() != LENGTH {
         return 0;
@@ -134,7 +139,7 @@ pub extern "C" fn star_quote(
     1
 }
 
-// The quote of a working table, whose rows in use are lent as sixteen words, through the door.
+// The quote of a working table, whose rows in use are lent as sixteen words, through the door. `means` as above, of the rows in use.
 #[no_mangle]
 pub extern "C" fn star_work_quote(
     n: u32,
@@ -150,6 +155,9 @@ pub extern "C" fn star_work_quote(
     ensures answered { λ r.
         let c = askedWork n (now (words .entry)) (now (left .entry)) (now (right .entry)) (now (weight .entry)) in
         ⌜ now (answer .exit) ≡ quoteDoor c row price (now (answer .entry)) ⌝ }
+    ensures means { λ r.
+        let c = askedWork n (now (words .entry)) (now (left .entry)) (now (right .entry)) (now (weight .entry)) in
+        ⌜ QuoteCall c row price (now (answer .entry)) (now (answer .exit)) r ⌝ }
 {
     if answer.len() != LENGTH {
         return 0;

@@ -1,6 +1,8 @@
 -- `printer::text_list` meets its contract: what follows from each of the import's answers. Assumes nothing.
 use borrow.Author.Needs.{needs}
+use mathlib.Core.Path.{refl, sym, _∙_}
 use Rattle.printer.proofs.Laws.{taken-answer, untaken-answer, few-rows, taken-text, refused-text}
+use Rattle.printer.specs.Lists.{Lists}
 use Rattle.printer.proofs.text_list.Statement.{statement}
 use Rattle.printer.proofs.text_list.Tie as tie
 
@@ -12,10 +14,11 @@ imported-list-requires c κs =
 returns : tie.Need-returns
 returns c =
     let i = c .before .before .before .before .before .before .before .before .before .before .before .before .before .import .ensures in
-    taken-text _ _ _ (taken-answer _ _ _ (c .before .before .before .before .before .before .before .before .answer .given .1) (i .0)) (i .1 .0) (i .1 .1 .0) (i .1 .1 .1) (c .before .before .imported-list .ensures)
+    rw (taken-text _ _ _ (taken-answer _ _ _ (c .before .before .before .before .before .before .before .before .answer .given .1) (i .0)) (i .1 .0) (i .1 .1 .0) (i .1 .1 .1)) at (c .before .before .imported-list .ensures)
 
 returns-2 : tie.Need-returns-2
-returns-2 c = refused-text _ _ (untaken-answer _ _ _ (c .before .before .before .before .before .answer2 .given .1) (c .before .before .before .before .before .before .before .before .before .before .import .ensures .0)) (c .before .before .put-refused .ensures)
+unfolding Lists
+returns-2 c = (refused-text _ _ (untaken-answer _ _ _ (c .before .answer2 .given .1) (c .before .before .before .before .before .before .import .ensures .0)), refl)
 
 pub text-list-spec : {M : Type 1} → statement M
 text-list-spec =
@@ -31,8 +34,6 @@ text-list-spec =
     (λ c. search needs)
     imported-list-requires
     (λ c. search needs)
-    (λ c κs. search needs)
     (λ c. search needs)
     returns
-    (λ c. search needs)
     returns-2)

@@ -7,18 +7,20 @@ use native.Mathlib.Omega.{arith}
 use Rattle.quotedoor.proofs.Told.{quote-told}
 use Rattle.quotedoor.proofs.quote_door.star_quote.Statement.{statement}
 use Rattle.quotedoor.proofs.quote_door.star_quote.Tie as tie
+use Rattle.quoting.proofs.Bytes.{quote-call}
 use Rattle.quoting.specs.Door.{lentQuote, quoteReturns, quoteDoor}
 
 returns : tie.Need-returns
 unfolding quoteReturns lentQuote quoteDoor
-returns c = rw (ne-eqb (length (c .before .before .before .before .before .args .answer .now)) 24 (λ e. omega arith)) (refl, refl)
+returns c = quote-call (rw (ne-eqb (length (c .before .before .before .before .before .args .answer .now)) 24 (λ e. omega arith)) (refl, refl))
 
 returns-2 : tie.Need-returns-2
 unfolding quoteReturns lentQuote quoteDoor
 returns-2 c =
     let w = c .before .before in
     let o = w .before .before in
-    let q = o .before in (
+    let q = o .before in
+    quote-call (
       rw (eq-eqb (length (c .before .before .before .before .before .before .before .before .before .before .before .args .answer .now)) 24 (omega arith)),
       quote-told (c .before .before .before .before .before .before .before .before .before .before .before .args .answer .now) (w .write-quote .ensures) (o .of-quoted .ensures .0) (o .of-quoted .ensures .1) (q .quote .ensures),
     )

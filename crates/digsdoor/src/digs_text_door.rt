@@ -1,0 +1,30 @@
+// The dig list of an STP text for C.
+use crate::fields::of_text_list;
+use answer::write_answer;
+use printer::LIST_BYTES;
+ghost use mathlib.Core.Path.{_≡_};
+ghost use Rattle.listing.specs.DigList.{textList};
+ghost use Rattle.listing.specs.Door.{textFields, listReturns, listAnswered, listText};
+
+// The list of an STP text, through the door.
+#[no_mangle]
+pub extern "C" fn star_digs_text(stp: &[u8], text: &mut [u8], answer: &mut [u8]) -> u32
+    ensures returned { λ r. ⌜ r ≡ listReturns (now (text .entry)) (now (answer .entry)) ⌝ }
+    ensures answered { λ r.
+        let a = textList (now (stp .entry)) in
+        ⌜ now (answer .exit) ≡ listAnswered (now (text .entry)) (now (answer .entry)) (textFields a) ⌝ }
+    ensures listed { λ r.
+        let a = textList (now (stp .entry)) in
+        ⌜ now (text .exit) ≡ listText a (now (text .entry)) (now (answer .entry)) ⌝ }
+{
+    if answer.len() != 16 {
+        return 0;
+    }
+    if text.len() < LIST_BYTES {
+        return 0;
+    }
+    let list = printer::text_list(stp, text);
+    let x = of_text_list(list);
+    write_answer(answer, x);
+    1
+}

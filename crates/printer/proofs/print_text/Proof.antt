@@ -1,0 +1,24 @@
+-- `printer::print_text` meets its contract. Assumes nothing.
+use borrow.Author.Needs.{needs}
+use Rattle.printer.proofs.Laws.{listed-printed, refusal-printed}
+use Rattle.printer.proofs.print_text.Statement.{statement}
+use Rattle.printer.proofs.print_text.Tie as tie
+
+returns : tie.Need-returns
+returns c = listed-printed _ _ (c .before .before .before .before .before .text-list .ensures) _ (c .before .list .given .1)
+
+returns-2 : tie.Need-returns-2
+returns-2 c = refusal-printed _ _ (c .before .before .before .before .before .before .before .before .before .text-list .ensures) _ (c .before .before .before .before .before .list2 .given .1) (c .before .before .put-refused .ensures)
+
+pub print-text-spec : {M : Type 1} → statement M
+print-text-spec =
+    tie.close
+    (tie.spec
+    (λ c κs. search needs)
+    (λ c. search needs)
+    (λ c. search needs)
+    (λ c κs. search needs)
+    (λ c. search needs)
+    returns
+    (λ c. search needs)
+    returns-2)

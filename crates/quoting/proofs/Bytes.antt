@@ -1,0 +1,175 @@
+-- The twenty-four bytes of a quote mean what they should: what is read back is the quote's own, and over an accepted table it is what the theorem of quotes says.
+-- Assumes nothing.
+use Prim.Native.Nat.{ℕ, _+_, _*_, _/_, _%_, _≤_, _<_}
+use borrow.Author.Tests.{eq-eqb, ne-eqb}
+use lib.Dec.{eqb}
+use lib.IntN.{ℤ}
+use lib.ListN.{length}
+use lib.Signed.{mag}
+use mathlib.Core.Bool.{Bool, true, false, not, cond}
+use mathlib.Core.List.{List, [], _∷_, _++_}
+use mathlib.Core.Option.{Option, none, some}
+use mathlib.Core.Path.{_≡_, refl, sym, ap, _∙_, fun-ext}
+use native.Mathlib.Omega.{arith}
+use Rattle.graph.specs.Graph.{Connected}
+use Rattle.prices.specs.Quote.{priced}
+use Rattle.refusal.specs.declared.Refusal.{Refusal}
+use Rattle.rowset.proofs.Signed.{bits-back, bits-small, total-small}
+use Rattle.rowset.specs.Bytes.{little, inRow}
+use Rattle.rowset.specs.Integers.{fromBits, toBits, signed, total}
+use Rattle.star.proofs.Accepted.{refusal-append, used-row, accepted-means}
+use Rattle.star.specs.Accepted.{Row, AcceptedTable}
+use Rattle.star.specs.Call.{Call, rowsOf, used, graphOf, weightOf}
+use Rattle.star.specs.Door.{Fields, bytesOf, fieldBytes, readBack}
+use Rattle.star.specs.Refusals.{Accepted, cause, noTree, tableCauses, orElse, refusal}
+use Rattle.quoting.proofs.Means.{totals-built, quotes-mean}
+use Rattle.quoting.specs.Bytes.{kindOf, numberOf, placeOf, beforeOf, totalAfter, QuotedMeans, Declined, QuoteCall, QuoteDoorMeans}
+use Rattle.quoting.specs.Door.{quoteFields, afterOf, quoteBytes, lentQuote, quoteReturns, quoteDoor}
+use Rattle.quoting.specs.Means.{Quoted}
+use Rattle.quoting.specs.Quote.{noRow, quoteCauses, builtTotal, newPrices, QuoteAnswer, unquoted, quoted, quoteOr, quote}
+
+one-byte : (x : ℕ) → x < 256 → x % 256 + 256 * 0 ≡ x
+one-byte x h = omega arith
+
+eight : (x : ℕ) → x < 18446744073709551616 → x % 256 + 256 * (x / 256 % 256 + 256 * (x / 256 / 256 % 256 + 256 * (x / 256 / 256 / 256 % 256 + 256 * (x / 256 / 256 / 256 / 256 % 256 + 256 * (x / 256 / 256 / 256 / 256 / 256 % 256 + 256 * (x / 256 / 256 / 256 / 256 / 256 / 256 % 256 + 256 * (x / 256 / 256 / 256 / 256 / 256 / 256 / 256 % 256 + 256 * 0))))))) ≡ x
+eight x h = omega arith
+
+-- what is read back of two totals that fit 64 bits
+module _ (before after : ℤ) where
+  quoted-kind : kindOf (quoteBytes (quoted before after)) ≡ 1
+  unfolding quoteBytes quoteFields afterOf fieldBytes bytesOf readBack little
+  quoted-kind = refl
+
+  quoted-length : length (quoteBytes (quoted before after)) ≡ 24
+  unfolding quoteBytes quoteFields afterOf fieldBytes bytesOf
+  quoted-length = refl
+
+  quoted-before : mag before < 9223372036854775808 → beforeOf (quoteBytes (quoted before after)) ≡ before
+  unfolding quoteBytes quoteFields afterOf fieldBytes bytesOf readBack little
+  quoted-before h = rw (eight (toBits 64 before) (bits-small 63 before h)) (bits-back 63 before h)
+
+  quoted-after : mag after < 9223372036854775808 → totalAfter (quoteBytes (quoted before after)) ≡ after
+  unfolding quoteBytes quoteFields afterOf fieldBytes bytesOf readBack little
+  quoted-after h = rw (eight (toBits 64 after) (bits-small 63 after h)) (bits-back 63 after h)
+
+-- and of a refusal
+module _ (r : Refusal) where
+  unquoted-kind : kindOf (quoteBytes (unquoted r)) ≡ 0
+  unfolding quoteBytes quoteFields afterOf fieldBytes bytesOf readBack little
+  unquoted-kind = refl
+
+  unquoted-length : length (quoteBytes (unquoted r)) ≡ 24
+  unfolding quoteBytes quoteFields afterOf fieldBytes bytesOf
+  unquoted-length = refl
+
+eleven-told : Declined (quoteBytes (unquoted (record { number = 11; place = 0 }))) 11
+unfolding quoteBytes quoteFields afterOf fieldBytes bytesOf readBack little
+eleven-told = (refl, refl, refl)
+
+seven-told : Declined (quoteBytes (unquoted (record { number = 7; place = 0 }))) 7
+unfolding quoteBytes quoteFields afterOf fieldBytes bytesOf readBack little
+seven-told = (refl, refl, refl)
+
+bytes-length : (a : QuoteAnswer) → length (quoteBytes a) ≡ 24
+bytes-length (unquoted r) = unquoted-length r
+bytes-length (quoted before after) = quoted-length before after
+
+-- an answer is a quote or a refusal
+answers-apart : {r : Refusal} {before after : ℤ} → unquoted r ≡ quoted before after → ⊥
+answers-apart e = let z : _≡_ {A = ℕ} 0 1 = cc in absurd (omega arith)
+
+-- both totals fit 64 bits
+module _ (c : Call) (a : AcceptedTable c) (k x : ℕ) where
+  before-fits : mag (builtTotal c (weightOf c)) < 9223372036854775808
+  unfolding builtTotal weightOf
+  before-fits = total-small (rowsOf c) (inRow 4 (c .weight)) _ (omega (arith, a .rows))
+
+  new-weights : (λ i. signed (cond (eqb i k) x (inRow 4 (c .weight) i))) ≡ newPrices c k x
+  unfolding newPrices priced weightOf
+  new-weights = fun-ext (λ i. go (eqb i k) (inRow 4 (c .weight) i))
+    where
+      go : (b : Bool) (y : ℕ) → signed (cond b x y) ≡ cond b (signed x) (signed y)
+      go true y = refl
+      go false y = refl
+
+  after-fits : mag (builtTotal c (newPrices c k x)) < 9223372036854775808
+  unfolding builtTotal
+  after-fits = rw (← new-weights) (total-small (rowsOf c) (λ i. cond (eqb i k) x (inRow 4 (c .weight) i)) _ (omega (arith, a .rows)))
+
+-- the bytes of a quote of a row in use
+quoted-means : (c : Call) → Accepted c → AcceptedTable c → (k : ℕ) → Row c k → (x : ℕ) → QuotedMeans c k x (quoteBytes (quote c k x))
+quoted-means c ok a k row x = go (quote c k x) refl
+  where
+    q : Quoted c k x
+    q = quotes-mean c ok k row x
+
+    go : (s : QuoteAnswer) → quote c k x ≡ s → QuotedMeans c k x (quoteBytes s)
+    go (unquoted r) e =
+        record {
+          quoted = (λ h. absurd (omega (arith, h, unquoted-kind r)), λ joins. absurd (apart joins));
+          before = λ h. absurd (omega (arith, h, unquoted-kind r));
+          after = λ h. absurd (omega (arith, h, unquoted-kind r));
+          bound = λ h. absurd (omega (arith, h, unquoted-kind r));
+          declined = (λ h. apart, λ n. unquoted-kind r);
+          number = λ h. (told .1, told .2);
+        }
+      where
+        apart : Connected (graphOf c) → ⊥
+        apart joins = let (before, after, h) = q .connected .0 joins in answers-apart (sym e ∙ h)
+
+        told : Declined (quoteBytes (unquoted r)) 11
+        told = rw (sym e ∙ q .unconnected .0 apart) eleven-told
+    go (quoted before after) e =
+        let b = totals-built c ok k row x before after e in
+        let fits-before : mag before < 9223372036854775808 = rw (b .0) at (before-fits c a k x) in
+        let fits-after : mag after < 9223372036854775808 = rw (b .1) at (after-fits c a k x) in
+        let first = quoted-before before after fits-before in
+        let last = quoted-after before after fits-after in
+        record {
+          quoted = (λ h. q .connected .1 (before, after, e), λ joins. quoted-kind before after);
+          before = λ h. rw first (q .before-least before after e);
+          after = λ h. rw last (q .after-least before after e);
+          bound = λ h. rw (first, last) (q .bound before after e);
+          declined = (λ h. absurd (omega (arith, h, quoted-kind before after)), λ n. absurd (n (q .connected .1 (before, after, e))));
+          number = λ h. absurd (omega (arith, h, quoted-kind before after));
+        }
+
+-- a row that is not in use
+row-refused : (c : Call) → Accepted c → (k : ℕ) → (Row c k → ⊥) → (x : ℕ) → quote c k x ≡ unquoted (record { number = 7; place = 0 })
+unfolding quote quoteOr quoteCauses noRow cause refusal orElse
+row-refused c ok k n x = go (used c k) refl
+  where
+    go : (b : Bool) → used c k ≡ b → quote c k x ≡ unquoted (record { number = 7; place = 0 })
+    go true e = absurd (n (used-row c k e))
+    go false e = rw (refusal-append (tableCauses c) (noRow c k ∷ noTree c ∷ []) ok, e)
+
+-- a table that is refused
+refused-first : (ys xs : List (Option Refusal)) (r : Refusal) → refusal xs ≡ some r → refusal (xs ++ ys) ≡ some r
+unfolding refusal orElse
+refused-first ys [] r e = cc
+refused-first ys (none ∷ xs) r e = refused-first ys xs r e
+refused-first ys (some q ∷ xs) r e = e
+
+table-refused : (c : Call) (k x : ℕ) → (AcceptedTable c → ⊥) → kindOf (quoteBytes (quote c k x)) ≡ 0
+unfolding quote quoteOr quoteCauses
+table-refused c k x n = go (refusal (tableCauses c)) refl
+  where
+    go : (o : Option Refusal) → refusal (tableCauses c) ≡ o → kindOf (quoteBytes (quote c k x)) ≡ 0
+    go none e = absurd (n (accepted-means c .0 e))
+    go (some r) e = rw (refused-first (noRow c k ∷ noTree c ∷ []) (tableCauses c) r e) (unquoted-kind r)
+
+pub quote-door-means : QuoteDoorMeans
+unfolding quoteDoor quoteReturns lentQuote
+quote-door-means c k x answer =
+    record {
+      declined = λ n. rw (ne-eqb (length answer) 24 n) (refl, refl);
+      returns = λ h. rw (eq-eqb (length answer) 24 h) (refl, bytes-length (quote c k x));
+      means = λ h a row. rw (eq-eqb (length answer) 24 h) (quoted-means c (accepted-means c .1 a) a k row x);
+      no-row = λ h a n. rw (eq-eqb (length answer) 24 h, row-refused c (accepted-means c .1 a) k n x) seven-told;
+      refused = λ h n. rw (eq-eqb (length answer) 24 h) (table-refused c k x n);
+    }
+
+-- a door that returns and leaves what the definitions say is such a call
+pub quote-call : {c : Call} {k x : ℕ} {answer after : List ℕ} {r : ℕ} → (r ≡ quoteReturns answer) × (after ≡ quoteDoor c k x answer)
+    → (r ≡ quoteReturns answer) × ((after ≡ quoteDoor c k x answer) × QuoteCall c k x answer after r)
+quote-call {c} {k} {x} {answer} (p, q) = (p, (q, rw (p, q) (quote-door-means c k x answer)))
