@@ -1,0 +1,1 @@
+// The door of the breaking price.
