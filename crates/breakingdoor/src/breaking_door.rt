@@ -5,6 +5,7 @@ use breaking::Breaks;
 ghost use mathlib.Core.Path.{_≡_};
 ghost use Rattle.answer.specs.Records.{fieldsOf};
 ghost use Rattle.breaking.specs.Answers.{answerOf};
+ghost use Rattle.pricebytes.specs.Breaking.{BreakingCall};
 ghost use Rattle.quoting.specs.Door.{breakingFields, breakingDoor};
 ghost use Rattle.quoting.specs.Quote.{asked, askedWork};
 ghost use Rattle.rowset.specs.Integers.{fromBits, signed};
@@ -57,7 +58,7 @@ pub fn of_breaks(b: Breaks) -> Record
     }
 }
 
-// The breaking price through the door.
+// The breaking price through the door. `means` says what the bytes are worth: what is read back, and what it says of the routes between the row's ends and of the least totals.
 #[no_mangle]
 pub extern "C" fn star_breaking(
     n: u32,
@@ -71,6 +72,9 @@ pub extern "C" fn star_breaking(
     ensures answered { λ r.
         let c = asked n (now (left .entry)) (now (right .entry)) (now (weight .entry)) in
         ⌜ now (answer .exit) ≡ breakingDoor c row (now (answer .entry)) ⌝ }
+    ensures means { λ r.
+        let c = asked n (now (left .entry)) (now (right .entry)) (now (weight .entry)) in
+        ⌜ BreakingCall c row (now (answer .entry)) (now (answer .exit)) r ⌝ }
 {
     if answer.len() != 16 {
         return 0;
@@ -81,7 +85,7 @@ pub extern "C" fn star_breaking(
     1
 }
 
-// The breaking price of a working table, whose rows in use are lent as sixteen words, through the door.
+// The breaking price of a working table, whose rows in use are lent as sixteen words, through the door. `means` says what the bytes are worth of the rows in use.
 #[no_mangle]
 pub extern "C" fn star_work_breaking(
     n: u32,
@@ -96,6 +100,9 @@ pub extern "C" fn star_work_breaking(
     ensures answered { λ r.
         let c = askedWork n (now (words .entry)) (now (left .entry)) (now (right .entry)) (now (weight .entry)) in
         ⌜ now (answer .exit) ≡ breakingDoor c row (now (answer .entry)) ⌝ }
+    ensures means { λ r.
+        let c = askedWork n (now (words .entry)) (now (left .entry)) (now (right .entry)) (now (weight .entry)) in
+        ⌜ BreakingCall c row (now (answer .entry)) (now (answer .exit)) r ⌝ }
 {
     if answer.len() != 16 {
         return 0;
