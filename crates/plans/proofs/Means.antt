@@ -247,3 +247,14 @@ plans-mean c second answer =
   where
     none-stands : {P : Type 0} {Q : Type 0} {k : ℕ} → P × Q × (k ≡ 0) → P × Q × (planOf (c .mark) second k ≡ []) × (k ≡ 0)
     none-stands (p, q, e) = (p, q, rw e refl, e)
+
+-- what is handed back and left as the definitions say is such a call
+pub plan-call : {c : Call} {second answer after handed : List ℕ} → (handed ≡ handedBack c second answer) × (after ≡ whichDoor c second answer)
+    → (handed ≡ handedBack c second answer) × ((after ≡ whichDoor c second answer) × WhichCall c second answer after handed (whichReturns c second answer))
+plan-call {c} {second} {answer} (p, q) = (p, (q, rw (p, q) (plans-mean c second answer)))
+
+-- and so is what the door returns and leaves
+pub which-call : {c : Call} {second answer after : List ℕ} {r : ℕ} → (r ≡ whichReturns c second answer) × (after ≡ whichDoor c second answer)
+    → (r ≡ whichReturns c second answer) × ((after ≡ whichDoor c second answer) × WhichCall c second answer after (planOf (c .mark) second r) r)
+unfolding handedBack
+which-call {c} {second} {answer} (p, q) = (p, (q, rw (p, q) (plans-mean c second answer)))
