@@ -26,7 +26,7 @@ use Rattle.star.specs.Call.{Call, rowsOf, used, weightOf, claimed, claimWeight,
 use Rattle.star.specs.Cst.{Answer, refused, passed, lighter, rowIn, rowOut, judged, verdict, cst}
 use Rattle.star.specs.Door.{Fields, fields, bytesOf, fieldBytes, readBack, wellLent, answerAfter, cstDoor}
 use Rattle.star.specs.Refusals.{badVertices, tooManyRows, badLengths, badEnds, badRow, repeats, repeatedRow, tableCauses, cstCauses, refusal, Accepted}
-use Rattle.plans.proofs.Causes.{none-before, first-refused, second-refused, both-taken}
+use Rattle.plans.proofs.Causes.{none-before, first-refused, second-refused, both-taken, first-lighter, second-lighter}
 use Rattle.plans.specs.Door.{whichFields, planNumber, planOf, whichDoor, whichReturns, handedBack}
 use Rattle.plans.specs.Means.{BothTrees, Stands, RefusedBy, WhichCall, PlansMean}
 use Rattle.plans.specs.Which.{Standing, neither, firstPlan, secondPlan, lighterPlan, which}
@@ -180,12 +180,15 @@ module _ (c : Call) (second : List ℕ) where
         }
 
     told-lighter : Told c second (lighterPlan (claimWeight c) (claimWeight d))
-    unfolding lighterPlan
     told-lighter = go (ltZ (claimWeight d) (claimWeight c)) refl
       where
         go : (b : Bool) → ltZ (claimWeight d) (claimWeight c) ≡ b → Told c second (lighterPlan (claimWeight c) (claimWeight d))
-        go true h = rw h (told-second (ltZ-true _ _ h))
-        go false h = rw h (told-first (ltZ-false _ _ h))
+        go true h =
+            let l = ltZ-true (claimWeight d) (claimWeight c) h in
+            subst (Told c second) (sym (second-lighter _ _ l)) (told-second l)
+        go false h =
+            let l = ltZ-false (claimWeight d) (claimWeight c) h in
+            subst (Told c second) (sym (first-lighter _ _ l)) (told-first l)
 
   -- both plans are spanning trees only where CST refuses neither
   both-taken-first : BothTrees c second → refusal (cstCauses c) ≡ none

@@ -25,6 +25,10 @@ planNumber (secondPlan weight) = 2
 unfoldable pub planOf : (first second : List ℕ) → ℕ → List ℕ
 planOf first second k = cond (eqb k 1) first (cond (eqb k 2) second [])
 
+-- where that part begins: where the second plan begins for the number 2, else where the first does
+unfoldable pub startOf : {A : Type 0} → (first second : A) → ℕ → A
+startOf first second k = cond (eqb k 2) second first
+
 -- the lent answer afterwards: written where it has sixteen bytes, else as it was
 unfoldable pub whichDoor : Call → (second answer : List ℕ) → List ℕ
 whichDoor c second answer = answerAfter answer (whichFields (which c second))

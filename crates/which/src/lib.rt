@@ -6,7 +6,7 @@ ghost use mathlib.Core.Option.{none};
 ghost use Prim.Native.Nat.{ℕ};
 ghost use lib.Signed.{ltZ};
 ghost use Rattle.answer.specs.Records.{fieldsOf};
-ghost use Rattle.plans.specs.Door.{whichFields, planNumber, planOf, whichDoor, whichReturns, handedBack};
+ghost use Rattle.plans.specs.Door.{whichFields, planNumber, planOf, startOf, whichDoor, whichReturns, handedBack};
 ghost use Rattle.plans.specs.Means.{WhichCall};
 ghost use Rattle.plans.specs.Which.{lighterPlan, which};
 ghost use Rattle.refusal.specs.Outcomes.{refusalOf};
@@ -31,6 +31,9 @@ const LENGTH: usize = 16;
 
 // 2 ^ 63: the first of 64 bits.
 const OFFSET: u64 = 9223372036854775808;
+
+// What byte 6 holds: nothing is said about other trees.
+const ONLY: u32 = 0;
 
 // What is answered: the plan that stands, with the 64 bits of its weight, or the refusal.
 pub enum Decision {
@@ -124,7 +127,7 @@ fn of_decision(d: Decision) -> Record
             number: 0,
             out: 0,
             into: 0,
-            only: 0,
+            only: ONLY,
             amount: weight,
         },
         Decision::Second(weight) => Record {
@@ -132,7 +135,7 @@ fn of_decision(d: Decision) -> Record
             number: 0,
             out: 0,
             into: 0,
-            only: 0,
+            only: ONLY,
             amount: weight,
         },
         Decision::Refused(r) => Record {
@@ -140,7 +143,7 @@ fn of_decision(d: Decision) -> Record
             number: r.number,
             out: r.place,
             into: 0,
-            only: 0,
+            only: ONLY,
             amount: 0,
         },
     }
@@ -244,7 +247,8 @@ pub fn work_which(
 
 // The plan of a number, as it was lent: 1 the first, 2 the second, and of any other number the empty start of the first.
 fn plan_of<'a>(k: u32, first: &'a [u8], second: &'a [u8]) -> &'a [u8]
-    ensures { λ r. ⌜ now r ≡ planOf (now (first .entry)) (now (second .entry)) k ⌝ }
+    ensures plan { λ r. ⌜ now r ≡ planOf (now (first .entry)) (now (second .entry)) k ⌝ }
+    ensures start { λ r. ⌜ r .ptr ≡ startOf (first .entry .ptr) (second .entry .ptr) k ⌝ }
 {
     if k == 1 {
         return first;
@@ -256,7 +260,7 @@ fn plan_of<'a>(k: u32, first: &'a [u8], second: &'a [u8]) -> &'a [u8]
 }
 
 // The plan that stands, handed back as it was lent, over a plain table; and the sixteen bytes.
-// On a refusal, and where the lent answer has not sixteen bytes, the empty start of the first comes back. `means` says what the part handed back and the bytes are worth.
+// On a refusal, and where the lent answer has not sixteen bytes, the empty start of the first comes back. `plan` says what the part handed back holds and `start` where it begins, so which of the two it is; `means` what it and the bytes are worth.
 pub fn which_plan<'a>(
     n: u32,
     left: &[u8],
@@ -269,6 +273,9 @@ pub fn which_plan<'a>(
     ensures plan { λ r.
         let c = callOf n (now (left .entry)) (now (right .entry)) (now (weight .entry)) (now (first .entry)) in
         ⌜ now r ≡ handedBack c (now (second .entry)) (now (answer .entry)) ⌝ }
+    ensures start { λ r.
+        let c = callOf n (now (left .entry)) (now (right .entry)) (now (weight .entry)) (now (first .entry)) in
+        ⌜ r .ptr ≡ startOf (first .entry .ptr) (second .entry .ptr) (whichReturns c (now (second .entry)) (now (answer .entry))) ⌝ }
     ensures written { λ r.
         let c = callOf n (now (left .entry)) (now (right .entry)) (now (weight .entry)) (now (first .entry)) in
         ⌜ now (answer .exit) ≡ whichDoor c (now (second .entry)) (now (answer .entry)) ⌝ }
@@ -294,6 +301,9 @@ pub fn work_which_plan<'a>(
     ensures plan { λ r.
         let c = workOf n (now (words .entry)) (now (left .entry)) (now (right .entry)) (now (weight .entry)) (now (first .entry)) in
         ⌜ now r ≡ handedBack c (now (second .entry)) (now (answer .entry)) ⌝ }
+    ensures start { λ r.
+        let c = workOf n (now (words .entry)) (now (left .entry)) (now (right .entry)) (now (weight .entry)) (now (first .entry)) in
+        ⌜ r .ptr ≡ startOf (first .entry .ptr) (second .entry .ptr) (whichReturns c (now (second .entry)) (now (answer .entry))) ⌝ }
     ensures written { λ r.
         let c = workOf n (now (words .entry)) (now (left .entry)) (now (right .entry)) (now (weight .entry)) (now (first .entry)) in
         ⌜ now (answer .exit) ≡ whichDoor c (now (second .entry)) (now (answer .entry)) ⌝ }
