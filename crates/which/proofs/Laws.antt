@@ -13,7 +13,7 @@ use native.Mathlib.Omega.{arith}
 use Rattle.claim.proofs.Laws.{claimRows-marked}
 use Rattle.claim.specs.Claims.{claimRows}
 use Rattle.plans.proofs.Causes.{none-before, first-refused, second-refused, both-taken}
-use Rattle.plans.specs.Which.{neither, lighterPlan, which}
+use Rattle.plans.specs.Which.{neither, firstPlan, secondPlan, lighterPlan, which}
 use Rattle.refusal.specs.Outcomes.{refusalOf}
 use Rattle.refusal.specs.declared.Outcome.{Outcome}
 use Rattle.refusal.specs.declared.Outcome.the-variants.{Done, Refused}
@@ -61,6 +61,16 @@ wide-order a b = go (ltb (turned a) (turned b)) refl
     go : (t : Bool) → ltb (turned a) (turned b) ≡ t → ltZ (fromBits 64 a) (fromBits 64 b) ≡ t
     go true e = lt-ltZ (fromBits 64 a) (fromBits 64 b) (omega (arith, integers, ltb-true (turned a) (turned b) e, wide-parts a, wide-parts b))
     go false e = le-ltZ (fromBits 64 a) (fromBits 64 b) (omega (arith, integers, ltb-false (turned a) (turned b) e, wide-parts a, wide-parts b))
+
+-- what the test of two weights says of the plan that stands
+module _ (x y : ℕ) {b : Bool} (test : b ≡ ltZ (fromBits 64 y) (fromBits 64 x)) where
+  pub second-stands : b ≡ true → secondPlan (fromBits 64 y) ≡ lighterPlan (fromBits 64 x) (fromBits 64 y)
+  unfolding lighterPlan
+  second-stands e = rw (← test, e)
+
+  pub first-stands : b ≡ false → firstPlan (fromBits 64 x) ≡ lighterPlan (fromBits 64 x) (fromBits 64 y)
+  unfolding lighterPlan
+  first-stands e = rw (← test, e)
 
 -- ── The weight of a plan ──
 
