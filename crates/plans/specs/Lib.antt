@@ -1,0 +1,4 @@
+pub mod Which
+pub mod Door
+pub mod Means
+pub mod Trials
