@@ -47,6 +47,11 @@ struct star_answer table_cst(const struct table *t);
 struct star_answer table_other(const struct table *t);
 struct star_answer table_mst1(struct table *t);
 struct star_answer table_paths(const struct table *t, uint32_t from, uint64_t *matrix, size_t words);
+struct star_quoted table_quote(const struct table *t, size_t i, const uint8_t price[PRICE_BYTES]);
+struct star_answer table_breaking(const struct table *t, size_t i);
+
+/* Which of two marked tables costs less: 1 the first, 2 the second, 0 none where one is refused. They are the same but for their marks. */
+uint32_t table_which(const struct table *first, const struct table *second, struct star_answer *a);
 
 /* The doors that change a table, over a copy of it: numbers has 1,024. A struck trench is remembered in the table. */
 struct star_answer table_strike(struct table *t, size_t i);
