@@ -11,7 +11,7 @@ CXXFLAGS ?= -O2
 PREFIX ?= /usr/local
 BUILD := target/c
 # The crates whose functions for C the library is made of.
-DOORS := door workdoor changedoor importdoor quotedoor breakingdoor whichdoor
+DOORS := door workdoor changedoor importdoor quotedoor breakingdoor whichdoor digsdoor
 STAMPS := $(DOORS:%=target/stamp/%)
 ARCHIVES := $(DOORS:%=target/staticlib/lib%.a)
 ARCHIVE := $(BUILD)/libproved.a
@@ -96,7 +96,7 @@ $(BUILD)/work_test_faulty: $(ARCHIVE) $(WORK) $(WORK_HEADERS) tests/faulty_work.
 	$(CC) -std=c99 $(CFLAGS) -Iinclude -Itests $(FAULTY_WORK) -o $@ $(WORK) $(BUILD)/faulty_work.o $(ARCHIVE)
 
 # Questions about a table, in the same two ways, a program each.
-ASKED := quote breaking which
+ASKED := quote breaking which digs
 ASKED_PARTS := tests/asked.c tests/plain_asked.c tests/plain_work.c tests/plain.c
 ASKED_NEEDS := $(ARCHIVE) $(ASKED_PARTS) $(ASKED_PARTS:.c=.h) include/star.h
 $(ASKED:%=$(BUILD)/%_test): $(BUILD)/%_test: tests/%_test.c $(ASKED_NEEDS)
@@ -106,7 +106,7 @@ $(ASKED:%=$(BUILD)/%_test): $(BUILD)/%_test: tests/%_test.c $(ASKED_NEEDS)
 $(ASKED:%=$(BUILD)/%_test_faulty): $(BUILD)/%_test_faulty: tests/%_test.c tests/faulty_%.c $(ASKED_NEEDS)
 	@mkdir -p $(BUILD)
 	$(CC) -std=c99 $(CFLAGS) -Iinclude -c -o $(BUILD)/faulty_$*.o tests/faulty_$*.c
-	$(CC) -std=c99 $(CFLAGS) -Iinclude -Itests -Dstar_$*=faulty_$* -Dstar_work_$*=faulty_work_$* -o $@ $< $(ASKED_PARTS) $(BUILD)/faulty_$*.o $(ARCHIVE) -pthread
+	$(CC) -std=c99 $(CFLAGS) -Iinclude -Itests -Dstar_$*=faulty_$* -Dstar_work_$*=faulty_work_$* -Dstar_$*_text=faulty_$*_text -o $@ $< $(ASKED_PARTS) $(BUILD)/faulty_$*.o $(ARCHIVE) -pthread
 
 $(BUILD)/import_test: $(ARCHIVE) tests/import_test.c include/star.h
 	@mkdir -p $(BUILD)

@@ -25,6 +25,7 @@ int command_quote(struct table *t, const struct options *with, struct output *o)
 int command_breaking(struct table *t, const struct options *with, struct output *o); /* the price up to which a trench stays in the plan */
 int command_which(struct table *t, const struct options *with, struct output *o);   /* which of two plans over one table costs less */
 int command_stretch(struct table *t, const struct options *with, struct output *o); /* the dearest trench between two junctions */
+int command_digs(struct table *t, const struct options *with, struct output *o);    /* writes the dig list */
 int command_strike(struct table *t, const struct options *with, struct output *o);  /* writes the file with trenches struck */
 int command_add(struct table *t, const struct options *with, struct output *o);     /* writes the file with a trench more */
 int command_merge(struct table *t, const struct options *with, struct output *o);   /* writes the file without its struck trenches */

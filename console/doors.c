@@ -70,6 +70,15 @@ struct star_answer table_breaking(const struct table *t, size_t i) {
     return star_read_answer(answer);
 }
 
+struct star_answer table_digs(const struct table *t, uint8_t *text, size_t len) {
+    uint8_t answer[STAR_ANSWER_BYTES];
+    uint64_t in_use[STAR_COLUMN_WORDS];
+    if (t->stp) star_digs_text((const uint8_t *)t->text.at, t->text.len, text, len, answer, sizeof answer);
+    else if (working(t, in_use)) star_work_digs(t->n, in_use, STAR_COLUMN_WORDS, COLUMNS(t, STAR_MAX_ROWS), text, len, answer, sizeof answer);
+    else star_digs(t->n, COLUMNS(t, kept(t)), text, len, answer, sizeof answer);
+    return star_read_answer(answer);
+}
+
 uint32_t table_which(const struct table *first, const struct table *second, struct star_answer *a) {
     uint8_t answer[STAR_ANSWER_BYTES];
     uint64_t in_use[STAR_COLUMN_WORDS];

@@ -18,6 +18,7 @@ static const char HELP[] =
     "       star draw [FILE]           write a picture (SVG) of the network, with what check says of it\n"
     "       star dot [FILE]            write the same for Graphviz (DOT)\n"
     "       star table [FILE]          write the trenches as a table; those of an STP file are not marked\n"
+    "       star digs [FILE]           write the dig list for the site: a line a trench of the cheapest network, and the total\n"
     "       star quote FILE TRENCH PRICE     say what the cheapest network costs today, and when this trench has the new price\n"
     "       star breaking FILE TRENCH  say up to which price this trench stays in the plan, and which one takes its place above\n"
     "       star which FILE FILE       say which of two plans costs less; the files are the same but for their marks\n"
@@ -41,7 +42,7 @@ static const char HELP[] =
     "\n"
     "FILE may be a SteinLib STP file too, told by its first word, 33D32945: its junctions are the Nodes of the\n"
     "section Graph, its trenches the E lines. It has at most 65536 bytes. It marks no trench, so there is\n"
-    "nothing to check: build chooses trenches, quote and breaking need no marks, and table writes a\n"
+    "nothing to check: build and digs choose trenches, quote and breaking need no marks, and table writes a\n"
     "table in which they can be marked.\n"
     "\n"
     "Exit status: 0 passed, built, told, drawn or written; 1 a cheaper set exists (check, stretch); 2 the table or the plan was\n"
@@ -51,7 +52,7 @@ struct command {
     const char *name;
     int (*run)(struct table *t, const struct options *with, struct output *o);
     const char *takes; /* what it takes beside a file: t --table, a --all, n the number of a trench, w words */
-    enum needs { FILE_ALONE, PLAN, LINES } needs; /* marks, or lines that can be changed, which an STP file has not */
+    enum needs { FILE_ALONE, PLAN, LINES, TEXT } needs; /* marks, or lines that can be changed, which an STP file has not; its text, refused or not */
     enum result { WORDS, WRITING } result; /* words, of which a refusal is one too, or a file */
     const char *plan;  /* what it does with a plan; NULL where it needs none */
 };
@@ -64,6 +65,7 @@ static const struct command COMMANDS[] = {
     {"dot", command_dot, "", FILE_ALONE, WRITING, NULL},
     {"page", command_page, "", FILE_ALONE, WRITING, NULL},
     {"table", command_table, "", FILE_ALONE, WRITING, NULL},
+    {"digs", command_digs, "", TEXT, WRITING, NULL},
     {"quote", command_quote, "w", FILE_ALONE, WORDS, NULL},
     {"breaking", command_breaking, "w", FILE_ALONE, WORDS, NULL},
     {"which", command_which, "w", PLAN, WORDS, "compare"},
@@ -131,7 +133,7 @@ static int run(struct request *r) {
     struct input in;
     struct message fault = {{0}, 0};
     int status = input_open(&in, r->file, &fault);
-    if (status == 0 && in.stp && r->command->needs != FILE_ALONE) {
+    if (status == 0 && in.stp && (r->command->needs == PLAN || r->command->needs == LINES)) {
         say_place(&fault, in.file, 0);
         if (r->command->needs == LINES) say(&fault, "an STP file has no struck trenches. 'star table' writes a table, whose lines %s can change.", r->command->name);
         else say(&fault, "an STP file marks no trench, so there is no plan to %s. 'star build' chooses the cheapest trenches;\n"
@@ -140,6 +142,9 @@ static int run(struct request *r) {
     }
     if (status == 0) status = input_table(&in, &t, &fault);
     if (status == 0) {
+        status = r->command->run(&t, &r->with, &r->out);
+    } else if (status == EXIT_REFUSED && r->command->needs == TEXT) { /* the list of a text that is refused has one line, and the words stand beside it */
+        fprintf(stderr, "%s\n", fault.text);
         status = r->command->run(&t, &r->with, &r->out);
     } else {
         FILE *to = status == EXIT_REFUSED && r->command->result == WORDS && !r->with.table ? output_open(&r->out) : stderr;

@@ -1,4 +1,4 @@
-/* The console's door to the verified tree checker, tree builder, path finder, quotes, working tables and reader of STP texts.
+/* The console's door to the verified tree checker, tree builder, path finder, quotes, working tables, dig lists and reader of STP texts.
  *
  * A table has n junctions, numbered 1 to n, and m rows, counted from 1. A row joins two junctions at a price:
  *   left, right   one byte a row, the two junctions
@@ -15,12 +15,13 @@
  * star_quote  gives the least total before and after one row has a new price; it takes no marks.
  * star_breaking gives the price above which a row is in no least network; it takes no marks.
  * star_which  says which of two claims over one table costs less.
+ * star_digs   writes the dig list of a least network; it takes no marks. star_digs_text does so from an STP text.
  * star_import reads a SteinLib STP text into columns of 1,024 rows; it has no marks.
  *
  * A working table is one in which rows are struck out and entered. All its columns have 1,024 rows, marks too, and sixteen words say which
  * of them are in use (star_in_use): the rows in use are the table, and what stands in the others is not looked at.
  *
- * star_work_X   answers as star_X, over the rows in use (cst, other, mst1, paths, quote, breaking, which). What is said below of star_X
+ * star_work_X   answers as star_X, over the rows in use (cst, other, mst1, paths, quote, breaking, which, digs). What is said below of star_X
  *               holds of it too.
  * star_strike   takes a row out of use.
  * star_add      enters a row after the last one in use.
@@ -36,7 +37,7 @@
  * ones behind answer, and behind every other pointer that is not to const), and that a column that is written
  * overlaps no other. The length of a matrix and of the rows in use counts words of eight bytes, that of a list
  * of numbers the numbers. An empty column may be lent as a null pointer with length 0. The calling thread has
- * stack left, 1 MiB for star_import and 128 KiB for each of the others, whatever is lent. Nothing else is asked.
+ * stack left, 1 MiB for star_import and star_digs_text and 128 KiB for each of the others, whatever is lent. Nothing else is asked.
  */
 #ifndef STAR_H
 #define STAR_H
@@ -69,15 +70,15 @@ enum { STAR_QUOTE_BYTES = 24 };
 /* The words of a path matrix for each junction, and of the rows in use of a working table. */
 enum { STAR_COLUMN_WORDS = 16 };
 
-/* The longest text that is read. */
-enum { STAR_MAX_TEXT = 65536 };
+/* The longest text that is read, and the longest dig list. */
+enum { STAR_MAX_TEXT = 65536, STAR_MAX_LIST = 6370 };
 
 /* Byte 0 of an answer. */
 enum star_kind {
     STAR_REFUSED = 0,
     STAR_PASSED = 1,  /* star_cst, star_other: no cheaper set exists; star_mst1: the network is built; star_paths: the matrix is filled;
                          star_quote: both totals are found; star_breaking: there is such a price; star_which: both claims are trees;
-                         star_import: the text is read; star_strike, star_add, star_merge: done */
+                         star_digs: the list is written; star_import: the text is read; star_strike, star_add, star_merge: done */
     STAR_LIGHTER = 2, /* a cheaper set exists: the exchange of two rows is one */
     STAR_NEVER = 2    /* star_breaking: no other route joins the row's ends, so that it is in every network */
 };
@@ -94,7 +95,7 @@ enum star_refusal {
     STAR_SHORT_MATRIX = 8,       /* the matrix has fewer than 16 n words (star_paths) */
     STAR_BAD_MARK_COUNT = 9,     /* the marks are not n - 1 (all but star_mst1) */
     STAR_NOT_JOINED = 10,        /* place: the smallest junction that marked rows do not join to 1, or to s (star_paths) */
-    STAR_NO_NETWORK = 11,        /* no set of rows joins every junction (star_mst1, star_quote, star_breaking) */
+    STAR_NO_NETWORK = 11,        /* no set of rows joins every junction (star_mst1, star_quote, star_breaking, star_digs) */
     STAR_BAD_TEXT = 12,          /* place: the first byte, counted from 0, of the first word that cannot stand; the text's length if it ends
                                     too early; 65,536 if it is longer (star_import) */
     STAR_BAD_EDGE_COUNT = 13,    /* the E lines are not as many as the line Edges says (star_import) */
@@ -147,6 +148,18 @@ uint32_t star_which(uint32_t n, const uint8_t *left, size_t left_len, const uint
                     const uint8_t *weight, size_t weight_len, const uint8_t *first, size_t first_len, const uint8_t *second,
                     size_t second_len, uint8_t *answer, size_t answer_len);
 
+/* Writes the dig list of the least network that star_mst1 builds at the start of a text that is lent, of 6,370 bytes or more; the bytes behind it
+ * stay. A line has a row of the network, from the top: position, left, right, price, a single space between, in decimal; the last line has Total, a
+ * space and the sum; each ends with LF. amount is the list's length. A refusal is 1, 2, 3, 4, 15 or 11, and leaves the text. A shorter text is as an
+ * answer of another length: 0 is returned, and nothing is written. */
+uint32_t star_digs(uint32_t n, const uint8_t *left, size_t left_len, const uint8_t *right, size_t right_len,
+                   const uint8_t *weight, size_t weight_len, uint8_t *text, size_t text_len, uint8_t *answer,
+                   size_t answer_len);
+
+/* The same from an STP text. A refusal is one of star_import, else 11; the answer is read by star_read_imported where it is refused, since the
+ * place is in bytes 8 to 15. The calling thread has 1 MiB of stack left. */
+uint32_t star_digs_text(const uint8_t *stp, size_t stp_len, uint8_t *text, size_t text_len, uint8_t *answer, size_t answer_len);
+
 /* Whether a row, counted from 1, is on the path to a junction, by a matrix that star_paths has filled. */
 static inline int star_on_path(const uint64_t *matrix, uint32_t junction, size_t row) {
     return (int)(matrix[STAR_COLUMN_WORDS * ((size_t)junction - 1) + (row - 1) / 64] >> ((row - 1) % 64) & 1);
@@ -186,6 +199,10 @@ uint32_t star_work_quote(uint32_t n, const uint64_t *in_use, size_t in_use_words
 
 uint32_t star_work_breaking(uint32_t n, const uint64_t *in_use, size_t in_use_words, const uint8_t *left, size_t left_len, const uint8_t *right,
                             size_t right_len, const uint8_t *weight, size_t weight_len, uint32_t row, uint8_t *answer, size_t answer_len);
+
+uint32_t star_work_digs(uint32_t n, const uint64_t *in_use, size_t in_use_words, const uint8_t *left, size_t left_len, const uint8_t *right,
+                        size_t right_len, const uint8_t *weight, size_t weight_len, uint8_t *text, size_t text_len, uint8_t *answer,
+                        size_t answer_len);
 
 uint32_t star_work_which(uint32_t n, const uint64_t *in_use, size_t in_use_words, const uint8_t *left, size_t left_len, const uint8_t *right,
                          size_t right_len, const uint8_t *weight, size_t weight_len, const uint8_t *first, size_t first_len,
@@ -249,7 +266,7 @@ struct star_answer {
     unsigned in;     /* bytes 4 and 5: lighter: the row to put in; star_other: as out */
     unsigned only;   /* byte 6: 1 where star_cst or star_other passes the claim and no other network has its total; 0 in every other answer */
     int64_t amount;  /* bytes 8 to 15, two's complement: passed: the total; lighter: the saving, above 0 and at most 4,294,967,295;
-                        star_breaking: the breaking price; star_add: the new row's position */
+                        star_breaking: the breaking price; star_digs: the list's length; star_add: the new row's position */
 };
 
 static inline struct star_answer star_read_answer(const uint8_t bytes[16]) {

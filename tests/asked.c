@@ -53,7 +53,7 @@ static void back(void *to, void *lent, size_t bytes) {
 
 struct lent asked_lend(struct asked *t) {
     struct lent p = {lend(t->in_use, 8 * t->words), lend(t->left, t->left_len), lend(t->right, t->right_len), lend(t->weight, t->weight_len),
-                     lend(t->first, t->first_len),  lend(t->second, t->second_len), lend(t->answer, t->answer_len)};
+                     lend(t->first, t->first_len),  lend(t->second, t->second_len), lend(t->text, t->text_len), lend(t->answer, t->answer_len)};
     return p;
 }
 
@@ -64,6 +64,7 @@ void asked_back(struct asked *t, struct lent p) {
     back(t->weight, p.weight, t->weight_len);
     back(t->first, p.first, t->first_len);
     back(t->second, p.second, t->second_len);
+    back(t->text, p.text, t->text_len);
     back(t->answer, p.answer, t->answer_len);
 }
 
@@ -115,6 +116,7 @@ static void lengths(struct asked *t, size_t m, size_t answer_len) {
     t->words = t->working ? STAR_COLUMN_WORDS : 0;
     t->left_len = t->right_len = t->first_len = t->second_len = m;
     t->weight_len = 4 * m;
+    t->text_len = STAR_MAX_LIST + any(2) * any(30);
     t->answer_len = answer_len;
 }
 
@@ -159,8 +161,8 @@ void asked_make(struct asked *t, unsigned long k, size_t answer_len) {
 }
 
 void asked_damage(struct asked *t) {
-    size_t *len[] = {&t->left_len, &t->right_len, &t->weight_len, &t->answer_len, &t->first_len, &t->second_len, &t->words};
-    size_t *of = len[any(t->working ? 7 : 6)], i = any(STAR_MAX_ROWS);
+    size_t *len[] = {&t->left_len, &t->right_len, &t->weight_len, &t->answer_len, &t->first_len, &t->second_len, &t->text_len, &t->words};
+    size_t *of = len[any(t->working ? 8 : 7)], i = any(STAR_MAX_ROWS);
     switch (any(5)) {
     case 0: t->n = any(2) ? 0 : 256 + any(1000); break;
     case 1: t->left[any(3) ? any(20) : i] = (uint8_t)(any(2) ? 0 : 1 + t->n); break;

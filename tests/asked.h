@@ -1,4 +1,4 @@
-/* Tables as they are lent to a door that is asked about them, plain and working ones, for the tests of quotes, breaking prices and plans. */
+/* Tables as they are lent to a door that is asked about them, plain and working ones, for the tests of quotes, breaking prices, plans and dig lists. */
 #ifndef TESTS_ASKED_H
 #define TESTS_ASKED_H
 
@@ -8,7 +8,7 @@
 #include "plain_asked.h"
 #include "star.h"
 
-enum { ASKED_GUARD = 32, ASKED_ROWS = STAR_MAX_ROWS + 8 };
+enum { ASKED_GUARD = 32, ASKED_ROWS = STAR_MAX_ROWS + 8, ASKED_TEXT = STAR_MAX_LIST + 30 };
 
 /* What is lent, with bytes around it that have to stay, and the lengths that are told. */
 struct asked {
@@ -17,15 +17,15 @@ struct asked {
     size_t rows; /* rows in use, or of a plain table */
     uint64_t in_use[STAR_COLUMN_WORDS + 8];
     uint8_t before_left[ASKED_GUARD], left[ASKED_ROWS + ASKED_GUARD], right[ASKED_ROWS + ASKED_GUARD], weight[4 * ASKED_ROWS + ASKED_GUARD];
-    uint8_t first[ASKED_ROWS + ASKED_GUARD], second[ASKED_ROWS + ASKED_GUARD];
+    uint8_t first[ASKED_ROWS + ASKED_GUARD], second[ASKED_ROWS + ASKED_GUARD], text[ASKED_TEXT + ASKED_GUARD];
     uint8_t before_answer[ASKED_GUARD], answer[STAR_QUOTE_BYTES + ASKED_GUARD];
-    size_t words, left_len, right_len, weight_len, first_len, second_len, answer_len;
+    size_t words, left_len, right_len, weight_len, first_len, second_len, text_len, answer_len;
 };
 
 /* The pointers that are handed to a door: null for an empty column. With asked_exact set, each is memory of the column's own length. */
 struct lent {
     uint64_t *in_use;
-    uint8_t *left, *right, *weight, *first, *second, *answer;
+    uint8_t *left, *right, *weight, *first, *second, *text, *answer;
 };
 
 extern int asked_exact;

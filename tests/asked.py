@@ -1,4 +1,4 @@
-"""Asks the console about random tables (quote, breaking, stretch, which) and compares what it says with plain searches: every spanning forest is
+"""Asks the console about random tables (quote, breaking, stretch, which, digs) and compares what it says with plain searches: every spanning forest is
 found by sorted rows, a breaking price by a search over the prices of other trenches, a stretch by a walk, a dearest trench by every threshold.
 usage: asked.py STAR..   ends in one line 'N passed, M failed'
 """
@@ -183,11 +183,21 @@ def which(console, r, n, rows):
     tell((status, err) == (0, "") and out.startswith(f"The {name} plan stands, ") and out.endswith(words + "\n"), f"which: {out} {err} {text(n, rows, plans[0])} {plans}")
 
 
+def digs(console, r, n, rows):
+    status, out, err = console.ask("digs", text(n, rows))
+    chosen = tree(n, rows)
+    if chosen is None:
+        tell((status, out) == (2, "Refused 11 0\n") and err.startswith("Refused (11): "), f"digs: {out} {err} {text(n, rows)}")
+        return
+    lines = ["%d %d %d %d\n" % (i, *rows[i - 1][:3]) for i in chosen] + ["Total %d\n" % total(rows, chosen)]
+    tell((status, out, err) == (0, "".join(lines), ""), f"digs: {out} {text(n, rows)}")
+
+
 def main(star):
     r, console = random.Random(11), Console(star)
     for _ in range(250):
         n, rows = table(r)
-        for question in (quote, breaking, stretch, which):
+        for question in (quote, breaking, stretch, which, digs):
             question(console, r, n, rows)
     print(f"{passed} passed, {failed} failed")
     return failed != 0

@@ -44,8 +44,8 @@ controls door_test_faulty always-only never-only only-swapped only-and-lighter o
 add "$work/working"
 controls work_test_faulty $(sed -n 's/.*fault("\([^"]*\)").*/\1/p' tests/faulty_work.c)
 
-# Questions about a table: the quote, the breaking price, which plan stands.
-for asked in quote breaking which; do
+# Questions about a table: the quote, the breaking price, which plan stands, the dig list.
+for asked in quote breaking which digs; do
     "$build/${asked}_test" 20000 | tee "$work/asked"
     add "$work/asked"
     controls "${asked}_test_faulty" $(sed -n 's/.*fault("\([^"]*\)").*/\1/p' "tests/faulty_$asked.c")
@@ -76,13 +76,14 @@ memory() { # PROGRAM WORDS..
 if command -v valgrind >/dev/null; then
     memory "$build/door_test" 150
     memory "$build/work_test" 1000 exact
-    for asked in quote breaking which; do memory "$build/${asked}_test" 300 exact; done
+    for asked in quote breaking which digs; do memory "$build/${asked}_test" 300 exact; done
     memory "$build/import_test" "$work/texts" 20
     for words in 'draw console/examples/t2.txt' 'build tests/console/build-refused11.txt' 'check tests/console/check-refused4.txt' \
         'build tests/console/build-stp-edges.txt' 'build tests/console/build-stp-price-above.txt' 'draw console/examples/grant.txt' 'table console/examples/street.stp' \
         'explain console/examples/t2.txt' 'explain tests/console/explain-rings.txt' 'page console/examples/yard.txt' 'page tests/console/explain-ring.txt' \
         'quote console/examples/yard.txt 4 9' 'quote console/examples/struck.txt 3 9' 'breaking console/examples/struck.txt 1' 'breaking console/examples/bridge.txt 4' \
         'which console/examples/office-a.txt console/examples/office-b.txt' 'which console/examples/yard.txt console/examples/t1.txt' 'stretch console/examples/city.txt 1 255' \
+        'digs console/examples/struck.txt' 'digs console/examples/street.stp' 'digs tests/console/build-stp-word.txt' \
         'strike console/examples/struck.txt 1' 'merge console/examples/struck.txt' 'add console/examples/struck.txt 2 4 7' 'page console/examples/struck.txt'; do
         valgrind -q --error-exitcode=9 --leak-check=full --errors-for-leak-kinds=definite "$build/star" $words >"$work/valgrind" 2>&1
         if [ $? != 9 ]; then passed=$((passed + 1)); else

@@ -1,8 +1,10 @@
 #include "plain_asked.h"
 
+#include <inttypes.h>
+#include <stdio.h>
 #include <string.h>
 
-enum { ROWS = 1024, MAX_N = 255, QUOTE = 24 };
+enum { ROWS = 1024, MAX_N = 255, QUOTE = 24, LIST = 6370 };
 
 static void put_number(uint8_t *bytes, int64_t x) {
     int k;
@@ -33,14 +35,18 @@ static int regarded(const struct in_use *u, const struct call *c, size_t i) {
 }
 
 /* The least total, or the refusal of a table; marks of the length that fits are lent, so that no fault of theirs is told. */
-static void build(const struct in_use *u, const struct call *c, uint8_t answer[16]) {
-    uint8_t mark[ROWS];
+static void mark_tree(const struct in_use *u, const struct call *c, uint8_t mark[ROWS], uint8_t answer[16]) {
     struct call own = *c;
     memset(mark, 0, ROWS);
     own.mark = mark;
     own.mark_len = u ? ROWS : c->left_len; /* above 1,024 it is refused before marks are looked at */
     if (u) plain_work_mst1(*u, &own, answer, 16);
     else plain_mst1(&own, answer, 16);
+}
+
+static void build(const struct in_use *u, const struct call *c, uint8_t answer[16]) {
+    uint8_t mark[ROWS];
+    mark_tree(u, c, mark, answer);
 }
 
 /* Refusals 1, 2, 3, 4 and 15, then 7, then 11; else 0, and the answer has the least total. */
@@ -120,4 +126,21 @@ uint32_t plain_which(const struct in_use *u, const struct call *c, struct marks 
     if (!tree(u, c, first, answer, &total[0]) || !tree(u, c, second, answer, &total[1])) return 0;
     put(answer, 1, 0, total[1] < total[0] ? total[1] : total[0]);
     return total[1] < total[0] ? 2 : 1;
+}
+
+uint32_t plain_digs(const struct in_use *u, const struct call *c, uint8_t *text, size_t text_len, uint8_t *answer, size_t answer_len) {
+    char line[80];
+    uint8_t mark[ROWS];
+    size_t i, len = 0, k;
+    if (answer_len != 16 || text_len < LIST) return 0;
+    mark_tree(u, c, mark, answer);
+    if (answer[0] == 0) return 1;
+    for (i = 1; i <= rows_of(u, c) + 1; i++) {
+        if (i > rows_of(u, c)) k = (size_t)snprintf(line, sizeof line, "Total %" PRId64 "\n", number_at(answer + 8));
+        else if (mark[i - 1] == 1) k = (size_t)snprintf(line, sizeof line, "%zu %u %u %" PRId64 "\n", i, c->left[i - 1], c->right[i - 1], price_of(c, i));
+        else continue;
+        memcpy(text + len, line, k);
+        len += k;
+    }
+    return put(answer, 1, 0, (int64_t)len);
 }
