@@ -11,7 +11,7 @@ CXXFLAGS ?= -O2
 PREFIX ?= /usr/local
 BUILD := target/c
 # The crates whose functions for C the library is made of.
-DOORS := door workdoor changedoor importdoor digsdoor quotedoor
+DOORS := door workdoor changedoor importdoor digsdoor quotedoor breakingdoor whichdoor
 STAMPS := $(DOORS:%=target/stamp/%)
 ARCHIVES := $(DOORS:%=target/staticlib/lib%.a)
 ARCHIVE := $(BUILD)/libproved.a
@@ -95,16 +95,30 @@ $(BUILD)/work_test_faulty: $(ARCHIVE) $(WORK) $(WORK_HEADERS) tests/faulty_work.
 	$(CC) -std=c99 $(CFLAGS) -Iinclude -c -o $(BUILD)/faulty_work.o tests/faulty_work.c
 	$(CC) -std=c99 $(CFLAGS) -Iinclude -Itests $(FAULTY_WORK) -o $@ $(WORK) $(BUILD)/faulty_work.o $(ARCHIVE)
 
+# Questions about a table, in the same two ways, a program each.
+ASKED := quote breaking which digs
+ASKED_PARTS := tests/asked.c tests/plain_asked.c tests/plain_work.c tests/plain.c
+ASKED_NEEDS := $(ARCHIVE) $(ASKED_PARTS) $(ASKED_PARTS:.c=.h) include/star.h
+$(ASKED:%=$(BUILD)/%_test): $(BUILD)/%_test: tests/%_test.c $(ASKED_NEEDS)
+	@mkdir -p $(BUILD)
+	$(CC) -std=c99 $(CFLAGS) -Iinclude -Itests -o $@ $< $(ASKED_PARTS) $(ARCHIVE) -pthread
+
+$(ASKED:%=$(BUILD)/%_test_faulty): $(BUILD)/%_test_faulty: tests/%_test.c tests/faulty_%.c $(ASKED_NEEDS)
+	@mkdir -p $(BUILD)
+	$(CC) -std=c99 $(CFLAGS) -Iinclude -c -o $(BUILD)/faulty_$*.o tests/faulty_$*.c
+	$(CC) -std=c99 $(CFLAGS) -Iinclude -Itests -Dstar_$*=faulty_$* -Dstar_work_$*=faulty_work_$* -Dstar_$*_text=faulty_$*_text -o $@ $< $(ASKED_PARTS) $(BUILD)/faulty_$*.o $(ARCHIVE) -pthread
+
 $(BUILD)/import_test: $(ARCHIVE) tests/import_test.c include/star.h
 	@mkdir -p $(BUILD)
 	$(CC) -std=c99 $(CFLAGS) -Iinclude -o $@ tests/import_test.c $(ARCHIVE)
 
-$(BUILD)/plain.o: tests/plain.c tests/plain.h
+PLAIN := $(BUILD)/plain.o $(BUILD)/plain_work.o $(BUILD)/plain_asked.o
+$(PLAIN): $(BUILD)/%.o: tests/%.c tests/plain.h tests/plain_work.h tests/plain_asked.h
 	@mkdir -p $(BUILD)
-	$(CC) -std=c99 $(CFLAGS) -Iinclude -Itests -c -o $@ tests/plain.c
+	$(CC) -std=c99 $(CFLAGS) -Iinclude -Itests -c -o $@ $<
 
-$(BUILD)/bench: $(ARCHIVE) bench/bench.cpp $(BUILD)/plain.o include/star.h
-	$(CXX) -std=c++17 $(CXXFLAGS) -Iinclude -Itests $$(pkg-config --cflags igraph 2>/dev/null) -o $@ bench/bench.cpp $(BUILD)/plain.o $(ARCHIVE) $$(pkg-config --libs igraph 2>/dev/null)
+$(BUILD)/bench: $(ARCHIVE) bench/bench.cpp $(PLAIN) include/star.h
+	$(CXX) -std=c++17 $(CXXFLAGS) -Iinclude -Itests $$(pkg-config --cflags igraph 2>/dev/null) -o $@ bench/bench.cpp $(PLAIN) $(ARCHIVE) $$(pkg-config --libs igraph 2>/dev/null)
 
 run: $(BUILD)/star
 	$(BUILD)/star check console/examples/yard.txt
@@ -114,7 +128,7 @@ test:
 
 # What stands outside the proofs: the doors against the plain implementation, the import against the plain reader (python3), both under a
 # memory checker, and the console.
-outside: $(BUILD)/star $(BUILD)/door_test $(BUILD)/door_test_faulty $(BUILD)/work_test $(BUILD)/work_test_faulty $(BUILD)/import_test $(READSTP) $(DIGLIST)
+outside: $(BUILD)/star $(BUILD)/door_test $(BUILD)/door_test_faulty $(BUILD)/work_test $(BUILD)/work_test_faulty $(ASKED:%=$(BUILD)/%_test) $(ASKED:%=$(BUILD)/%_test_faulty) $(BUILD)/import_test $(READSTP) $(DIGLIST)
 	bash tests/outside.sh $(BUILD) $(READSTP) $(DIGLIST)
 
 bench: $(BUILD)/bench

@@ -1,4 +1,4 @@
-// MST1 and CST through the door, on working tables too, against a plain implementation in C and, where they are installed, LEMON, Boost Graph and igraph.
+// MST1, CST, the quote and the breaking price through the door, MST1 and CST on working tables too, against a plain implementation in C and, where they are installed, LEMON, Boost Graph and igraph.
 // Every solver starts from the same byte columns: it builds its graph and finds the tree's weight. One process, one table at a time; the
 // median of many rounds. The weights found are compared, so a solver that is wrong is told.
 #include <algorithm>
@@ -13,7 +13,7 @@
 #include "star.h"
 
 extern "C" {
-#include "plain.h"
+#include "plain_asked.h"
 }
 
 #if __has_include(<lemon/list_graph.h>)
@@ -81,6 +81,20 @@ int64_t door_cst(Table &t) {
     return amount(answer);
 }
 
+// The price of the row in the middle changes; the least total before the change is compared.
+int64_t door_quote(Table &t) {
+    uint8_t answer[STAR_QUOTE_BYTES];
+    star_quote(t.n, t.left.data(), t.rows(), t.right.data(), t.rows(), t.weight.data(), t.weight.size(), uint32_t(t.rows() / 2), 0, answer, sizeof answer);
+    return amount(answer);
+}
+
+// The breaking price of the same row.
+int64_t door_breaking(Table &t) {
+    uint8_t answer[16];
+    star_breaking(t.n, t.left.data(), t.rows(), t.right.data(), t.rows(), t.weight.data(), t.weight.size(), uint32_t(t.rows() / 2), answer, 16);
+    return answer[0] == STAR_NEVER ? INT64_MAX : amount(answer);
+}
+
 call call_of(Table &t) {
     return {t.n, t.left.data(), t.right.data(), t.weight.data(), t.mark.data(), t.rows(), t.rows(), t.weight.size(), t.rows()};
 }
@@ -90,6 +104,13 @@ int64_t plain_build(Table &t) {
     call c = call_of(t);
     plain_mst1(&c, answer, 16);
     return amount(answer);
+}
+
+int64_t plain_price(Table &t) {
+    uint8_t answer[16];
+    call c = call_of(t);
+    plain_breaking(nullptr, &c, uint32_t(t.rows() / 2), answer, 16);
+    return answer[0] == STAR_NEVER ? INT64_MAX : amount(answer);
 }
 
 int64_t plain_check(Table &t) {
@@ -182,6 +203,8 @@ void measure(uint32_t n, size_t m, int32_t from, int32_t to) {
     std::printf("n %u, m %zu, prices from %d to %d\n", n, m, int(from), int(to));
     row("star_mst1", build, build, check);
     row("star_cst", check, build, check);
+    row("star_quote", time_of(door_quote, t, expected, "star_quote"), build, check);
+    row("star_breaking", time_of(door_breaking, t, plain_price(t), "star_breaking"), build, check);
     row("plain build", time_of(plain_build, t, expected, "plain"), build, check);
     row("plain check", time_of(plain_check, t, expected, "plain"), build, check);
 #ifdef HAVE_LEMON

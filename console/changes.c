@@ -6,6 +6,7 @@
 #include "edit.h"
 #include "refusal.h"
 #include "status.h"
+#include "usage.h"
 
 static struct edit edit;
 static uint32_t numbers[STAR_MAX_ROWS];
@@ -13,11 +14,6 @@ static uint32_t numbers[STAR_MAX_ROWS];
 static int refused(const struct message *words) {
     fprintf(stderr, "%s\n", words->text);
     return EXIT_REFUSED;
-}
-
-static int misused(const char *what, const char *word) {
-    fprintf(stderr, "star: %s '%s'; 'star --help' says how it is used\n", what, word);
-    return EXIT_USAGE;
 }
 
 /* A file with more trenches than a working table has rows is refused as any table of its size. */
@@ -42,9 +38,9 @@ int command_strike(struct table *t, const struct options *with, struct output *o
     if (status != 0) return status;
     if (with->count == 0) return misused("the number of a trench follows the file of", "strike");
     for (i = 0; i < with->count; i++) {
-        struct span word = {with->words[i], strlen(with->words[i])};
         uint32_t trench;
-        if (!text_number(word, &trench)) return misused("a trench is named by its number, from 1 on, and not by", with->words[i]);
+        status = trench_named(with->words[i], &trench);
+        if (status != 0) return status;
         if (table_strike(t, trench).kind != STAR_PASSED) {
             refusal_of_strike(&words, t, trench);
             return refused(&words);
@@ -67,14 +63,12 @@ static void tell_numbers(const struct table *t) {
 
 /* The words LEFT RIGHT PRICE as a trench and as the line of it. */
 static int new_trench(const struct options *with, struct trench *new, struct message *as) {
-    struct span word[3];
     uint32_t end[2];
-    int i;
+    int i, status = 0;
     if (with->count != 3) return misused("two junctions and a price follow the file of", "add");
-    for (i = 0; i < 3; i++) word[i].at = with->words[i], word[i].len = strlen(with->words[i]);
-    for (i = 0; i < 2; i++)
-        if (!text_number(word[i], &end[i]) || end[i] < 1 || end[i] > STAR_MAX_JUNCTIONS) return misused("a junction is a number from 1 to 255, and not", with->words[i]);
-    if (!price_read(word[2], new->price)) return misused("a price is " PRICE_TEXT ", and not", with->words[2]);
+    for (i = 0; i < 2 && status == 0; i++) status = junction_named(with->words[i], &end[i]);
+    if (status == 0) status = price_named(with->words[2], new->price);
+    if (status != 0) return status;
     new->left = (uint8_t)end[0];
     new->right = (uint8_t)end[1];
     say(as, "%u %u %s 0", (unsigned)end[0], (unsigned)end[1], with->words[2]);

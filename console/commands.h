@@ -10,7 +10,7 @@ struct options {
     int table;     /* build: the table with the chosen trenches marked */
     int all;       /* explain: every trench that is left out */
     size_t trench; /* explain: this one; 0 for none */
-    char **words;  /* strike, add: what follows the file */
+    char **words;  /* quote, breaking, which, stretch, strike, add: what follows the file */
     int count;
 };
 
@@ -21,6 +21,11 @@ int command_draw(struct table *t, const struct options *with, struct output *o);
 int command_dot(struct table *t, const struct options *with, struct output *o);     /* writes a picture for Graphviz */
 int command_page(struct table *t, const struct options *with, struct output *o);    /* writes a page of pictures that explain */
 int command_table(struct table *t, const struct options *with, struct output *o);   /* writes the table */
+int command_quote(struct table *t, const struct options *with, struct output *o);   /* the cheapest total before and after a new price */
+int command_breaking(struct table *t, const struct options *with, struct output *o); /* the price up to which a trench stays in the plan */
+int command_which(struct table *t, const struct options *with, struct output *o);   /* which of two plans over one table costs less */
+int command_stretch(struct table *t, const struct options *with, struct output *o); /* the dearest trench between two junctions */
+int command_digs(struct table *t, const struct options *with, struct output *o);    /* writes the dig list */
 int command_strike(struct table *t, const struct options *with, struct output *o);  /* writes the file with trenches struck */
 int command_add(struct table *t, const struct options *with, struct output *o);     /* writes the file with a trench more */
 int command_merge(struct table *t, const struct options *with, struct output *o);   /* writes the file without its struck trenches */

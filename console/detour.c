@@ -17,11 +17,10 @@ static size_t next(const struct paths *p, const struct table *t, uint32_t to, un
     return 0;
 }
 
-int detour_of(struct detour *d, struct paths *p, const struct table *t, size_t i) {
-    unsigned at = t->left[i - 1];
-    uint32_t to = t->right[i - 1];
+int way_between(struct detour *d, struct paths *p, const struct table *t, uint32_t from, uint32_t to) {
+    unsigned at = from;
     size_t row = 0;
-    if (!paths_from(p, t, at)) return 0;
+    if (!paths_from(p, t, from)) return 0;
     d->count = 0;
     d->sum = 0;
     d->dearest = 0;
@@ -33,7 +32,11 @@ int detour_of(struct detour *d, struct paths *p, const struct table *t, size_t i
         d->sum += table_cost(t, row);
         if (!d->dearest || table_cost(t, row) > table_cost(t, d->dearest) || (table_cost(t, row) == table_cost(t, d->dearest) && row < d->dearest)) d->dearest = (unsigned)row;
     }
-    if (d->count == 0 || at != to) return 0;
+    return d->count > 0 && at == to;
+}
+
+int detour_of(struct detour *d, struct paths *p, const struct table *t, size_t i) {
+    if (!way_between(d, p, t, t->left[i - 1], t->right[i - 1])) return 0;
     d->standing = table_cost(t, i) < table_cost(t, d->dearest) ? CHEAPER : table_cost(t, i) == table_cost(t, d->dearest) ? EQUAL : DEARER;
     return 1;
 }

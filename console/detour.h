@@ -1,4 +1,5 @@
-/* The way around a trench that is left out, over the trenches of a plan that is a network. The door star_paths gives the trenches of it. */
+/* Ways over the trenches of a plan that is a network: between two junctions, and around a trench that is left out. The door star_paths gives the
+   trenches of them. */
 #ifndef CONSOLE_DETOUR_H
 #define CONSOLE_DETOUR_H
 
@@ -14,16 +15,19 @@ struct paths {
 enum standing { CHEAPER, EQUAL, DEARER, STANDINGS };
 
 struct detour {
-    unsigned row[STAR_MAX_JUNCTIONS];      /* the trenches in order, from the left end to the right one */
+    unsigned row[STAR_MAX_JUNCTIONS];      /* the trenches in order, from the left end to the right one, or from one junction to the other */
     unsigned stop[STAR_MAX_JUNCTIONS + 1]; /* the junctions between them, both ends included: one more than trenches */
     size_t count;                          /* trenches */
     unsigned dearest;                      /* the dearest trench, the uppermost among equals */
     int64_t sum;
-    enum standing standing;
+    enum standing standing;                /* of a way around a trench alone */
 };
 
 /* Asks the door for the paths from a junction, unless it was the last one asked for; 0 if the door refuses. */
 int paths_from(struct paths *p, const struct table *t, uint32_t from);
+
+/* The way between two different junctions; 0 if the door refuses. */
+int way_between(struct detour *d, struct paths *p, const struct table *t, uint32_t from, uint32_t to);
 
 /* The detour of trench i, counted from 1; 0 if the door refuses. */
 int detour_of(struct detour *d, struct paths *p, const struct table *t, size_t i);

@@ -50,12 +50,53 @@ struct star_answer table_mst1(struct table *t) {
     return star_read_answer(answer);
 }
 
+/* A trench's number as the doors take it; one that is too large is no trench's. */
+static uint32_t row_of(size_t i) { return i > UINT32_MAX ? UINT32_MAX : (uint32_t)i; }
+
+struct star_quoted table_quote(const struct table *t, size_t i, const uint8_t price[PRICE_BYTES]) {
+    uint8_t answer[STAR_QUOTE_BYTES];
+    uint64_t in_use[STAR_COLUMN_WORDS];
+    int32_t new = star_get_price(price, 0);
+    if (working(t, in_use)) star_work_quote(t->n, in_use, STAR_COLUMN_WORDS, COLUMNS(t, STAR_MAX_ROWS), row_of(i), new, answer, sizeof answer);
+    else star_quote(t->n, COLUMNS(t, kept(t)), row_of(i), new, answer, sizeof answer);
+    return star_read_quoted(answer);
+}
+
+struct star_answer table_breaking(const struct table *t, size_t i) {
+    uint8_t answer[STAR_ANSWER_BYTES];
+    uint64_t in_use[STAR_COLUMN_WORDS];
+    if (working(t, in_use)) star_work_breaking(t->n, in_use, STAR_COLUMN_WORDS, COLUMNS(t, STAR_MAX_ROWS), row_of(i), answer, sizeof answer);
+    else star_breaking(t->n, COLUMNS(t, kept(t)), row_of(i), answer, sizeof answer);
+    return star_read_answer(answer);
+}
+
+struct star_answer table_digs(const struct table *t, uint8_t *text, size_t len) {
+    uint8_t answer[STAR_ANSWER_BYTES];
+    uint64_t in_use[STAR_COLUMN_WORDS];
+    if (t->stp) star_digs_text((const uint8_t *)t->text.at, t->text.len, text, len, answer, sizeof answer);
+    else if (working(t, in_use)) star_work_digs(t->n, in_use, STAR_COLUMN_WORDS, COLUMNS(t, STAR_MAX_ROWS), text, len, answer, sizeof answer);
+    else star_digs(t->n, COLUMNS(t, kept(t)), text, len, answer, sizeof answer);
+    return star_read_answer(answer);
+}
+
+uint32_t table_which(const struct table *first, const struct table *second, struct star_answer *a) {
+    uint8_t answer[STAR_ANSWER_BYTES];
+    uint64_t in_use[STAR_COLUMN_WORDS];
+    size_t m = kept(first);
+    uint32_t said;
+    if (working(first, in_use))
+        said = star_work_which(first->n, in_use, STAR_COLUMN_WORDS, COLUMNS(first, STAR_MAX_ROWS), first->mark, STAR_MAX_ROWS, second->mark, STAR_MAX_ROWS, answer, sizeof answer);
+    else said = star_which(first->n, COLUMNS(first, m), first->mark, m, second->mark, m, answer, sizeof answer);
+    *a = star_read_answer(answer);
+    return said;
+}
+
 struct star_answer table_strike(struct table *t, size_t i) {
     uint8_t answer[STAR_ANSWER_BYTES];
     uint64_t in_use[STAR_COLUMN_WORDS];
     struct star_answer a;
     working(t, in_use);
-    star_strike(in_use, STAR_COLUMN_WORDS, i > UINT32_MAX ? UINT32_MAX : (uint32_t)i, answer, sizeof answer);
+    star_strike(in_use, STAR_COLUMN_WORDS, row_of(i), answer, sizeof answer);
     a = star_read_answer(answer);
     if (a.kind == STAR_PASSED) t->struck[i - 1] = 1, t->strikes++, t->mark[i - 1] = 0;
     return a;

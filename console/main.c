@@ -1,5 +1,5 @@
-/* A planner's console over the door: checks a marked network, builds a least one, explains and draws it, and changes its table. This file reads the
-   command line. */
+/* A planner's console over the door: checks a marked network, builds a least one, explains and draws it, answers questions about prices and plans,
+   and changes its table. This file reads the command line. */
 #include <stdio.h>
 #include <string.h>
 
@@ -7,6 +7,7 @@
 #include "input.h"
 #include "output.h"
 #include "status.h"
+#include "usage.h"
 
 static const char HELP[] =
     "usage: star check [FILE]          judge the marked trenches\n"
@@ -17,6 +18,11 @@ static const char HELP[] =
     "       star draw [FILE]           write a picture (SVG) of the network, with what check says of it\n"
     "       star dot [FILE]            write the same for Graphviz (DOT)\n"
     "       star table [FILE]          write the trenches as a table; those of an STP file are not marked\n"
+    "       star digs [FILE]           write the dig list for the site: a line a trench of the cheapest network, and the total\n"
+    "       star quote FILE TRENCH PRICE     say what the cheapest network costs today, and when this trench has the new price\n"
+    "       star breaking FILE TRENCH  say up to which price this trench stays in the plan, and which one takes its place above\n"
+    "       star which FILE FILE       say which of two plans costs less; the files are the same but for their marks\n"
+    "       star stretch FILE JUNCTION JUNCTION   list the plan's trenches between two junctions, and name the dearest\n"
     "       star strike FILE TRENCH..  write the file with these trenches struck\n"
     "       star add FILE LEFT RIGHT PRICE   write the file with a trench more, after the last one in use\n"
     "       star merge [FILE]          write the file without its struck trenches, and tell the new numbers of the others\n"
@@ -36,22 +42,37 @@ static const char HELP[] =
     "\n"
     "FILE may be a SteinLib STP file too, told by its first word, 33D32945: its junctions are the Nodes of the\n"
     "section Graph, its trenches the E lines. It has at most 65536 bytes. It marks no trench, so there is\n"
-    "nothing to check: build chooses trenches, and table writes a table in which they can be marked.\n"
+    "nothing to check: build and digs choose trenches, quote and breaking need no marks, and table writes a\n"
+    "table in which they can be marked.\n"
     "\n"
-    "Exit status: 0 passed, built, explained, drawn or written; 1 a cheaper set exists (check); 2 the table or the plan was\n"
+    "Exit status: 0 passed, built, told, drawn or written; 1 a cheaper set exists (check, stretch); 2 the table or the plan was\n"
     "refused; 3 the input could not be read; 4 wrong usage; 5 the output could not be written.\n";
 
 struct command {
     const char *name;
     int (*run)(struct table *t, const struct options *with, struct output *o);
     const char *takes; /* what it takes beside a file: t --table, a --all, n the number of a trench, w words */
-    enum needs { FILE_ALONE, PLAN, LINES } needs; /* marks, or lines that can be changed, which an STP file has not */
+    enum needs { FILE_ALONE, PLAN, LINES, TEXT } needs; /* marks, or lines that can be changed, which an STP file has not; its text, refused or not */
+    enum result { WORDS, WRITING } result; /* words, of which a refusal is one too, or a file */
+    const char *plan;  /* what it does with a plan; NULL where it needs none */
 };
 
 static const struct command COMMANDS[] = {
-    {"check", command_check, "", PLAN},       {"build", command_build, "t", FILE_ALONE}, {"explain", command_explain, "an", PLAN}, {"draw", command_draw, "", FILE_ALONE},
-    {"dot", command_dot, "", FILE_ALONE},     {"page", command_page, "", FILE_ALONE},    {"table", command_table, "", FILE_ALONE}, {"strike", command_strike, "w", LINES},
-    {"add", command_add, "w", LINES},         {"merge", command_merge, "", LINES},
+    {"check", command_check, "", PLAN, WORDS, "check"},
+    {"build", command_build, "t", FILE_ALONE, WORDS, NULL},
+    {"explain", command_explain, "an", PLAN, WORDS, "explain"},
+    {"draw", command_draw, "", FILE_ALONE, WRITING, NULL},
+    {"dot", command_dot, "", FILE_ALONE, WRITING, NULL},
+    {"page", command_page, "", FILE_ALONE, WRITING, NULL},
+    {"table", command_table, "", FILE_ALONE, WRITING, NULL},
+    {"digs", command_digs, "", TEXT, WRITING, NULL},
+    {"quote", command_quote, "w", FILE_ALONE, WORDS, NULL},
+    {"breaking", command_breaking, "w", FILE_ALONE, WORDS, NULL},
+    {"which", command_which, "w", PLAN, WORDS, "compare"},
+    {"stretch", command_stretch, "w", PLAN, WORDS, "follow"},
+    {"strike", command_strike, "w", LINES, WRITING, NULL},
+    {"add", command_add, "w", LINES, WRITING, NULL},
+    {"merge", command_merge, "", LINES, WRITING, NULL},
 };
 
 struct request {
@@ -61,11 +82,6 @@ struct request {
     struct output out;
     int help;
 };
-
-static int misused(const char *what, const char *word) {
-    fprintf(stderr, "star: %s '%s'; 'star --help' says how it is used\n", what, word);
-    return EXIT_USAGE;
-}
 
 static const struct command *find(const char *name) {
     size_t i;
@@ -117,19 +133,21 @@ static int run(struct request *r) {
     struct input in;
     struct message fault = {{0}, 0};
     int status = input_open(&in, r->file, &fault);
-    if (status == 0 && in.stp && r->command->needs != FILE_ALONE) {
+    if (status == 0 && in.stp && (r->command->needs == PLAN || r->command->needs == LINES)) {
         say_place(&fault, in.file, 0);
         if (r->command->needs == LINES) say(&fault, "an STP file has no struck trenches. 'star table' writes a table, whose lines %s can change.", r->command->name);
         else say(&fault, "an STP file marks no trench, so there is no plan to %s. 'star build' chooses the cheapest trenches;\n"
-                         "'star table' writes a table in which the trenches of the plan can be marked.", r->command->name);
+                         "'star table' writes a table in which the trenches of the plan can be marked.", r->command->plan);
         status = EXIT_UNREADABLE;
     }
     if (status == 0) status = input_table(&in, &t, &fault);
     if (status == 0) {
         status = r->command->run(&t, &r->with, &r->out);
+    } else if (status == EXIT_REFUSED && r->command->needs == TEXT) { /* the list of a text that is refused has one line, and the words stand beside it */
+        fprintf(stderr, "%s\n", fault.text);
+        status = r->command->run(&t, &r->with, &r->out);
     } else {
-        /* build's refusals are its result, those of a text too */
-        FILE *to = status == EXIT_REFUSED && r->command->run == command_build && !r->with.table ? output_open(&r->out) : stderr;
+        FILE *to = status == EXIT_REFUSED && r->command->result == WORDS && !r->with.table ? output_open(&r->out) : stderr;
         if (to) fprintf(to, "%s\n", fault.text);
         else status = EXIT_UNWRITTEN;
     }

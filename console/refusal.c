@@ -40,6 +40,13 @@ void refusal_of_strike(struct message *to, const struct table *t, size_t trench)
     else say(to, "there is no trench %zu to strike; the table has %zu.", trench, t->m);
 }
 
+void refusal_of_asked(struct message *to, const struct table *t, size_t trench) {
+    int struck = trench >= 1 && trench <= t->m && trench <= KEPT;
+    refusal_opens(to, STAR_BAD_SOURCE, t->file, struck ? t->row[trench - 1].line : 0);
+    if (struck) say(to, "trench %zu is struck, and so left out of everything.", trench);
+    else say(to, "there is no trench %zu; the table has %zu.", trench, t->m);
+}
+
 static void junction_count(struct message *to, const struct table *t) {
     say(to, t->count.line == 0 ? "no junction from 1 on is named" : t->told ? "the number of junctions is " : "the largest junction is ");
     say_word(to, t->count.text);

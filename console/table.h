@@ -29,7 +29,8 @@ struct table {
     struct place row[KEPT]; /* the line of each trench, without its comment */
     struct place count;  /* the number in the line 'junctions N', else the largest junction named; line 0 if there is neither */
     int told;            /* whether a line 'junctions N' stands in the file */
-    struct span text;    /* the file, for the commands that change it */
+    struct span text;    /* the file, for the commands that change it or hand it to a door */
+    int stp;             /* whether the file is an STP text */
 };
 
 /* Reads the planner's table. On a fault it says what and in which line, and returns 0. */
@@ -47,6 +48,14 @@ struct star_answer table_cst(const struct table *t);
 struct star_answer table_other(const struct table *t);
 struct star_answer table_mst1(struct table *t);
 struct star_answer table_paths(const struct table *t, uint32_t from, uint64_t *matrix, size_t words);
+struct star_quoted table_quote(const struct table *t, size_t i, const uint8_t price[PRICE_BYTES]);
+struct star_answer table_breaking(const struct table *t, size_t i);
+
+/* Writes the dig list of the table, or of the STP text that it was read from, and answers its length as the amount. */
+struct star_answer table_digs(const struct table *t, uint8_t *text, size_t len);
+
+/* Which of two marked tables costs less: 1 the first, 2 the second, 0 none where one is refused. They are the same but for their marks. */
+uint32_t table_which(const struct table *first, const struct table *second, struct star_answer *a);
 
 /* The doors that change a table, over a copy of it: numbers has 1,024. A struck trench is remembered in the table. */
 struct star_answer table_strike(struct table *t, size_t i);

@@ -1,4 +1,4 @@
-/* The console's door to the verified tree checker, tree builder, path finder, working tables and reader of STP texts.
+/* The console's door to the verified tree checker, tree builder, path finder, quotes, working tables, dig lists and reader of STP texts.
  *
  * A table has n junctions, numbered 1 to n, and m rows, counted from 1. A row joins two junctions at a price:
  *   left, right   one byte a row, the two junctions
@@ -12,28 +12,32 @@
  * star_other  answers as star_cst; where another network costs the same, it names an exchange of two rows that gives one.
  * star_mst1   builds a least network and marks its rows; it does not read the marks it was lent.
  * star_paths  finds the rows between one junction and each other, along a claim that is a tree.
+ * star_quote  gives the least total before and after one row has a new price; it takes no marks.
+ * star_breaking gives the price above which a row is in no least network; it takes no marks.
+ * star_which  says which of two claims over one table costs less.
+ * star_digs   writes the dig list of a least network; it takes no marks. star_digs_text does so from an STP text.
  * star_import reads a SteinLib STP text into columns of 1,024 rows; it has no marks.
  *
  * A working table is one in which rows are struck out and entered. All its columns have 1,024 rows, marks too, and sixteen words say which
  * of them are in use (star_in_use): the rows in use are the table, and what stands in the others is not looked at.
  *
- * star_work_cst, star_work_other, star_work_mst1 and star_work_paths answer as the doors without work, over the rows in use. What is said below
- *               of star_cst, star_other, star_mst1 and star_paths holds of them too.
+ * star_work_X   answers as star_X, over the rows in use (cst, other, mst1, paths, quote, breaking, which, digs). What is said below of star_X
+ *               holds of it too.
  * star_strike   takes a row out of use.
  * star_add      enters a row after the last one in use.
  * star_merge    packs the rows in use to the top, and says where each one went.
  *
- * Each returns 1 with the verdict in the sixteen bytes of the answer, or 0 if the lent answer has
- * not sixteen bytes; then nothing is written anywhere. Every other input is taken, whatever its
- * bytes and lengths: a fault is told as a refusal with its number and place, and a refused call
- * leaves the marks, the matrix, the columns lent to star_import, and the working table and the numbers lent to
- * star_strike, star_add and star_merge, as they were.
+ * Each returns 1 with the verdict in the sixteen bytes of the answer (star_quote: twenty-four), or 0 if the lent answer has
+ * another length; then nothing is written anywhere. star_which returns 1 for the first claim, 2 for the second, and 0 on a
+ * refusal too. Every other input is taken, whatever its bytes and lengths: a fault is told as a refusal with its number and
+ * place, and a refused call leaves the marks, the matrix, the columns lent to star_import, and the working table and the
+ * numbers lent to star_strike, star_add and star_merge, as they were.
  *
  * The caller owes that each pointer has as many readable bytes behind it as its length says (writable
  * ones behind answer, and behind every other pointer that is not to const), and that a column that is written
  * overlaps no other. The length of a matrix and of the rows in use counts words of eight bytes, that of a list
  * of numbers the numbers. An empty column may be lent as a null pointer with length 0. The calling thread has
- * stack left, 1 MiB for star_import and 128 KiB for each of the others, whatever is lent. Nothing else is asked.
+ * stack left, 1 MiB for star_import and star_digs_text and 128 KiB for each of the others, whatever is lent. Nothing else is asked.
  */
 #ifndef STAR_H
 #define STAR_H
@@ -47,14 +51,17 @@ extern "C" {
 
 /* The version of this header. star_version gives that of the library that is linked. */
 #define STAR_VERSION_MAJOR 0
-#define STAR_VERSION_MINOR 7
+#define STAR_VERSION_MINOR 8
 #define STAR_VERSION_PATCH 0
-#define STAR_VERSION "0.7.0"
+#define STAR_VERSION "0.8.0"
 
 const char *star_version(void);
 
 /* The largest table that is taken. */
 enum { STAR_MAX_JUNCTIONS = 255, STAR_MAX_ROWS = 1024, STAR_ANSWER_BYTES = 16 };
+
+/* The length of the answer of star_quote and star_work_quote. */
+enum { STAR_QUOTE_BYTES = 24 };
 
 /* The least and the largest price: -2,147,483,648 and 2,147,483,647. */
 #define STAR_MIN_PRICE INT32_MIN
@@ -63,15 +70,17 @@ enum { STAR_MAX_JUNCTIONS = 255, STAR_MAX_ROWS = 1024, STAR_ANSWER_BYTES = 16 };
 /* The words of a path matrix for each junction, and of the rows in use of a working table. */
 enum { STAR_COLUMN_WORDS = 16 };
 
-/* The longest text that is read. */
-enum { STAR_MAX_TEXT = 65536 };
+/* The longest text that is read, and the longest dig list. */
+enum { STAR_MAX_TEXT = 65536, STAR_MAX_LIST = 6370 };
 
 /* Byte 0 of an answer. */
 enum star_kind {
     STAR_REFUSED = 0,
-    STAR_PASSED = 1, /* star_cst, star_other: no cheaper set exists; star_mst1: the network is built; star_paths: the matrix is filled;
-                        star_import: the text is read; star_strike, star_add, star_merge: done */
-    STAR_LIGHTER = 2 /* a cheaper set exists: the exchange of two rows is one */
+    STAR_PASSED = 1,  /* star_cst, star_other: no cheaper set exists; star_mst1: the network is built; star_paths: the matrix is filled;
+                         star_quote: both totals are found; star_breaking: there is such a price; star_which: both claims are trees;
+                         star_digs: the list is written; star_import: the text is read; star_strike, star_add, star_merge: done */
+    STAR_LIGHTER = 2, /* a cheaper set exists: the exchange of two rows is one */
+    STAR_NEVER = 2    /* star_breaking: no other route joins the row's ends, so that it is in every network */
 };
 
 /* Byte 1 of a refused answer, and what its place is. 5, 14 and 16 are not used. */
@@ -82,11 +91,11 @@ enum star_refusal {
                                     tables: the rows in use are not sixteen words, or the numbers not 1,024 */
     STAR_BAD_END = 4,            /* place: the uppermost row with an end that is 0 or above n, or with equal ends */
     STAR_BAD_MARK = 6,           /* place: the uppermost row marked with another byte than 0 and 1 (all but star_mst1) */
-    STAR_BAD_SOURCE = 7,         /* s is 0 or above n (star_paths) */
+    STAR_BAD_SOURCE = 7,         /* s is 0 or above n (star_paths); the row asked about is 0, above m or not in use (star_quote, star_breaking) */
     STAR_SHORT_MATRIX = 8,       /* the matrix has fewer than 16 n words (star_paths) */
     STAR_BAD_MARK_COUNT = 9,     /* the marks are not n - 1 (all but star_mst1) */
     STAR_NOT_JOINED = 10,        /* place: the smallest junction that marked rows do not join to 1, or to s (star_paths) */
-    STAR_NO_NETWORK = 11,        /* no set of rows joins every junction (star_mst1) */
+    STAR_NO_NETWORK = 11,        /* no set of rows joins every junction (star_mst1, star_quote, star_breaking, star_digs) */
     STAR_BAD_TEXT = 12,          /* place: the first byte, counted from 0, of the first word that cannot stand; the text's length if it ends
                                     too early; 65,536 if it is longer (star_import) */
     STAR_BAD_EDGE_COUNT = 13,    /* the E lines are not as many as the line Edges says (star_import) */
@@ -118,6 +127,38 @@ uint32_t star_mst1(uint32_t n, const uint8_t *left, size_t left_len, const uint8
 uint32_t star_paths(uint32_t n, const uint8_t *left, size_t left_len, const uint8_t *right, size_t right_len,
                     const uint8_t *weight, size_t weight_len, const uint8_t *mark, size_t mark_len, uint32_t s,
                     uint64_t *matrix, size_t words, uint8_t *answer, size_t answer_len);
+
+/* The least total as the table stands, and the least total after a row, counted from 1, has another price; any price is taken. The answer has
+ * twenty-four bytes: star_read_quoted reads them. The two totals differ by at most the change in price, and never in the opposite direction. A
+ * refusal is 1, 2, 3, 4, 15, 7 or 11. */
+uint32_t star_quote(uint32_t n, const uint8_t *left, size_t left_len, const uint8_t *right, size_t right_len,
+                    const uint8_t *weight, size_t weight_len, uint32_t row, int32_t price, uint8_t *answer,
+                    size_t answer_len);
+
+/* The breaking price of a row, counted from 1: over all routes between its ends that do not use it, the least possible price of the dearest row. A
+ * new price moves the least total by exactly min(new, breaking) - min(old, breaking). The row's own price plays no part. STAR_PASSED: amount is
+ * the breaking price; STAR_NEVER: no such route, all else is 0, and the least total moves by new - old. It refuses as star_quote does. */
+uint32_t star_breaking(uint32_t n, const uint8_t *left, size_t left_len, const uint8_t *right, size_t right_len,
+                       const uint8_t *weight, size_t weight_len, uint32_t row, uint8_t *answer, size_t answer_len);
+
+/* Which of two claims over one table costs less: returns 1 for the first, also where they cost the same, and 2 for the second; amount is its total.
+ * Both have to be trees, and neither has to be a least one. On a refusal, which is that of star_cst for the first claim, else for the second, it
+ * returns 0. */
+uint32_t star_which(uint32_t n, const uint8_t *left, size_t left_len, const uint8_t *right, size_t right_len,
+                    const uint8_t *weight, size_t weight_len, const uint8_t *first, size_t first_len, const uint8_t *second,
+                    size_t second_len, uint8_t *answer, size_t answer_len);
+
+/* Writes the dig list of the least network that star_mst1 builds at the start of a text that is lent, of 6,370 bytes or more; the bytes behind it
+ * stay. A line has a row of the network, from the top: position, left, right, price, a single space between, in decimal; the last line has Total, a
+ * space and the sum; each ends with LF. amount is the list's length. A refusal is 1, 2, 3, 4, 15 or 11, and leaves the text. A shorter text is as an
+ * answer of another length: 0 is returned, and nothing is written. */
+uint32_t star_digs(uint32_t n, const uint8_t *left, size_t left_len, const uint8_t *right, size_t right_len,
+                   const uint8_t *weight, size_t weight_len, uint8_t *text, size_t text_len, uint8_t *answer,
+                   size_t answer_len);
+
+/* The same from an STP text. A refusal is one of star_import, else 11; the answer is read by star_read_imported where it is refused, since the
+ * place is in bytes 8 to 15. The calling thread has 1 MiB of stack left. */
+uint32_t star_digs_text(const uint8_t *stp, size_t stp_len, uint8_t *text, size_t text_len, uint8_t *answer, size_t answer_len);
 
 /* Whether a row, counted from 1, is on the path to a junction, by a matrix that star_paths has filled. */
 static inline int star_on_path(const uint64_t *matrix, uint32_t junction, size_t row) {
@@ -151,6 +192,21 @@ uint32_t star_work_mst1(uint32_t n, const uint64_t *in_use, size_t in_use_words,
 uint32_t star_work_paths(uint32_t n, const uint64_t *in_use, size_t in_use_words, const uint8_t *left, size_t left_len, const uint8_t *right,
                          size_t right_len, const uint8_t *weight, size_t weight_len, const uint8_t *mark, size_t mark_len, uint32_t s,
                          uint64_t *matrix, size_t words, uint8_t *answer, size_t answer_len);
+
+uint32_t star_work_quote(uint32_t n, const uint64_t *in_use, size_t in_use_words, const uint8_t *left, size_t left_len, const uint8_t *right,
+                         size_t right_len, const uint8_t *weight, size_t weight_len, uint32_t row, int32_t price, uint8_t *answer,
+                         size_t answer_len);
+
+uint32_t star_work_breaking(uint32_t n, const uint64_t *in_use, size_t in_use_words, const uint8_t *left, size_t left_len, const uint8_t *right,
+                            size_t right_len, const uint8_t *weight, size_t weight_len, uint32_t row, uint8_t *answer, size_t answer_len);
+
+uint32_t star_work_digs(uint32_t n, const uint64_t *in_use, size_t in_use_words, const uint8_t *left, size_t left_len, const uint8_t *right,
+                        size_t right_len, const uint8_t *weight, size_t weight_len, uint8_t *text, size_t text_len, uint8_t *answer,
+                        size_t answer_len);
+
+uint32_t star_work_which(uint32_t n, const uint64_t *in_use, size_t in_use_words, const uint8_t *left, size_t left_len, const uint8_t *right,
+                         size_t right_len, const uint8_t *weight, size_t weight_len, const uint8_t *first, size_t first_len,
+                         const uint8_t *second, size_t second_len, uint8_t *answer, size_t answer_len);
 
 /* Takes a row out of use: its bit is cleared, and its bytes stay. A refusal is 18, else 3. Where nothing is refused the answer's kind is
  * STAR_PASSED and all else is 0. */
@@ -202,7 +258,7 @@ static inline int32_t star_get_price(const uint8_t *weight, size_t index) {
     return bits <= INT32_MAX ? (int32_t)bits : -1 - (int32_t)~bits;
 }
 
-/* The sixteen bytes of every door but star_import as fields; those that a kind lacks are 0. */
+/* The sixteen bytes of every door but star_import, and the first sixteen of star_quote, as fields; those that a kind lacks are 0. */
 struct star_answer {
     unsigned kind;   /* byte 0: enum star_kind */
     unsigned number; /* byte 1: enum star_refusal, 0 unless refused */
@@ -210,7 +266,7 @@ struct star_answer {
     unsigned in;     /* bytes 4 and 5: lighter: the row to put in; star_other: as out */
     unsigned only;   /* byte 6: 1 where star_cst or star_other passes the claim and no other network has its total; 0 in every other answer */
     int64_t amount;  /* bytes 8 to 15, two's complement: passed: the total; lighter: the saving, above 0 and at most 4,294,967,295;
-                        star_add: the new row's position */
+                        star_breaking: the breaking price; star_digs: the list's length; star_add: the new row's position */
 };
 
 static inline struct star_answer star_read_answer(const uint8_t bytes[16]) {
@@ -225,6 +281,26 @@ static inline struct star_answer star_read_answer(const uint8_t bytes[16]) {
     for (i = 7; i >= 0; i--) bits = bits << 8 | bytes[8 + i];
     a.amount = bits <= INT64_MAX ? (int64_t)bits : -1 - (int64_t)~bits;
     return a;
+}
+
+/* The twenty-four bytes of star_quote as fields; those that a kind lacks are 0. */
+struct star_quoted {
+    unsigned kind;   /* byte 0: STAR_PASSED or STAR_REFUSED */
+    unsigned number; /* byte 1: enum star_refusal, 0 unless refused */
+    unsigned place;  /* bytes 2 and 3: the refusal's place */
+    int64_t before;  /* bytes 8 to 15: the least total as the table stands */
+    int64_t after;   /* bytes 16 to 23: the least total at the new price */
+};
+
+static inline struct star_quoted star_read_quoted(const uint8_t bytes[24]) {
+    struct star_answer a = star_read_answer(bytes);
+    struct star_quoted q;
+    q.kind = a.kind;
+    q.number = a.number;
+    q.place = a.out;
+    q.before = a.amount;
+    q.after = star_read_answer(bytes + 8).amount;
+    return q;
 }
 
 /* The sixteen bytes of star_import as fields; those that a kind lacks are 0. */

@@ -79,8 +79,21 @@ built with it: 7
   row 6 is now row 5
 checked after the merge: 7
 TEXT
+cat >"$work/expected-prices" <<'TEXT'
+row 4 at 9: 12 today, 13 then
+row 4 at -3: 12 today, 5 then
+row 5 at 100: 12 today, 12 then
+row 6 at 1: refused 7, the source is 0 or above the number of junctions, or the row asked about is not in use
+with a fifth junction: refused 11, no set of rows joins every junction
+row 1 stays up to 5
+row 2 stays up to 5
+row 3 stays up to 5
+row 4 stays up to 5
+row 5 stays up to 5
+plan 2 stands: 12
+TEXT
 mv "$work/expected" "$work/expected-plan"
-for example in plan blocked; do
+for example in plan blocked prices; do
     holds "c99 $example" "$compiler" -std=c99 "${strict[@]}" -o "$work/$example-c" "console/examples/$example.c" "${flags[@]}"
     holds "c++17 $example" "$plus" -std=c++17 "${strict[@]}" -o "$work/$example-cpp" -x c++ "console/examples/$example.c" -x none "${flags[@]}"
     for language in c cpp; do holds "$example-$language" diff "$work/expected-$example" <("$work/$example-$language" 2>&1); done
@@ -135,10 +148,10 @@ fi
 
 # The manual page: every command, option and status of the help, and no fault that a formatter finds.
 manual=$to/share/man/man1/star.1
-for word in check build explain page draw dot table strike add merge struck '\\-\\-table' '\\-\\-all' '\\-o' '\\-h' '\\-\\-help' '\\-\\-version'; do holds "manual $word" grep -q -- "$word" "$manual"; done
+for word in check build explain page draw dot table digs quote breaking which stretch strike add merge struck '\\-\\-table' '\\-\\-all' '\\-o' '\\-h' '\\-\\-help' '\\-\\-version'; do holds "manual $word" grep -q -- "$word" "$manual"; done
 for status in 0 1 2 3 4 5; do holds "manual status $status" grep -qx ".B $status" "$manual"; done
 if command -v groff >/dev/null; then holds manual-format [ -z "$(groff -t -man -ww -z -Tascii "$manual" 2>&1)" ]; fi
-for word in 'star explain' 'star page' 'star strike' 'star add' 'star merge' "opens with 'struck'" '--all' 'star dot' '-o FILE' '--version' '5 the output'; do holds "help $word" grep -q -- "$word" <("$to/bin/star" --help); done
+for word in 'star explain' 'star page' 'star digs' 'star quote' 'star breaking' 'star which' 'star stretch' 'star strike' 'star add' 'star merge' "opens with 'struck'" '--all' 'star dot' '-o FILE' '--version' '5 the output'; do holds "help $word" grep -q -- "$word" <("$to/bin/star" --help); done
 
 # uninstall removes what install has put there, and nothing else.
 touch "$to/bin/other"

@@ -44,6 +44,13 @@ controls door_test_faulty always-only never-only only-swapped only-and-lighter o
 add "$work/working"
 controls work_test_faulty $(sed -n 's/.*fault("\([^"]*\)").*/\1/p' tests/faulty_work.c)
 
+# Questions about a table: the quote, the breaking price, which plan stands, the dig list.
+for asked in quote breaking which digs; do
+    "$build/${asked}_test" 20000 | tee "$work/asked"
+    add "$work/asked"
+    controls "${asked}_test_faulty" $(sed -n 's/.*fault("\([^"]*\)").*/\1/p' "tests/faulty_$asked.c")
+done
+
 # The import, on texts whose answers a plain reader gives: the door, in a thread of 1 MiB, and the program, run under the kit's loader as rt does.
 python3 -B tests/stp/generate.py "$work/texts"
 "$build/import_test" "$work/texts" | tee "$work/import"
@@ -69,10 +76,14 @@ memory() { # PROGRAM WORDS..
 if command -v valgrind >/dev/null; then
     memory "$build/door_test" 150
     memory "$build/work_test" 1000 exact
+    for asked in quote breaking which digs; do memory "$build/${asked}_test" 300 exact; done
     memory "$build/import_test" "$work/texts" 20
     for words in 'draw console/examples/t2.txt' 'build tests/console/build-refused11.txt' 'check tests/console/check-refused4.txt' \
         'build tests/console/build-stp-edges.txt' 'build tests/console/build-stp-price-above.txt' 'draw console/examples/grant.txt' 'table console/examples/street.stp' \
         'explain console/examples/t2.txt' 'explain tests/console/explain-rings.txt' 'page console/examples/yard.txt' 'page tests/console/explain-ring.txt' \
+        'quote console/examples/yard.txt 4 9' 'quote console/examples/struck.txt 3 9' 'breaking console/examples/struck.txt 1' 'breaking console/examples/bridge.txt 4' \
+        'which console/examples/office-a.txt console/examples/office-b.txt' 'which console/examples/yard.txt console/examples/t1.txt' 'stretch console/examples/city.txt 1 255' \
+        'digs console/examples/struck.txt' 'digs console/examples/street.stp' 'digs tests/console/build-stp-word.txt' \
         'strike console/examples/struck.txt 1' 'merge console/examples/struck.txt' 'add console/examples/struck.txt 2 4 7' 'page console/examples/struck.txt'; do
         valgrind -q --error-exitcode=9 --leak-check=full --errors-for-leak-kinds=definite "$build/star" $words >"$work/valgrind" 2>&1
         if [ $? != 9 ]; then passed=$((passed + 1)); else
@@ -88,6 +99,8 @@ bash tests/console.sh "$star" | tee "$work/console"
 add "$work/console"
 bash tests/changes.sh "$star" | tee "$work/changes"
 add "$work/changes"
+bash tests/asked.sh "$star" | tee "$work/console-asked"
+add "$work/console-asked"
 python3 -B tests/picture.py "$star" | tee "$work/picture"
 add "$work/picture"
 python3 -B tests/page.py "$star" | tee "$work/page"

@@ -1,7 +1,9 @@
 """Runs diglist on the texts of the sample and on tables with a spanning tree, and compares what it prints with a plain printer.
-usage: digs.py PROGRAM [WORD..]   ends in one line 'N passed, M failed'
+usage: digs.py PROGRAM [WORD..]           ends in one line 'N passed, M failed'
+       digs.py --console STAR [WORD..]    the same of star digs, of a part of the texts, and of tables
 """
 import random
+import re
 import sys
 
 import run
@@ -57,7 +59,31 @@ def compare(name, text, how, *words):
              f"{name}: status {status}, printed {out[:80]!r}, expected {expected[:80]!r}; {err[:60]!r}; {len(text)} bytes: {text[:200]!r}")
 
 
+def told(name, text, program, content):
+    """star digs prints the same; a refusal ends with status 2, and has words on standard error."""
+    status, out, err = run_whole([*program, "digs"], content)
+    expected = printed(text).encode()
+    ok = out == expected and (status, err[:9]) == ((2, b"Refused (") if expected.startswith(b"Refused") else (0, b""))
+    run.tell(ok, f"{name}: status {status}, printed {out[:80]!r}, expected {expected[:80]!r}; {err[:60]!r}; {len(text)} bytes: {text[:200]!r}")
+
+
+def console(program):
+    r = random.Random(6)
+    texts = [t.text for t in sample()][::8] + [connected(r) for _ in range(50)]
+    for text in texts:
+        if re.match(rb"[ \t\r\n]*33[dD]32945([ \t\r\n]|$)", text):
+            told("text", text, program, text)
+        answer = read(text)
+        if not isinstance(answer, Refused):
+            table = "junctions %d\n" % answer.n + "".join("%d %d %d %d\n" % (*row, r.randint(0, 1)) for row in answer.rows)
+            told("table", text, program, table.encode())
+    print(f"{run.passed} passed, {run.failed} failed")
+    return run.failed != 0
+
+
 def main(program):
+    if program[0] == "--console":
+        return console(program[1:])
     r = random.Random(5)
     texts = [t.text for t in sample() if t.kind != "deepest"] + [connected(r) for _ in range(400)]
     for k, text in enumerate(texts):

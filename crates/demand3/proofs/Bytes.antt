@@ -31,13 +31,13 @@ use Rattle.star.specs.Mst1.{BuildAnswer, unbuilt, treeBuilt, built, mst1, built
 use Rattle.star.specs.Refusals.{maxRows, cause, causeAt, badVertices, tooManyRows, badLengths, badEnds, badRow, repeats, repeatedRow, tableCauses, cstCauses, mst1Causes, orElse, refusal, Accepted}
 
 -- fields that fit their bytes
-record Fits (f : Fields) : Type 0 where
-  kind : f .kind < 256
-  number : f .number < 256
-  out : f .out < 65536
-  into : f .into < 65536
-  only : f .only < 256
-  amount : mag (f .amount) < 9223372036854775808
+pub record Fits (f : Fields) : Type 0 where
+  pub kind : f .kind < 256
+  pub number : f .number < 256
+  pub out : f .out < 65536
+  pub into : f .into < 65536
+  pub only : f .only < 256
+  pub amount : mag (f .amount) < 9223372036854775808
 
 one-byte : (x : ℕ) → x < 256 → x % 256 + 256 * 0 ≡ x
 one-byte x h = omega arith
@@ -58,12 +58,12 @@ field-bytes f h =
     }
 
 -- a refusal of the table has a number of 1 to 4, or 15, and its place is 0 or a row
-record TableRefusal (r : Refusal) : Type 0 where
-  number : ((1 ≤ r .number) × (r .number ≤ 4)) ⊎ (r .number ≡ 15)
-  place : r .place ≤ 1024
+pub record TableRefusal (r : Refusal) : Type 0 where
+  pub number : ((1 ≤ r .number) × (r .number ≤ 4)) ⊎ (r .number ≡ 15)
+  pub place : r .place ≤ 1024
 
 module _ (c : Call) (r : Refusal) where
-  table-refusal : refusal (tableCauses c) ≡ some r → TableRefusal r
+  pub table-refusal : refusal (tableCauses c) ≡ some r → TableRefusal r
   unfolding tableCauses badVertices tooManyRows badLengths badRow repeatedRow
   table-refusal e =
       ⊎-elim (plain 1 (omega arith, omega arith) _) (λ h.
@@ -84,18 +84,18 @@ module _ (c : Call) (r : Refusal) where
           subst TableRefusal q (record { number = l; place = omega (arith, ltb-false maxRows (rowsOf c) (cause-none _ 2 0 few)) })
 
   -- where the table is refused, so is the call
-  refused-first : (ys : List (Option Refusal)) (xs : List (Option Refusal)) → refusal xs ≡ some r → refusal (xs ++ ys) ≡ some r
+  pub refused-first : (ys : List (Option Refusal)) (xs : List (Option Refusal)) → refusal xs ≡ some r → refusal (xs ++ ys) ≡ some r
   unfolding refusal orElse
   refused-first ys [] e = absurd (apart r (sym e))
   refused-first ys (none ∷ xs) e = refused-first ys xs e
   refused-first ys (some q ∷ xs) e = e
 
 -- a table is accepted, or refused
-data Standing (c : Call) : Type 0 where
+pub data Standing (c : Call) : Type 0 where
   accepted : Accepted c → Standing c
   turned : (r : Refusal) → refusal (tableCauses c) ≡ some r → Standing c
 
-standing : (c : Call) → Standing c
+pub standing : (c : Call) → Standing c
 standing c = go (refusal (tableCauses c)) refl
   where
     go : (o : Option Refusal) → refusal (tableCauses c) ≡ o → Standing c
@@ -120,7 +120,7 @@ module _ (c : Call) (r : Refusal) (e : refusal (tableCauses c) ≡ some r) where
   marks-turned = ap (builtMarks c) (refused-first c r _ (tableCauses c) e)
 
 -- the fields of a refusal of the table, by CST and by MST1
-table-fits : (r : Refusal) → TableRefusal r → Fits (fields (refused r))
+pub table-fits : (r : Refusal) → TableRefusal r → Fits (fields (refused r))
 unfolding fields
 table-fits r t = record { kind = omega arith; number = small (t .number); out = omega (arith, t .place); into = omega arith; only = omega arith; amount = omega arith }
   where
@@ -133,7 +133,7 @@ unbuilt-fields : (r : Refusal) → builtFields (unbuilt r) ≡ fields (refused r
 unfolding builtFields fields
 unbuilt-fields r = refl
 
-table-declined : (r : Refusal) → TableRefusal r → TableDeclined (fields (refused r))
+pub table-declined : (r : Refusal) → TableRefusal r → TableDeclined (fields (refused r))
 unfolding fields
 table-declined r t = record { kind = refl; number = t .number; only = refl }
 
@@ -365,11 +365,11 @@ unfolding wellLent
 ill-lent answer n = ne-eqb _ _ n
 
 module _ (answer : List ℕ) where
-  returns-one : length answer ≡ 16 → doorReturns answer ≡ 1
+  pub returns-one : length answer ≡ 16 → doorReturns answer ≡ 1
   unfolding doorReturns
   returns-one e = ap (λ b. cond b 1 0) (well-lent answer e)
 
-  returns-zero : (length answer ≡ 16 → ⊥) → doorReturns answer ≡ 0
+  pub returns-zero : (length answer ≡ 16 → ⊥) → doorReturns answer ≡ 0
   unfolding doorReturns
   returns-zero n = ap (λ b. cond b 1 0) (ill-lent answer n)
 
@@ -377,12 +377,12 @@ module _ (answer : List ℕ) where
   unfolding answerAfter
   after-written f e = ap (λ b. cond b (fieldBytes f) answer) (well-lent answer e)
 
-  after-kept : (f : Fields) → (length answer ≡ 16 → ⊥) → answerAfter answer f ≡ answer
+  pub after-kept : (f : Fields) → (length answer ≡ 16 → ⊥) → answerAfter answer f ≡ answer
   unfolding answerAfter
   after-kept f n = ap (λ b. cond b (fieldBytes f) answer) (ill-lent answer n)
 
   -- what was written is read back
-  read-back : (f : Fields) → Fits f → length answer ≡ 16 → Written (answerAfter answer f) f
+  pub read-back : (f : Fields) → Fits f → length answer ≡ 16 → Written (answerAfter answer f) f
   read-back f h e = rw (after-written f e) (field-bytes f h)
 
 -- the fields fit, whatever the table
@@ -408,7 +408,7 @@ mst1-fits-all c =
     ]
 
 -- a table that is not accepted in words is refused
-turned-away : (c : Call) → (AcceptedTable c → ⊥) → (r : Refusal) × (refusal (tableCauses c) ≡ some r)
+pub turned-away : (c : Call) → (AcceptedTable c → ⊥) → (r : Refusal) × (refusal (tableCauses c) ≡ some r)
 turned-away c n = elim (standing c) [ accepted a ↦ absurd (n (accepted-means c .0 a)) | turned r e ↦ (r, e) ]
 
 pub cst-door-means : CstDoorMeans

@@ -96,7 +96,7 @@ fn step(left: &[u64], right: &[u64], rows: Slice, at: Front, own: &mut [u64]) ->
 }
 
 // The walk of n steps from vertex s: the vertices reached.
-fn walk(left: &[u64], right: &[u64], rows: Slice, s: u32, n: u32, own: &mut [u64]) -> Slice
+pub fn walk(left: &[u64], right: &[u64], rows: Slice, s: u32, n: u32, own: &mut [u64]) -> Slice
     ensures reached { λ r. ⌜ component r ≡ walk (endsIn (now (left .entry))) (endsIn (now (right .entry))) (component rows) s (now (own .entry)) n .reached ⌝ }
     ensures words { λ r. ⌜ now (own .exit) ≡ walk (endsIn (now (left .entry))) (endsIn (now (right .entry))) (component rows) s (now (own .entry)) n .words ⌝ }
 {
@@ -173,7 +173,7 @@ fn path_check(
 }
 
 // The words of the table that a column of ends gives.
-fn ends_of(column: &[u8]) -> Stored
+pub fn ends_of(column: &[u8]) -> Stored
     ensures { λ r. ⌜ endsIn (r .columns) ≡ loadedRow 1 (now (column .entry)) ⌝ }
 {
     let loaded = table::load_bytes(column);

@@ -41,7 +41,7 @@ module _ (c : Call) (ok : Accepted c) (k : ℕ) (row : Row c k) where
 
   module _ (joins : Connected g) where
     -- what is told is the graph's breaking price
-    told : breakingPrice c k ≡ breakingTold (breaking g (weightOf c) k)
+    pub told : breakingPrice c k ≡ breakingTold (breaking g (weightOf c) k)
     unfolding breakingPrice breakingOr isNone cause
     told = go (tree g (weightOf c)) refl
       where

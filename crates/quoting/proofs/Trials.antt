@@ -28,5 +28,5 @@ unfolding xor cheapest choose first next fragment treeOf tree crosses withEnds p
 trials-hold = (refl, refl, refl)
 
 pub breaking-trials-hold : BreakingTrialsHold
-unfolding xor cheapest choose first next fragment treeOf tree crosses withEnds step grow joined onPath heaviestBetween breaking little inRow fromBits toBits total smallest largest empty upTo both put takeOut any firstOf uppermost these used graphOf weightOf bytesOf fieldBytes wellLent answerAfter cause causeAt badVertices tooManyRows badLengths wrongRow badEnds badRow repeatsAbove repeats repeatedRow isNone noTree tableCauses orElse refusal breakingFields breakingDoor noRow quoteCauses breakingTold breakingOr breakingPrice
-breaking-trials-hold = (refl, refl)
+unfolding xor cheapest choose first next fragment treeOf tree crosses withEnds step grow joined onPath heaviestBetween breaking little inRow fromBits toBits total smallest largest empty upTo both put takeOut any firstOf uppermost these inWords used graphOf weightOf bytesOf fieldBytes wellLent answerAfter cause causeAt badVertices tooManyRows badLengths wrongRow badEnds badRow repeatsAbove repeats repeatedRow isNone noTree tableCauses orElse refusal breakingFields breakingDoor noRow quoteCauses breakingTold breakingOr breakingPrice
+breaking-trials-hold = (refl, refl, refl)

@@ -1,4 +1,4 @@
--- Trials of the breaking price: each row of the yard, a bridge, a tie, negative prices, struck rows, refusals in their order, and the bytes at the door.
+-- Trials of the breaking price: each row of the yard, a bridge, a tie, negative prices, struck rows, working tables, refusals in their order, and the bytes at the door.
 -- Assumes nothing.
 use Prim.Native.Nat.{ℕ}
 use mathlib.Core.List.{List, [], _∷_, _++_}
@@ -10,7 +10,7 @@ use Rattle.star.specs.Trials.{small, because}
 use Rattle.quoting.specs.Breaking.{BreakingAnswer, unanswered, breaksAt, neverBreaks, breakingPrice}
 use Rattle.quoting.specs.Door.{breakingDoor}
 use Rattle.quoting.specs.Quote.{asked}
-use Rattle.quoting.specs.Trials.{yard, struck, single, apart, twice}
+use Rattle.quoting.specs.Trials.{yard, struck, single, apart, twice, last, lastRow}
 
 -- 1-2 weight 2, 2-3 weight 3, 1-3 weight 7, 3-4 weight -1: a ring with a bridge at its end
 abbrev pub tail : Call
@@ -47,6 +47,19 @@ expected =
     ∷ neverBreaks ∷ unanswered (because 7 0)
     ∷ []
 
+-- a working table whose row 1,024 alone is in use: a bridge; rows that are not in use; a short left column, and fifteen words
+abbrev pub givenWork : List BreakingAnswer
+givenWork =
+    breakingPrice (last 1023 lastRow) 1024 ∷ breakingPrice (last 1023 lastRow) 1023 ∷ breakingPrice (last 1023 lastRow) 1025
+    ∷ breakingPrice (last 1022 lastRow) 1024 ∷ breakingPrice (last 1023 (replicate 15 0)) 1024
+    ∷ []
+
+abbrev pub expectedWork : List BreakingAnswer
+expectedWork =
+    neverBreaks ∷ unanswered (because 7 0) ∷ unanswered (because 7 0)
+    ∷ unanswered (because 3 0) ∷ unanswered (because 3 0)
+    ∷ []
+
 -- the bytes: 3; -2; none, which no price stands for; refused 7; and fifteen bytes, which stay as they are
 abbrev pub givenBytes : List (List ℕ)
 givenBytes =
@@ -64,4 +77,4 @@ expectedBytes =
 
 -- the theorem: each trial gives what it should
 abbrev pub BreakingTrialsHold : Type 0
-BreakingTrialsHold = (given ≡ expected) × (givenBytes ≡ expectedBytes)
+BreakingTrialsHold = (given ≡ expected) × (givenWork ≡ expectedWork) × (givenBytes ≡ expectedBytes)

@@ -65,7 +65,7 @@ expected =
 abbrev pub last : (left : ℕ) → List ℕ → Call
 last left words = askedWork 2 words (replicate left 7 ++ (1 ∷ [])) (replicate 1023 7 ++ (2 ∷ [])) (replicate 4092 7 ++ small 9)
 
-abbrev lastRow : List ℕ
+abbrev pub lastRow : List ℕ
 lastRow = replicate 15 0 ++ (9223372036854775808 ∷ [])
 
 abbrev pub givenWork : List QuoteAnswer

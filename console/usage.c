@@ -1,0 +1,28 @@
+/* Words of the command line, and what is wrong with them. */
+#include "usage.h"
+
+#include <stdio.h>
+#include <string.h>
+
+#include "status.h"
+
+int misused(const char *what, const char *word) {
+    fprintf(stderr, "star: %s '%s'; 'star --help' says how it is used\n", what, word);
+    return EXIT_USAGE;
+}
+
+int trench_named(const char *word, uint32_t *trench) {
+    struct span number = {word, strlen(word)};
+    return text_number(number, trench) ? 0 : misused("a trench is named by its number, from 1 on, and not by", word);
+}
+
+int junction_named(const char *word, uint32_t *junction) {
+    struct span number = {word, strlen(word)};
+    if (text_number(number, junction) && *junction >= 1 && *junction <= STAR_MAX_JUNCTIONS) return 0;
+    return misused("a junction is a number from 1 to 255, and not", word);
+}
+
+int price_named(const char *word, uint8_t bytes[PRICE_BYTES]) {
+    struct span figures = {word, strlen(word)};
+    return price_read(figures, bytes) ? 0 : misused("a price is " PRICE_TEXT ", and not", word);
+}

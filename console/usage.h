@@ -1,0 +1,16 @@
+/* The words that follow a command and its file. What is wrong is said on standard error, and EXIT_USAGE given; 0 if all is well. */
+#ifndef CONSOLE_USAGE_H
+#define CONSOLE_USAGE_H
+
+#include <stdint.h>
+
+#include "price.h"
+
+int misused(const char *what, const char *word);
+
+/* The number of a trench, which need not be one of the table; a junction, from 1 to 255; a price, stored as the door takes it. */
+int trench_named(const char *word, uint32_t *trench);
+int junction_named(const char *word, uint32_t *junction);
+int price_named(const char *word, uint8_t bytes[PRICE_BYTES]);
+
+#endif

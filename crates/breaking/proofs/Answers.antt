@@ -1,0 +1,174 @@
+-- The answer in each of its four cases: the call is refused; a tree is built without the row; only with it; or not even so.
+-- Assumes nothing.
+use Prim.Native.Nat.{ℕ, _*_, _≤_}
+use borrow.Author.Tests.{not-true, not-false}
+use lib.Dec.{eqb}
+use lib.IntN.{ℤ}
+use lib.ListN.{length}
+use mathlib.Core.Bool.{Bool, true, false, not, _&&_}
+use mathlib.Core.List.{List}
+use mathlib.Core.Option.{Option, none, some}
+use mathlib.Core.Path.{_≡_, refl, sym, _∙_, ap, fun-ext}
+use native.Mathlib.Omega.{arith}
+use Rattle.graph.proofs.Builder.{built-spanning, not-built}
+use Rattle.graph.specs.Builder.{Fragment, tree}
+use Rattle.graph.specs.Graph.{Graph, Sound}
+use Rattle.graph.specs.Tree.{SpanningTree, onPath}
+use Rattle.matrix.specs.Matrix.{matrixColumn}
+use Rattle.mst1.proofs.Answers.{loaded-weights, loaded-graph}
+use Rattle.mst1.specs.steps.Growth.{loadedGraph, Grows}
+use Rattle.path.specs.steps.Walks.{walk}
+use Rattle.prices.proofs.Lacking.{lacking-sound, lacking-tree}
+use Rattle.prices.specs.Breaking.{lacking, heaviestBetween, breaking}
+use Rattle.refusal.specs.Outcomes.{refusalOf}
+use Rattle.refusal.specs.declared.Outcome.{Outcome}
+use Rattle.refusal.specs.declared.Outcome.the-variants.{Done, Refused}
+use Rattle.refusal.specs.declared.Refusal.{Refusal}
+use Rattle.rowset.proofs.Laws.{clash}
+use Rattle.rowset.specs.Bytes.{inRow}
+use Rattle.rowset.specs.Integers.{signed}
+use Rattle.rowset.specs.Searches.{largest}
+use Rattle.rowset.specs.Sets.{upTo, both, takeOut, uppermost}
+use Rattle.rowset.specs.Words.{columnWords}
+use Rattle.slice.specs.Slices.{size}
+use Rattle.star.proofs.Accepted.{Taken, taken, row-used, sound}
+use Rattle.star.specs.Accepted.{Row}
+use Rattle.star.specs.Call.{Call, rowsOf, used, graphOf, weightOf}
+use Rattle.star.specs.Mst1.{chosenRows}
+use Rattle.star.specs.Refusals.{Accepted, cause, isNone, orElse, refusal}
+use Rattle.table.proofs.Loads.{load-taken, loaded-taken}
+use Rattle.table.specs.Loads.{loadedRow}
+use Rattle.quoting.proofs.Causes.{causes-in-order, row-asked}
+use Rattle.quoting.proofs.Means.{last-cause}
+use Rattle.quoting.specs.Breaking.{unanswered, breaksAt, neverBreaks, breakingTold, breakingOr, breakingPrice}
+use Rattle.quoting.specs.Quote.{rowAsked}
+use Rattle.breaking.proofs.Paths.{path-heaviest, walked-path}
+
+-- a call that the checks refuse
+pub call-refused : (c : Call) (k : ℕ) {o : Outcome} {r : Refusal} → refusalOf o ≡ refusal (rowAsked c k) → o ≡ Refused r → unanswered r ≡ breakingPrice c k
+unfolding breakingPrice breakingOr refusalOf orElse
+call-refused c k {r = r} e q =
+    let h : refusal (rowAsked c k) ≡ some r = sym e ∙ ap refusalOf q in
+    rw (causes-in-order c k, h)
+
+-- taking a row out of the rows in use takes it out of those among the first m
+take-out-both : (p q : ℕ → Bool) (k : ℕ) → both p (takeOut q k) ≡ takeOut (both p q) k
+unfolding both takeOut
+take-out-both p q k = fun-ext (λ i. go (p i) (q i) (not (eqb i k)))
+  where
+    go : (x y z : Bool) → (x && (y && z)) ≡ ((x && y) && z)
+    go true y z = refl
+    go false y z = refl
+
+-- whether nothing was built
+some-built : (o : Option Fragment) → not (isNone o) ≡ true → (f : Fragment) × (o ≡ some f)
+unfolding isNone
+some-built none e = clash e refl
+some-built (some f) e = (f, refl)
+
+none-built : (o : Option Fragment) → not (isNone o) ≡ false → o ≡ none
+unfolding isNone
+none-built none e = refl
+none-built (some f) e = clash refl e
+
+-- a call that the checks accept
+module _ (c : Call) (k : ℕ) {o : Outcome} (checked : refusalOf o ≡ refusal (rowAsked c k)) (done : o ≡ Done) where
+  accepted : Accepted c × Row c k
+  unfolding refusalOf
+  accepted = row-asked c k (sym checked ∙ ap refusalOf done)
+
+  t : Taken c
+  t = taken c (accepted .0)
+
+  abbrev g : Graph
+  g = graphOf c
+
+  abbrev w : ℕ → ℤ
+  w = weightOf c
+
+  fine : Sound g
+  fine = sound c t
+
+  row : g .rows k ≡ true
+  unfolding graphOf
+  row = row-used c k (accepted .1)
+
+  -- the loaded ends are the table's
+  loaded : (l : List ℕ) → length l ≡ rowsOf c → loadedRow 1 l ≡ inRow 1 l
+  loaded l h = loaded-taken 1 l (load-taken 1 l (omega (arith, t .few-rows)) (omega arith))
+
+  -- the graph that a tree is grown on where the rows of a set are in use
+  abbrev On : (ℕ → Bool) → Graph
+  On rows = loadedGraph (c .n) (c .m) rows (c .left) (c .right)
+
+  abbrev loadedWeights : ℕ → ℤ
+  loadedWeights i = signed (loadedRow 4 (c .weight) i)
+
+  -- the tree that grows without row k, and the tree that grows with it
+  without-row : (rows : ℕ → Bool) → rows ≡ takeOut (c .inUse) k → tree (On rows) loadedWeights ≡ tree (lacking g k) w
+  unfolding graphOf used
+  without-row rows e = rw (e, loaded-weights c t) (loaded-graph c t (takeOut (c .inUse) k) (weightOf c) ∙ rw (take-out-both (upTo (c .m)) (c .inUse) k))
+
+  with-row : tree (On (c .inUse)) loadedWeights ≡ tree g w
+  unfolding graphOf used
+  with-row = rw (loaded-weights c t) (loaded-graph c t (c .inUse) (weightOf c))
+
+  -- a tree built without row k: the heaviest row on its path between k's ends
+  module _ (f : Fragment) (built : tree (lacking g k) w ≡ some f) where
+    spans : SpanningTree g (f .chosen)
+    spans = lacking-tree g k (f .chosen) (built-spanning (lacking g k) (lacking-sound g k fine) w f built) .0
+
+    -- the table is connected, so that nothing is refused
+    told-built : breakingPrice c k ≡ breaksAt (w (uppermost (g .m) (largest (g .m) w (onPath g (f .chosen) (g .a k) (g .b k)))))
+    unfolding breakingPrice breakingOr breakingTold breaking heaviestBetween isNone cause
+    told-built = go (tree g w) refl
+      where
+        go : (x : Option Fragment) → tree g w ≡ x → breakingPrice c k ≡ breaksAt (w (uppermost (g .m) (largest (g .m) w (onPath g (f .chosen) (g .a k) (g .b k)))))
+        go none e = absurd (not-built g fine w e (f .chosen) spans)
+        go (some x) e = rw (last-cause c k (accepted .0) (accepted .1), e, built)
+
+    -- what the machine finds between k's ends is the breaking price
+    path-price : (words : List ℕ) → length words ≡ 4080 → {C : ℕ → Bool} → C ≡ f .chosen → {u v : ℕ} → u ≡ inRow 1 (c .left) k → v ≡ inRow 1 (c .right) k
+        → {P : ℕ → Bool} → P ≡ matrixColumn (walk (loadedRow 1 (c .left)) (loadedRow 1 (c .right)) C u words (c .n) .words) v
+        → {x : ℕ} → x ≡ inRow 4 (c .weight) (uppermost size (largest size loadedWeights P)) → breaksAt (signed x) ≡ breakingPrice c k
+    unfolding graphOf weightOf
+    path-price words long rows left right {P = P} path price =
+        let (la, ha) = fine .left k row in
+        let (lb, hb) = fine .right k row in
+        let few : c .n ≤ size = omega (arith, t .few-vertices) in
+        let found : P ≡ onPath g (f .chosen) (g .a k) (g .b k) = path ∙ rw (left, right, rows, loaded (c .left) (t .left-length), loaded (c .right) (t .right-length)) (walked-path g fine (f .chosen) spans few (t .few-rows) (g .a k) (g .b k) la ha lb hb words (omega (arith, t .few-vertices))) in
+        rw (price, found, loaded-weights c t, path-heaviest g fine (f .chosen) spans few (t .few-rows) w (g .a k) (g .b k)) (sym told-built)
+
+  module _ {rows : ℕ → Bool} (others : rows ≡ takeOut (c .inUse) k) {whole : Bool} {chosen : ℕ → Bool} (grown : Grows (On rows) loadedWeights whole chosen) where
+    around : not (isNone (tree (lacking g k) w)) ≡ whole
+    around = rw (← without-row rows others) (sym (grown .all))
+
+    -- a tree is built without the row
+    pub route-found : whole ≡ true → (words : List ℕ) → length words ≡ 4080 → {u v : ℕ} → u ≡ inRow 1 (c .left) k → v ≡ inRow 1 (c .right) k
+        → {P : ℕ → Bool} → P ≡ matrixColumn (walk (loadedRow 1 (c .left)) (loadedRow 1 (c .right)) chosen u words (c .n) .words) v
+        → {x : ℕ} → x ≡ inRow 4 (c .weight) (uppermost size (largest size loadedWeights P)) → breaksAt (signed x) ≡ breakingPrice c k
+    unfolding chosenRows
+    route-found e words long left right path price =
+        let (f, built) = some-built (tree (lacking g k) w) (around ∙ e) in
+        path-price f built words long (grown .rows ∙ ap chosenRows (without-row rows others ∙ built)) left right path price
+
+    module _ (none-around : whole ≡ false) {whole′ : Bool} {chosen′ : ℕ → Bool} (grown′ : Grows (On (c .inUse)) loadedWeights whole′ chosen′) where
+      unbuilt : tree (lacking g k) w ≡ none
+      unbuilt = none-built (tree (lacking g k) w) (around ∙ none-around)
+
+      whole-tree : not (isNone (tree g w)) ≡ whole′
+      whole-tree = rw (← with-row) (sym (grown′ .all))
+
+      -- only with it
+      pub no-route : whole′ ≡ true → neverBreaks ≡ breakingPrice c k
+      unfolding breakingPrice breakingOr breakingTold breaking heaviestBetween cause
+      no-route e =
+          let q : isNone (tree g w) ≡ false = not-true _ (whole-tree ∙ e) in
+          rw (last-cause c k (accepted .0) (accepted .1), q, unbuilt)
+
+      -- not even so
+      pub no-tree : whole′ ≡ false → unanswered (record { number = 11; place = 0 }) ≡ breakingPrice c k
+      unfolding breakingPrice breakingOr cause
+      no-tree e =
+          let q : isNone (tree g w) ≡ true = not-false _ (whole-tree ∙ e) in
+          rw (last-cause c k (accepted .0) (accepted .1), q)

@@ -1,0 +1,129 @@
+// The breaking price of a row: over all routes between its ends that do not use it, the least possible heaviest row; or none where no such route exists. Nothing lent is written.
+ghost use mathlib.Core.Path.{_≡_};
+ghost use Rattle.matrix.specs.Matrix.{matrixColumn};
+ghost use Rattle.path.specs.steps.Walks.{walk};
+ghost use Rattle.rowset.specs.Bytes.{inRow};
+ghost use Rattle.rowset.specs.Integers.{signed};
+ghost use Rattle.rowset.specs.Searches.{largest};
+ghost use Rattle.rowset.specs.Sets.{uppermost};
+ghost use Rattle.slice.specs.Slices.{size, component};
+ghost use Rattle.star.specs.Call.{tableOf};
+ghost use Rattle.table.specs.Loads.{loadedRow};
+ghost use Rattle.quoting.specs.Breaking.{breakingPrice};
+ghost use Rattle.quoting.specs.Quote.{asked, askedWork};
+ghost use Rattle.breaking.specs.Answers.{answerOf};
+use refusal::Outcome;
+use refusal::Refusal;
+use slice::SIZE;
+use slice::Slice;
+use slice::WORDS;
+use slice::rows::rows_to;
+use slice::words::rows_in_use;
+
+// What is answered: the 32 bits of the breaking price, that there is none, or the refusal.
+pub enum Breaks {
+    At(u32),
+    Never,
+    Refused(Refusal),
+}
+
+// The rows by which the walk over the rows of a tree comes from vertex u to vertex v. The walk fills a path matrix that is lent.
+fn path_between(
+    n: u32,
+    left: &[u8],
+    right: &[u8],
+    tree: Slice,
+    u: u32,
+    v: usize,
+    own: &mut [u64],
+) -> Slice
+    ensures { λ r. ⌜ component r ≡ matrixColumn (walk (loadedRow 1 (now (left .entry))) (loadedRow 1 (now (right .entry))) (component tree) u (now (own .entry)) n .words) v ⌝ }
+{
+    let lefts = path::ends_of(left);
+    let rights = path::ends_of(right);
+    path::walk(&lefts.columns, &rights.columns, tree, u, n, own);
+    matrix::read_column(own, v)
+}
+
+// The price of the uppermost of a slice's heaviest rows.
+fn heaviest_price(weight: &[u8], x: Slice) -> u32
+    ensures { λ r. ⌜ r ≡ inRow 4 (now (weight .entry)) (uppermost size (largest size (λ i. signed (loadedRow 4 (now (weight .entry)) i)) (component x))) ⌝ }
+{
+    let weights = table::load_quads(weight);
+    let heaviest = slice::fnd(search::max(weights.table, x));
+    checks::row_weight(weight, heaviest)
+}
+
+// The breaking price over a table of m rows, of which those of a slice are in use. The tree is built without the row: where there is one, the heaviest row on its path between the row's ends has the breaking price,
+// and the table is connected. Where there is none, the tree with the row says whether the table is.
+pub fn breaking_rows(
+    n: u32,
+    m: usize,
+    whole: bool,
+    rows: Slice,
+    left: &[u8],
+    right: &[u8],
+    weight: &[u8],
+    row: u32,
+) -> Breaks
+    ensures { λ r.
+        let c = tableOf n m whole (component rows) (now (left .entry)) (now (right .entry)) (now (weight .entry)) (now (left .entry)) in
+        ⌜ answerOf r ≡ breakingPrice c row ⌝ }
+{
+    if let Outcome::Refused(refusal) = quote::row_check(
+        n,
+        m,
+        whole,
+        rows,
+        left,
+        right,
+        weight,
+        row,
+    ) {
+        return Breaks::Refused(refusal);
+    }
+    let others = slice::put(rows, row as usize, false);
+    let around = mst1::tree_of(n, m, others, left, right, weight);
+    if around.whole {
+        let u = checks::row_byte(left, row as usize) as u32;
+        let v = checks::row_byte(right, row as usize) as usize;
+        let mut own = [0u64; path::ALL_WORDS];
+        let path = path_between(n, left, right, around.chosen, u, v, &mut own);
+        return Breaks::At(heaviest_price(weight, path));
+    }
+    let tree = mst1::tree_of(n, m, rows, left, right, weight);
+    if tree.whole {
+        return Breaks::Never;
+    }
+    Breaks::Refused(Refusal {
+        number: 11,
+        place: 0,
+    })
+}
+
+// The breaking price over a plain table: a row for each byte of the left column, all in use.
+pub fn breaking(n: u32, left: &[u8], right: &[u8], weight: &[u8], row: u32) -> Breaks
+    ensures { λ r.
+        let c = asked n (now (left .entry)) (now (right .entry)) (now (weight .entry)) in
+        ⌜ answerOf r ≡ breakingPrice c row ⌝ }
+{
+    let m = left.len();
+    breaking_rows(n, m, true, rows_to(m), left, right, weight, row)
+}
+
+// The breaking price over a working table: 1,024 rows, and the rows in use lent as sixteen words.
+pub fn work_breaking(
+    n: u32,
+    words: &[u64],
+    left: &[u8],
+    right: &[u8],
+    weight: &[u8],
+    row: u32,
+) -> Breaks
+    ensures { λ r.
+        let c = askedWork n (now (words .entry)) (now (left .entry)) (now (right .entry)) (now (weight .entry)) in
+        ⌜ answerOf r ≡ breakingPrice c row ⌝ }
+{
+    let whole = words.len() == WORDS;
+    breaking_rows(n, SIZE, whole, rows_in_use(words), left, right, weight, row)
+}
