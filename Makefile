@@ -21,6 +21,8 @@ CONSOLE := $(sort $(wildcard console/*.c))
 READSTP := $(BUILD)/readstp
 DIGLIST := $(BUILD)/diglist
 RUNS := target/staticlib/libprograms.a
+# The kit, for the C that its library os asks for: the words of an error.
+KIT = $(or $(RATTLE_HOME),$(patsubst %/bin/rt,%,$(realpath $(shell command -v rt))))
 VERSION := $(shell sed -n 's/^\#define STAR_VERSION "\(.*\)"/\1/p' include/star.h)
 
 all: $(BUILD)/star $(READSTP) $(DIGLIST)
@@ -57,7 +59,7 @@ $(ARCHIVE): $(ARCHIVES) Makefile
 # The proved functions of the two programs, and a few lines of C that end with the status that they give.
 $(READSTP) $(DIGLIST): $(BUILD)/%: programs/%.c $(RUNS)
 	@mkdir -p $(BUILD)
-	$(CC) -std=c99 $(CFLAGS) -o $@ $< $(RUNS)
+	$(CC) -std=c99 $(CFLAGS) -o $@ $< $(RUNS) $(KIT)/lib/libos_c.a
 
 # The proved procedures and the part of the library that is written in C.
 $(LIBRARY): $(ARCHIVE) include/star.c include/star.h
