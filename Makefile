@@ -1,4 +1,4 @@
-# make           the library over the proved core, and the console
+# make           the library over the proved core, the console, and the programs readstp and diglist
 # make run       checks the yard
 # make test      the whole gate: proofs, must-fail edits, programs, tests from outside
 # make bench     times the door against other libraries, where they are installed
@@ -13,15 +13,20 @@ BUILD := target/c
 # The crates whose functions for C the library is made of.
 DOORS := door workdoor changedoor importdoor digsdoor quotedoor breakingdoor whichdoor
 STAMPS := $(DOORS:%=target/stamp/%)
+STAMPS := $(DOORS:%=target/stamp/%) target/stamp/programs
 ARCHIVES := $(DOORS:%=target/staticlib/lib%.a)
 ARCHIVE := $(BUILD)/libproved.a
 LIBRARY := $(BUILD)/libstar.a
 CONSOLE := $(sort $(wildcard console/*.c))
-READSTP := target/bin/readstp
-DIGLIST := target/bin/diglist
+# The programs that read an STP text on standard input, and the archive of their functions.
+READSTP := $(BUILD)/readstp
+DIGLIST := $(BUILD)/diglist
+RUNS := target/staticlib/libprograms.a
+# The kit, for the C that its library os asks for: the words of an error.
+KIT = $(or $(RATTLE_HOME),$(patsubst %/bin/rt,%,$(realpath $(shell command -v rt))))
 VERSION := $(shell sed -n 's/^\#define STAR_VERSION "\(.*\)"/\1/p' include/star.h)
 
-all: $(BUILD)/star
+all: $(BUILD)/star $(READSTP) $(DIGLIST)
 
 # rt proves the core, and does nothing where nothing has changed. On a fresh machine that takes minutes: a line a crate that is proved is
 # shown, and all that rt prints is kept in a log. The status stands in the log's last line.
@@ -34,17 +39,16 @@ endef
 
 # What is installed is taken as it was built: make install alone asks rt for nothing that is there.
 ifneq ($(filter-out install uninstall,$(or $(MAKECMDGOALS),all)),)
-$(READSTP) $(DIGLIST): FORCE
-$(ARCHIVES): target/staticlib/lib%.a: target/stamp/%
+$(ARCHIVES) $(RUNS): target/staticlib/lib%.a: target/stamp/%
 endif
 
-# The crates of the doors. rt writes a crate's stamp where it has proved it anew, and leaves it as it is otherwise.
+# The crates of the doors and of the programs. rt writes a crate's stamp where it has proved it anew, and leaves it as it is otherwise.
 proved:
-	$(call PROVE,check $(DOORS),library)
+	$(call PROVE,check $(DOORS) programs,library)
 $(STAMPS): proved ;
 
 # rt proves a crate once more before it writes its archive: that is done only where its stamp is newer.
-$(ARCHIVES): target/staticlib/lib%.a:
+$(ARCHIVES) $(RUNS): target/staticlib/lib%.a:
 	$(call PROVE,staticlib $*,$*)
 
 # One archive of all: each has one member, named after its crate, whose only global symbols are its functions for C.
@@ -53,13 +57,10 @@ $(ARCHIVE): $(ARCHIVES) Makefile
 	@rm -f $@
 	@{ echo "create $@"; printf 'addlib %s\n' $(ARCHIVES); echo save; echo end; } | $(AR) -M
 
-# The program that prints what an STP text holds, proved as well.
-$(READSTP):
-	$(call PROVE,check readstp,readstp)
-
-# The program that prints the dig list of an STP text, proved too.
-$(DIGLIST):
-	$(call PROVE,check diglist,diglist)
+# The proved functions of the two programs, and a few lines of C that end with the status that they give.
+$(READSTP) $(DIGLIST): $(BUILD)/%: programs/%.c $(RUNS)
+	@mkdir -p $(BUILD)
+	$(CC) -std=c99 $(CFLAGS) -o $@ $< $(RUNS) $(KIT)/lib/libos_c.a
 
 # The proved procedures and the part of the library that is written in C.
 $(LIBRARY): $(ARCHIVE) include/star.c include/star.h
@@ -139,7 +140,7 @@ LIBRARIES := $(DESTDIR)$(PREFIX)/lib
 PROGRAMS := $(DESTDIR)$(PREFIX)/bin
 MANUALS := $(DESTDIR)$(PREFIX)/share/man/man1
 
-install: $(BUILD)/star
+install: $(BUILD)/star $(READSTP) $(DIGLIST)
 	install -d $(INCLUDES) $(LIBRARIES)/pkgconfig $(PROGRAMS) $(MANUALS)
 	install -m 644 include/star.h $(INCLUDES)/star.h
 	install -m 644 $(LIBRARY) $(LIBRARIES)/libstar.a

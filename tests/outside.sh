@@ -51,19 +51,15 @@ for asked in quote breaking which digs; do
     controls "${asked}_test_faulty" $(sed -n 's/.*fault("\([^"]*\)").*/\1/p' "tests/faulty_$asked.c")
 done
 
-# The import, on texts whose answers a plain reader gives: the door, in a thread of 1 MiB, and the program, run under the kit's loader as rt does.
+# The import, on texts whose answers a plain reader gives: the door, in a thread of 1 MiB, and the program.
 python3 -B tests/stp/generate.py "$work/texts"
 "$build/import_test" "$work/texts" | tee "$work/import"
 add "$work/import"
-kit=${RATTLE_HOME:-$(dirname "$(dirname "$(readlink -f "$(command -v rt)")")")}
-loader=$kit/on/$(uname -m)/toolchain/lib/ld-linux-x86-64.so.2
-under=()
-if [ -x "$loader" ]; then under=("$loader" --library-path "$(dirname "$loader")"); fi
-python3 -B tests/stp/run.py "${under[@]}" "$readstp" | tee "$work/readstp"
+python3 -B tests/stp/run.py "$readstp" | tee "$work/readstp"
 add "$work/readstp"
 
 # The dig list, on the same texts and on tables with a tree, and what happens where it cannot be read or written.
-bash tests/diglist.sh "$diglist" "$readstp" "${under[@]}" | tee "$work/diglist"
+bash tests/diglist.sh "$diglist" "$readstp" | tee "$work/diglist"
 add "$work/diglist"
 
 # A sample under valgrind, where it is installed: nothing is read or written outside a lent column.

@@ -68,13 +68,13 @@ def pieces_of(r, most):
 
 
 def compare(name, text, answer, run, *words):
-    """The program prints the plain reader's answer, nothing else, and ends with status 0."""
+    """The program prints the plain reader's answer, nothing else, and ends with status 0 for a table and 1 for a refusal."""
     try:
         status, out, err = run(*words)
     except subprocess.TimeoutExpired:
         status, out, err = "none", b"", b"did not end"
     expected = printed(answer)
-    tell((status, out, err) == (0, expected, b""),
+    tell((status, out, err) == (int(expected.startswith(b"Refused")), expected, b""),
          f"{name}: status {status}, printed {out[:60]!r}, expected {expected[:60]!r}; {err[:60]!r}; {len(text)} bytes: {text[:200]!r}")
 
 

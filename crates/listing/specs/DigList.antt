@@ -66,3 +66,8 @@ refusedLine r = bytes "Refused " ++ spaced (r .number) ++ natural (r .place) ++ 
 unfoldable pub printed : ListAnswer → List ℕ
 printed (unlisted r) = refusedLine r
 printed (listing text) = text
+
+-- the exit status of a program that prints it: 0 for a list, 1 for a refusal
+unfoldable pub exitStatus : ListAnswer → ℕ
+exitStatus (unlisted r) = 1
+exitStatus (listing text) = 0

@@ -15,7 +15,7 @@ use Rattle.graph.specs.Builder.{Fragment, tree}
 use Rattle.lines.proofs.Laws.{prints}
 use Rattle.lines.specs.Prints.{Prints}
 use Rattle.listing.proofs.Meaning.{dig-list-holds}
-use Rattle.listing.specs.DigList.{rowLine, rowLines, totalLine, digList, refusedLine, ListAnswer, unlisted, listing, builtList, tableList, readList, textList, printed}
+use Rattle.listing.specs.DigList.{rowLine, rowLines, totalLine, digList, refusedLine, ListAnswer, unlisted, listing, builtList, tableList, readList, textList, printed, exitStatus}
 use Rattle.mst1.proofs.Answers.{loaded-weights, loaded-graph, tree-inside}
 use Rattle.mst1.proofs.Answers as answers
 use Rattle.mst1.specs.steps.Growth.{loadedGraph, Grows}
@@ -186,3 +186,12 @@ module _ (a : ListAnswer) {out after : List ℕ} (l : Listed) (h : Lists a out a
   pub refusal-printed : (r : Refusal) → l ≡ lists.Refused r → {later : List ℕ} {k : ℕ} → Prints after later k (refusedLine r) → Prints out later k (printed a)
   unfolding Lists printed
   refusal-printed r e p = let (q, same) = rw e at h in rw q (rw same at p)
+
+-- the exit status that goes with it
+pub listed-status : (a : ListAnswer) (out after : List ℕ) (l : Listed) → Lists a out after l → (k : ℕ) → l ≡ lists.Text k → 0 ≡ exitStatus a
+unfolding Lists exitStatus
+listed-status a out after l h k e = let (text, q, p) = rw e at h in rw q refl
+
+pub refusal-status : (a : ListAnswer) (out after : List ℕ) (l : Listed) → Lists a out after l → (r : Refusal) → l ≡ lists.Refused r → 1 ≡ exitStatus a
+unfolding Lists exitStatus
+refusal-status a out after l h r e = let (q, same) = rw e at h in rw q refl

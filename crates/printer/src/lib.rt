@@ -4,7 +4,7 @@ ghost use mathlib.Core.Path.{_≡_};
 ghost use Prim.Native.Nat.{_*_, _≤_};
 ghost use lib.ListN.{length, take};
 ghost use Rattle.lines.specs.Prints.{Prints};
-ghost use Rattle.listing.specs.DigList.{tableList, textList, printed};
+ghost use Rattle.listing.specs.DigList.{tableList, textList, printed, exitStatus};
 ghost use Rattle.printer.specs.Lists.{Lists};
 ghost use Rattle.slice.specs.Slices.{component};
 ghost use Rattle.star.specs.Call.{tableOf, callOf, workOf};
@@ -123,13 +123,26 @@ pub fn text_list(text: &[u8], out: &mut [u8]) -> Listed
     }
 }
 
+// A page to print: the number of its bytes, and the exit status of a program that prints it, 0 for a list and 1 for a refusal.
+pub struct Page {
+    pub size: usize,
+    pub status: u32,
+}
+
 // What is printed of an STP text: its list, or the line of the refusal; the number of bytes is returned.
-pub fn print_text(text: &[u8], out: &mut [u8]) -> usize
-    ensures { λ r. ⌜ Prints (now (out .entry)) (now (out .exit)) r (printed (textList (now (text .entry)))) ⌝ }
+pub fn print_text(text: &[u8], out: &mut [u8]) -> Page
+    ensures printed { λ r. ⌜ Prints (now (out .entry)) (now (out .exit)) (r .size) (printed (textList (now (text .entry)))) ⌝ }
+    ensures status { λ r. ⌜ (r .status ≡ exitStatus (textList (now (text .entry)))) × (r .status ≤ 1) ⌝ }
 {
     let list = text_list(text, out);
     match list {
-        Listed::Text(size) => size,
-        Listed::Refused(r) => lines::put_refused(out, r),
+        Listed::Text(size) => Page {
+            size: size,
+            status: 0,
+        },
+        Listed::Refused(r) => Page {
+            size: lines::put_refused(out, r),
+            status: 1,
+        },
     }
 }

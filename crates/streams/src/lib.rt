@@ -1,5 +1,6 @@
 // Whole texts read and written, with errors told apart from ends. No contract can say which bytes a call of C reads or writes: what is said here is where they stand.
-ghost use Prim.Native.Nat.{_≤_};
+ghost use lib.ListN.{take};
+ghost use mathlib.Core.Path.{_≡_};
 ghost use Rattle.io.specs.Counts.{Counts};
 
 // What was read: the number of bytes at the buffer's start, and whether an error ended the reading.
@@ -40,17 +41,20 @@ pub fn read_text(fd: i32, buffer: &mut [u8]) -> Input
     }
 }
 
-// The smaller of two numbers.
-fn least(a: usize, b: usize) -> usize
-    ensures { λ r. ⌜ r ≤ b ⌝ }
+// The first `size` bytes of a buffer, all of it where it has fewer.
+pub fn first(buffer: &[u8], size: usize) -> &[u8]
+    ensures { λ r. ⌜ now r ≡ take size (now (buffer .entry)) ⌝ }
 {
-    if a < b { a } else { b }
+    if size < buffer.len() {
+        return &buffer[..size];
+    }
+    buffer
 }
 
-// Writes the first `size` bytes of a buffer, all of it where it has fewer, and closes the file, so that an error that is told late is told too. False where some of them may not have been written.
+// Writes the first `size` bytes of a buffer and closes the file, so that an error that is told late is told too. False where some of them may not have been written.
+// Nothing is ensured of it: which bytes are handed to C says `first`, and no contract of the kit says what C does with them.
 pub fn write_text(fd: i32, buffer: &[u8], size: usize) -> bool {
-    let end = least(size, buffer.len());
-    if !io::write_all(fd, &buffer[..end]) {
+    if !io::write_all(fd, first(buffer, size)) {
         return false;
     }
     libc::close(fd) == 0

@@ -1,12 +1,12 @@
--- `readstp::taken` ends. The loop's invariant: the row's position is at most m, and the column keeps its length. The measure is what is left of m.
+-- `programs::readstp::taken` ends. The loop's invariant: the row's position is at most m, and the column keeps its length. The measure is what is left of m.
 -- Assumes nothing.
 use Prim.Native.Nat.{_-_, _≤_}
 use borrow.Author.Needs.{needs}
 use lib.ListN.{length}
 use mathlib.Core.Path.{_≡_, refl, _∙_}
 use native.Mathlib.Omega.{arith}
-use Rattle.readstp.proofs.taken.Statement.{statement}
-use Rattle.readstp.proofs.taken.Tie as tie
+use Rattle.programs.proofs.readstp.taken.Statement.{statement}
+use Rattle.programs.proofs.readstp.taken.Tie as tie
 
 abbrev Inv-loop : tie.InvT-loop
 Inv-loop out₀ left right weight m next₀ i₀ out next i = (i ≤ m) × (length out ≡ length out₀)

@@ -1,0 +1,37 @@
+// Reads an STP text on standard input and prints the dig list of MST1's tree: a line a row with its position, ends and weight, and the total; or the line of a refusal.
+// The page is made whole by printer::print_text, whose contract says what it is, before a byte is printed.
+ghost use Prim.Native.Nat.{_≤_};
+use libc::STDIN_FILENO;
+use libc::STDOUT_FILENO;
+use printer::LIST_BYTES;
+
+// One byte more than the longest text that is taken, so that a longer one is noticed.
+const TEXT_BYTES: usize = 65537;
+
+// Prints the list of a text, and gives the exit status.
+fn list(text: &[u8]) -> u32
+    ensures { λ r. ⌜ r ≤ 2 ⌝ }
+{
+    let mut bytes = [0u8; LIST_BYTES];
+    let page = printer::print_text(text, &mut bytes);
+    if !streams::write_text(STDOUT_FILENO, &bytes, page.size) {
+        os::fail(b"diglist: the list is not printed whole");
+        return 2;
+    }
+    page.status
+}
+
+// The program: its exit status is 0 for a list, 1 for a refusal, 2 where the text cannot be read or the list not be written.
+#[no_mangle]
+pub extern "C" fn star_run_diglist() -> u32
+    ensures { λ r. ⌜ r ≤ 2 ⌝ }
+{
+    let mut buffer = [0u8; TEXT_BYTES];
+    let input = streams::read_text(STDIN_FILENO, &mut buffer);
+    if input.failed {
+        os::fail(b"diglist: standard input is not read");
+        return 2;
+    }
+    let size = input.size;
+    list(&buffer[..size])
+}
