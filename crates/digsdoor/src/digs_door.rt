@@ -3,11 +3,13 @@ use crate::fields::of_list;
 use answer::write_answer;
 use printer::LIST_BYTES;
 ghost use mathlib.Core.Path.{_≡_};
+ghost use Rattle.listing.specs.Bytes.{DigsCall};
 ghost use Rattle.listing.specs.DigList.{tableList};
 ghost use Rattle.listing.specs.Door.{listFields, listReturns, listAnswered, listText};
 ghost use Rattle.star.specs.Call.{callOf};
 
 // The list of a plain table, through the door. No mark column is taken; the left column stands in its place.
+// `means` says what the bytes and the text are worth.
 #[no_mangle]
 pub extern "C" fn star_digs(
     n: u32,
@@ -24,6 +26,9 @@ pub extern "C" fn star_digs(
     ensures listed { λ r.
         let a = tableList (callOf n (now (left .entry)) (now (right .entry)) (now (weight .entry)) (now (left .entry))) in
         ⌜ now (text .exit) ≡ listText a (now (text .entry)) (now (answer .entry)) ⌝ }
+    ensures means { λ r.
+        let c = callOf n (now (left .entry)) (now (right .entry)) (now (weight .entry)) (now (left .entry)) in
+        ⌜ DigsCall c (now (text .entry)) (now (answer .entry)) (now (text .exit)) (now (answer .exit)) r ⌝ }
 {
     if answer.len() != 16 {
         return 0;

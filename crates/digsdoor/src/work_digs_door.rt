@@ -3,11 +3,12 @@ use crate::fields::of_list;
 use answer::write_answer;
 use printer::LIST_BYTES;
 ghost use mathlib.Core.Path.{_≡_};
+ghost use Rattle.listing.specs.Bytes.{DigsCall};
 ghost use Rattle.listing.specs.DigList.{tableList};
 ghost use Rattle.listing.specs.Door.{listFields, listReturns, listAnswered, listText};
 ghost use Rattle.star.specs.Call.{workOf};
 
-// The list of a working table, whose rows in use are lent as sixteen words, through the door.
+// The list of a working table, whose rows in use are lent as sixteen words, through the door. `means` says what the bytes and the text are worth.
 #[no_mangle]
 pub extern "C" fn star_work_digs(
     n: u32,
@@ -25,6 +26,9 @@ pub extern "C" fn star_work_digs(
     ensures listed { λ r.
         let a = tableList (workOf n (now (words .entry)) (now (left .entry)) (now (right .entry)) (now (weight .entry)) (now (left .entry))) in
         ⌜ now (text .exit) ≡ listText a (now (text .entry)) (now (answer .entry)) ⌝ }
+    ensures means { λ r.
+        let c = workOf n (now (words .entry)) (now (left .entry)) (now (right .entry)) (now (weight .entry)) (now (left .entry)) in
+        ⌜ DigsCall c (now (text .entry)) (now (answer .entry)) (now (text .exit)) (now (answer .exit)) r ⌝ }
 {
     if answer.len() != 16 {
         return 0;

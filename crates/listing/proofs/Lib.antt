@@ -3,3 +3,4 @@ pub mod Rows
 pub mod Sizes
 pub mod Meaning
 pub mod Trials
+pub mod Bytes

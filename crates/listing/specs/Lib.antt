@@ -3,3 +3,4 @@ pub mod Door
 pub mod Reading
 pub mod Meaning
 pub mod Trials
+pub mod Bytes

@@ -1,22 +1,23 @@
 -- `digsdoor::work_digs_door::star_work_digs` meets its contract: what the list of the working table, `of_list` and `write_answer` promise, one after the other. Assumes nothing.
 use borrow.Author.Needs.{needs}
 use native.Mathlib.Omega.{arith}
+use Rattle.listing.proofs.Bytes.{digs-call}
 use Rattle.digsdoor.proofs.Told.{no-answer, no-room, table-told}
 use Rattle.digsdoor.proofs.work_digs_door.star_work_digs.Statement.{statement}
 use Rattle.digsdoor.proofs.work_digs_door.star_work_digs.Tie as tie
 
 returns : tie.Need-returns
-returns c = no-answer _ _ _ _ (c .if1 .taken)
+returns c = digs-call (no-answer _ _ _ _ (c .if1 .taken))
 
 returns-2 : tie.Need-returns-2
-returns-2 c = no-room _ _ _ _ (c .if2 .taken)
+returns-2 c = digs-call (no-room _ _ _ _ (c .if2 .taken))
 
 returns-3 : tie.Need-returns-3
 returns-3 c =
     let w = c .before .before in
     let o = w .before .before in
     let l = o .before .before .before in
-    table-told _ _ _ _ (omega arith) (omega arith) _ (l .work-list .ensures) (w .write-answer .ensures) (o .of-list .ensures)
+    digs-call (table-told _ _ _ _ (omega arith) (omega arith) _ (l .work-list .ensures) (w .write-answer .ensures) (o .of-list .ensures))
 
 pub star-work-digs-spec : {M : Type 1} → statement M
 star-work-digs-spec =
