@@ -1,6 +1,6 @@
 -- The answer in each of its four cases: the call is refused; a tree is built without the row; only with it; or not even so.
 -- Assumes nothing.
-use Prim.Native.Nat.{ℕ, _*_, _≤_}
+use Prim.Native.Nat.{ℕ, _≤_}
 use borrow.Author.Tests.{not-true, not-false}
 use lib.Dec.{eqb}
 use lib.IntN.{ℤ}
@@ -29,7 +29,6 @@ use Rattle.rowset.specs.Bytes.{inRow}
 use Rattle.rowset.specs.Integers.{signed}
 use Rattle.rowset.specs.Searches.{largest}
 use Rattle.rowset.specs.Sets.{upTo, both, takeOut, uppermost}
-use Rattle.rowset.specs.Words.{columnWords}
 use Rattle.slice.specs.Slices.{size}
 use Rattle.star.proofs.Accepted.{Taken, taken, row-used, sound}
 use Rattle.star.specs.Accepted.{Row}

@@ -4,9 +4,9 @@ use Prim.Native.Nat.{ℕ, _*_, _≤_, _<_}
 use lib.IntN.{ℤ}
 use lib.ListN.{length}
 use lib.Signed.{ltZ}
-use mathlib.Core.Bool.{Bool, true, false, not, _&&_}
+use mathlib.Core.Bool.{Bool, true, false, _&&_}
 use mathlib.Core.List.{List}
-use mathlib.Core.Path.{_≡_, refl, _∙_, ap, fun-ext}
+use mathlib.Core.Path.{_≡_, _∙_, ap, fun-ext}
 use native.Mathlib.Omega.{arith}
 use Rattle.graph.proofs.Path.{path-inside, tree-joined}
 use Rattle.graph.proofs.Trail.{trail-vertices, trail-columns}
@@ -15,7 +15,7 @@ use Rattle.graph.specs.Tree.{SpanningTree, onPath}
 use Rattle.graph.specs.steps.Trail.{trail}
 use Rattle.matrix.proofs.Laws.{matrixColumn-words}
 use Rattle.matrix.specs.Matrix.{matrixColumn}
-use Rattle.path.proofs.Walks.{Shows, walk-shows}
+use Rattle.path.proofs.Walks.{walk-shows}
 use Rattle.path.specs.steps.Walks.{walk}
 use Rattle.rowset.proofs.Laws.{refuted, clash, any-cut, uppermost-cut, both-inside}
 use Rattle.rowset.proofs.Searches.{largest-in}

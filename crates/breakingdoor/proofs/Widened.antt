@@ -1,6 +1,6 @@
 -- The 64 bits that stand for the integer of 32 bits: below 2 ^ 31 the same number, and from there on with the upper half all ones.
 -- Assumes nothing.
-use Prim.Native.Nat.{ℕ, _+_, _*_, _^_, _≤_, _<_}
+use Prim.Native.Nat.{ℕ, _+_, _*_, _≤_, _<_}
 use borrow.Author.Tests.{le-ltb}
 use lib.IntN.{pos, _-ℤ_}
 use mathlib.Core.Path.{_≡_, sym, _∙_}

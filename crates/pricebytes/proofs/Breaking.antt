@@ -5,36 +5,33 @@ use lib.IntN.{ℤ, pos, negsuc}
 use lib.ListN.{length}
 use lib.Signed.{mag}
 use mathlib.Core.Bool.{Bool, true, false, not}
-use mathlib.Core.List.{List, [], _∷_, _++_}
-use mathlib.Core.Logic.{_⊎_, inl, inr, ⊎-elim}
+use mathlib.Core.List.{List, [], _∷_}
 use mathlib.Core.Option.{Option, none, some}
-use mathlib.Core.Path.{_≡_, refl, sym, ap, _∙_, subst}
+use mathlib.Core.Path.{_≡_, refl, ap}
 use native.Mathlib.Omega.{arith}
-use Rattle.demand3.proofs.Bytes.{Fits, TableRefusal, table-refusal, refused-first, standing, accepted, turned, table-fits, table-declined, returns-one, returns-zero, after-kept, read-back, turned-away}
-use Rattle.demand3.specs.Bytes.{Written, TableDeclined}
+use Rattle.demand3.proofs.Bytes.{Fits, table-refusal, refused-first, standing, accepted, turned, table-fits, table-declined, returns-one, returns-zero, after-kept, read-back, turned-away}
+use Rattle.demand3.specs.Bytes.{Written}
 use Rattle.graph.proofs.Builder.{tree-connected, built-least, not-connected}
 use Rattle.graph.specs.Builder.{Fragment, tree}
 use Rattle.graph.specs.Graph.{Graph, Sound, Connected}
 use Rattle.prices.specs.Breaking.{lacking, heaviestBetween, breaking}
 use Rattle.pricebytes.specs.Breaking.{BreaksMean, RowDeclined, BreakingCall, BreakingDoorMeans}
 use Rattle.quoting.proofs.BreakingMeans.{told, breakings-mean}
-use Rattle.quoting.proofs.Means.{last-cause}
-use Rattle.quoting.specs.Breaking.{BreakingAnswer, unanswered, breaksAt, neverBreaks, breakingTold, breakingOr, breakingPrice}
-use Rattle.quoting.specs.BreakingMeans.{Broken, BreakingMeans}
+use Rattle.quoting.specs.Breaking.{unanswered, breakingTold, breakingOr, breakingPrice}
+use Rattle.quoting.specs.BreakingMeans.{BreakingMeans}
 use Rattle.quoting.specs.Door.{breakingFields, breakingDoor}
 use Rattle.quoting.specs.Quote.{noRow, quoteCauses}
 use Rattle.refusal.specs.declared.Refusal.{Refusal}
 use Rattle.rowset.proofs.Integers.{up, down}
 use Rattle.rowset.proofs.Laws.{refuted}
 use Rattle.rowset.proofs.Signed.{signed-range}
-use Rattle.rowset.specs.Bytes.{inRow}
 use Rattle.rowset.specs.Integers.{signed}
-use Rattle.star.proofs.Accepted.{taken, sound, row-used, used-row, refusal-append, some-cons, some-cause, none-nil, accepted-means}
-use Rattle.star.specs.Accepted.{AcceptedTable, Row}
+use Rattle.star.proofs.Accepted.{taken, sound, used-row, refusal-append, accepted-means}
+use Rattle.star.specs.Accepted.{Row}
 use Rattle.star.specs.Call.{Call, used, graphOf, weightOf}
 use Rattle.star.specs.Cst.{refused}
-use Rattle.star.specs.Door.{Fields, fields, readBack, doorReturns, answerAfter}
-use Rattle.star.specs.Refusals.{Accepted, cause, isNone, noTree, tableCauses, orElse, refusal}
+use Rattle.star.specs.Door.{fields, doorReturns, answerAfter}
+use Rattle.star.specs.Refusals.{Accepted, cause, noTree, tableCauses, orElse, refusal}
 
 -- a refusal has the fields that CST's has
 unanswered-fields : (r : Refusal) → breakingFields (unanswered r) ≡ fields (refused r)

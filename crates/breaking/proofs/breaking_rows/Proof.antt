@@ -1,7 +1,6 @@
 -- `breaking::breaking_rows` meets its contract in each of its four cases: the call is refused; a tree is built without the row; only with it; or not even so.
 -- Assumes nothing.
 use borrow.Author.Needs.{needs}
-use borrow.Author.Tests.{not-true, not-false}
 use mathlib.Core.Path.{refl, _∙_}
 use Rattle.slice.proofs.Laws.{written-false}
 use Rattle.breaking.proofs.Answers.{call-refused, route-found, no-route, no-tree}

@@ -1,7 +1,6 @@
 -- `breaking::path_between` meets its contract: the walk over the loaded ends, and the column of v. Assumes nothing.
 use borrow.Author.Needs.{needs}
-use mathlib.Core.Path.{_∙_, ap}
-use Rattle.matrix.specs.Matrix.{matrixColumn}
+use mathlib.Core.Path.{_∙_}
 use Rattle.breaking.proofs.path_between.Statement.{statement}
 use Rattle.breaking.proofs.path_between.Tie as tie
 

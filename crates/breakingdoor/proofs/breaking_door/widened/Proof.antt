@@ -1,5 +1,4 @@
 -- `breakingdoor::breaking_door::widened` meets its contract, below 2 ^ 31 and from there on. Assumes nothing.
-use borrow.Author.Needs.{needs}
 use native.Mathlib.Omega.{arith}
 use Rattle.breakingdoor.proofs.Widened.{widened-low, widened-high}
 use Rattle.breakingdoor.proofs.breaking_door.widened.Statement.{statement}
