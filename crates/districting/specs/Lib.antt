@@ -1,0 +1,4 @@
+pub mod Districts
+pub mod Means
+pub mod Door
+pub mod Trials
