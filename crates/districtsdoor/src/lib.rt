@@ -1,38 +1,11 @@
 // Districts first, then the city, for C, on plain and on working tables: lent columns, the ends of the runs, and a lent answer of sixteen bytes.
 // If the lent answer has not sixteen bytes the call returns 0 and writes nothing anywhere; else it returns 1.
-use answer::Record;
 use answer::write_answer;
-use mst1::Built;
+use fields::built::of_built;
 ghost use mathlib.Core.Path.{_≡_};
-ghost use Rattle.answer.specs.Records.{fieldsOf};
 ghost use Rattle.districting.specs.Door.{districtsDoor, districtsDoorForests, districtsDoorMarks};
-ghost use Rattle.mst1.specs.Answers.{answerOf};
 ghost use Rattle.star.specs.Call.{callOf, workOf};
-ghost use Rattle.star.specs.Door.{builtFields, doorReturns};
-
-// The fields of what was built, as MST1's door has them.
-fn of_built(b: Built) -> Record
-    ensures { λ r. ⌜ fieldsOf r ≡ builtFields (answerOf b) ⌝ }
-{
-    match b {
-        Built::Tree(weight) => Record {
-            kind: 1,
-            number: 0,
-            out: 0,
-            into: 0,
-            only: 0,
-            amount: weight,
-        },
-        Built::Refused(r) => Record {
-            kind: 0,
-            number: r.number,
-            out: r.place,
-            into: 0,
-            only: 0,
-            amount: 0,
-        },
-    }
-}
+ghost use Rattle.star.specs.Door.{doorReturns};
 
 // Districts and city through the door: both columns are written where a tree is built, and stay as they are otherwise.
 #[no_mangle]
