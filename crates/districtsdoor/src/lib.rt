@@ -3,11 +3,13 @@
 use answer::write_answer;
 use fields::built::of_built;
 ghost use mathlib.Core.Path.{_≡_};
+ghost use Rattle.districting.specs.Bytes.{DistrictsCall};
 ghost use Rattle.districting.specs.Door.{districtsDoor, districtsDoorForests, districtsDoorMarks};
 ghost use Rattle.star.specs.Call.{callOf, workOf};
 ghost use Rattle.star.specs.Door.{doorReturns};
 
 // Districts and city through the door: both columns are written where a tree is built, and stay as they are otherwise.
+// `means` says what the bytes and the columns are worth.
 #[no_mangle]
 pub extern "C" fn star_districts(
     n: u32,
@@ -25,6 +27,9 @@ pub extern "C" fn star_districts(
         ⌜ (now (answer .exit) ≡ districtsDoor c (now (forests .entry)) (now (ends .entry)) (now (answer .entry)))
         × (now (forests .exit) ≡ districtsDoorForests c (now (forests .entry)) (now (ends .entry)) (now (answer .entry)))
         × (now (mark .exit) ≡ districtsDoorMarks c (now (forests .entry)) (now (ends .entry)) (now (answer .entry))) ⌝ }
+    ensures means { λ r.
+        let c = callOf n (now (left .entry)) (now (right .entry)) (now (weight .entry)) (now (mark .entry)) in
+        ⌜ DistrictsCall c (now (forests .entry)) (now (ends .entry)) (now (answer .entry)) (now (answer .exit)) (now (forests .exit)) (now (mark .exit)) r ⌝ }
 {
     if answer.len() != 16 {
         return 0;
@@ -36,6 +41,7 @@ pub extern "C" fn star_districts(
 }
 
 // The same over a working table, whose rows in use are lent as sixteen words; both columns get 0 at rows not in use.
+// `means` says what the bytes and the columns are worth.
 #[no_mangle]
 pub extern "C" fn star_work_districts(
     n: u32,
@@ -54,6 +60,9 @@ pub extern "C" fn star_work_districts(
         ⌜ (now (answer .exit) ≡ districtsDoor c (now (forests .entry)) (now (ends .entry)) (now (answer .entry)))
         × (now (forests .exit) ≡ districtsDoorForests c (now (forests .entry)) (now (ends .entry)) (now (answer .entry)))
         × (now (mark .exit) ≡ districtsDoorMarks c (now (forests .entry)) (now (ends .entry)) (now (answer .entry))) ⌝ }
+    ensures means { λ r.
+        let c = workOf n (now (words .entry)) (now (left .entry)) (now (right .entry)) (now (weight .entry)) (now (mark .entry)) in
+        ⌜ DistrictsCall c (now (forests .entry)) (now (ends .entry)) (now (answer .entry)) (now (answer .exit)) (now (forests .exit)) (now (mark .exit)) r ⌝ }
 {
     if answer.len() != 16 {
         return 0;

@@ -4,6 +4,7 @@ use borrow.Author.Tests.{eq-eqb, ne-eqb}
 use lib.ListN.{length}
 use mathlib.Core.Path.{refl, ap, _∙_}
 use native.Mathlib.Omega.{arith}
+use Rattle.districting.proofs.Bytes.{districts-call}
 use Rattle.districting.specs.Door.{districtsDoor, districtsDoorForests, districtsDoorMarks}
 use Rattle.districtsdoor.proofs.star_work_districts.Statement.{statement}
 use Rattle.districtsdoor.proofs.star_work_districts.Tie as tie
@@ -11,7 +12,7 @@ use Rattle.star.specs.Door.{builtFields, answerAfter, wellLent, doorReturns}
 
 returns : tie.Need-returns
 unfolding doorReturns wellLent answerAfter districtsDoor districtsDoorForests districtsDoorMarks
-returns c = rw (ne-eqb (length (c .before .before .before .before .before .before .before .before .before .args .answer .now)) 16 (λ e. omega arith)) (refl, (refl, refl, refl))
+returns c = districts-call (rw (ne-eqb (length (c .before .before .before .before .before .before .before .before .before .args .answer .now)) 16 (λ e. omega arith)) (refl, (refl, refl, refl)))
 
 returns-2 : tie.Need-returns-2
 unfolding doorReturns wellLent districtsDoor districtsDoorForests districtsDoorMarks
@@ -19,10 +20,11 @@ returns-2 c =
     let w = c .before .before in
     let b = w .before .before in
     let d = b .before .before .before .before .before in
-    rw (eq-eqb (length (d .before .before .before .before .before .before .before .before .before .before .before .before .args .answer .now)) 16 (omega arith)) (
+    districts-call
+    (rw (eq-eqb (length (d .before .before .before .before .before .before .before .before .before .before .before .before .args .answer .now)) 16 (omega arith)) (
       refl,
       (w .write-answer .ensures ∙ ap (answerAfter _) (b .of-built .ensures ∙ ap builtFields (d .work-districts .ensures .0)), d .work-districts .ensures .1, d .work-districts .ensures .2),
-    )
+    ))
 
 pub star-work-districts-spec : {M : Type 1} → statement M
 star-work-districts-spec =
