@@ -44,7 +44,7 @@ outer = callOf 4 (1 ∷ 3 ∷ 2 ∷ []) (2 ∷ 4 ∷ 3 ∷ []) (small 5 ++ (smal
 abbrev pub ring : Call
 ring = callOf 3 (1 ∷ 2 ∷ 1 ∷ []) (2 ∷ 3 ∷ 3 ∷ []) (251 ∷ 255 ∷ 255 ∷ 255 ∷ 252 ∷ 255 ∷ 255 ∷ 255 ∷ 255 ∷ 255 ∷ 255 ∷ 255 ∷ []) (replicate 3 9)
 
--- the ring 1-2-3-4 with both diagonals, 5 at each of 1 and 3, and 1-2, 2-3, ... of weights 8 down: eight rows, and with 2-5 nine
+-- eight rows of weights 8 down to 1: the ring 1-2, 2-3, 3-4, 4-1, its diagonals 1-3 and 2-4, and 1-5 and 3-5; with 2-5 of weight 9 they are nine
 abbrev pub eight : Call
 eight =
     callOf 5 (1 ∷ 2 ∷ 3 ∷ 4 ∷ 1 ∷ 2 ∷ 1 ∷ 3 ∷ []) (2 ∷ 3 ∷ 4 ∷ 1 ∷ 3 ∷ 4 ∷ 5 ∷ 5 ∷ [])
