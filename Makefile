@@ -11,7 +11,7 @@ CXXFLAGS ?= -O2
 PREFIX ?= /usr/local
 BUILD := target/c
 # The crates whose functions for C the library is made of.
-DOORS := door workdoor changedoor importdoor digsdoor quotedoor breakingdoor whichdoor
+DOORS := door workdoor changedoor importdoor digsdoor quotedoor breakingdoor whichdoor districtsdoor
 STAMPS := $(DOORS:%=target/stamp/%)
 STAMPS := $(DOORS:%=target/stamp/%) target/stamp/programs
 ARCHIVES := $(DOORS:%=target/staticlib/lib%.a)

@@ -75,7 +75,7 @@ module _ (t : Table) (words : List ℕ) (stored : matrixColumn words ≡ column 
   signed-row e = rw (stored, e) (sign-row t)
 
 -- writing 1 at a position of a slice puts it in
-written-in : (p : ℕ → Bool) (i : ℕ) → 1 ≤ i → i ≤ size → written p i true ≡ put p i
+pub written-in : (p : ℕ → Bool) (i : ℕ) → 1 ≤ i → i ≤ size → written p i true ≡ put p i
 unfolding written
 written-in p i l u = rw (in-upTo size i l u)
 

@@ -28,7 +28,7 @@ unfolding touching equalTo put empty
 touching-single side rows v = refl
 
 -- with one vertex more: those that MATCH finds
-touching-put : (side : ℕ → ℕ) (rows Q : ℕ → Bool) (v : ℕ) → either (touching side rows Q) (equalTo side v rows) ≡ touching side rows (put Q v)
+pub touching-put : (side : ℕ → ℕ) (rows Q : ℕ → Bool) (v : ℕ) → either (touching side rows Q) (equalTo side v rows) ≡ touching side rows (put Q v)
 unfolding touching either equalTo put
 touching-put side rows Q v = fun-ext (λ i. go (rows i) (Q (side i)) (eqb (side i) v))
   where
@@ -37,7 +37,7 @@ touching-put side rows Q v = fun-ext (λ i. go (rows i) (Q (side i)) (eqb (side 
     go false y z = refl
 
 -- those with one end, and not with the other, are the rows that cross
-touching-one : (g : Graph) (Q : ℕ → Bool) → oneOf (touching (g .a) (g .rows) Q) (touching (g .b) (g .rows) Q) ≡ both (g .rows) (crosses g Q)
+pub touching-one : (g : Graph) (Q : ℕ → Bool) → oneOf (touching (g .a) (g .rows) Q) (touching (g .b) (g .rows) Q) ≡ both (g .rows) (crosses g Q)
 unfolding touching oneOf both crosses xor
 touching-one g Q = fun-ext (λ i. go (g .rows i) (Q (g .a i)) (Q (g .b i)))
   where

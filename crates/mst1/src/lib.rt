@@ -50,14 +50,14 @@ fn first_row(weight: Table, x: Slice) -> usize
 }
 
 // The same over a table's words, and over the columns after the first ones.
-fn cheapest(weight: &[u64], first: usize, x: Slice) -> usize
+pub fn cheapest(weight: &[u64], first: usize, x: Slice) -> usize
     ensures { λ r. ⌜ r ≡ uppermost size (smallest size (integerIn (matrixColumn (now (weight .entry))) first (width - first)) (component x)) ⌝ }
 {
     slice::fnd(lent::min_from(weight, first, x))
 }
 
 // x, and with it the rows that hold v, by MATCH over the columns after the first ones.
-fn reach(x: Slice, ends: &[u64], first: usize, v: u32, rows: Slice) -> Slice
+pub fn reach(x: Slice, ends: &[u64], first: usize, v: u32, rows: Slice) -> Slice
     ensures { λ r. ⌜ component r ≡ either (component x) (equalTo (inColumns (matrixColumn (now (ends .entry))) first (width - first)) v (component rows)) ⌝ }
 {
     slice::or(x, lent::match_from(ends, first, v, rows))
@@ -96,7 +96,7 @@ fn nothing(whole: bool) -> Grown
 }
 
 // The columns on the left that MATCH may leave out of a table of ends: those that are empty, none where column 1 is not.
-fn empty_columns(t: Table) -> usize
+pub fn empty_columns(t: Table) -> usize
     ensures { λ r. ⌜ inColumns (column t) r (width - r) ≡ row t ⌝ }
 {
     if slice::some(t.columns[0]) {

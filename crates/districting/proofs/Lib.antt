@@ -1,0 +1,5 @@
+pub mod Trials
+pub mod Causes
+pub mod Plain
+pub mod Means
+pub mod Bytes

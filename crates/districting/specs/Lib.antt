@@ -1,0 +1,5 @@
+pub mod Districts
+pub mod Means
+pub mod Door
+pub mod Bytes
+pub mod Trials

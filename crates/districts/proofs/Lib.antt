@@ -1,0 +1,4 @@
+pub mod Growing
+pub mod Cut
+pub mod Runs
+pub mod Answers

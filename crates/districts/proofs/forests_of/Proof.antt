@@ -1,0 +1,58 @@
+-- `districts::forests_of` meets its contract. The loop's invariant: the forests gathered, with those of the ends that are left, are all. The measure is the number of ends left.
+-- Assumes nothing.
+use Prim.Native.Nat.{_≤_, _<_, _-_}
+use borrow.Author.Needs.{needs}
+use lib.ListN.{length}
+use native.Mathlib.Omega.{arith}
+use Rattle.districts.proofs.Runs.{Gathered, gathered-none, gathered-more, gathered-all}
+use Rattle.forest.specs.Districts.{run}
+use Rattle.matrix.specs.Matrix.{matrixColumn}
+use Rattle.mst1.specs.steps.Growth.{graphBy}
+use Rattle.rowset.specs.Columns.{inColumns}
+use Rattle.rowset.specs.Integers.{integerIn}
+use Rattle.slice.specs.Slices.{component}
+use Rattle.table.specs.Tables.{width}
+use Rattle.districts.proofs.forests_of.Statement.{statement}
+use Rattle.districts.proofs.forests_of.Tie as tie
+
+abbrev Inv-loop : tie.InvT-loop
+Inv-loop left l right r weight w rows n ends all₀ p₀ j₀ all p j =
+    (j ≤ length ends) × Gathered (graphBy (inColumns (matrixColumn left) l (width - l)) (inColumns (matrixColumn right) r (width - r)) rows n) (integerIn (matrixColumn weight) w (width - w)) ends (component all) p j
+
+abbrev μ-loop : tie.MeasureT-loop
+μ-loop left l right r weight w rows n ends all₀ p₀ j₀ all p j = length ends - j
+
+loop-holds : tie.Need-loop-holds Inv-loop μ-loop
+loop-holds c = (omega arith, gathered-none _ _ _ (c .empty .ensures))
+
+loop-again : tie.Need-loop-again Inv-loop μ-loop
+unfolding run
+loop-again c =
+    let f = c .before in
+    let r = f .before in
+    let s = r .before in (
+      omega arith,
+      gathered-more _ _ _ (s .before .before .loop .inv .1) (omega arith) (r .run-of .ensures) (f .forest-of .ensures) (c .or .ensures),
+    )
+
+returns : tie.Need-returns Inv-loop μ-loop
+returns c = gathered-all _ _ _ (c .before .loop .inv .1) (omega arith)
+
+pub forests-of-spec : {M : Type 1} → statement M
+forests-of-spec =
+    tie.close
+    (tie.spec
+    Inv-loop
+    μ-loop
+    (λ c κs. search needs)
+    loop-holds
+    (λ c. omega arith)
+    (λ c. omega arith)
+    (λ c. omega (arith, c .shared-slice-known5 .given (c .before .before .loop .j)))
+    (λ c κs. search needs)
+    (λ c κs. search needs)
+    (λ c κs. search needs)
+    (λ c. omega arith)
+    (λ c. omega arith)
+    loop-again
+    returns)

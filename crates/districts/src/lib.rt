@@ -1,0 +1,365 @@
+// Districts first, then the city: for each run of the rows a least forest, and then a tree from the forests' rows alone.
+// A forest grows as MST1 grows a tree, by the same searches, and where no row crosses it begins anew.
+ghost use Prim.Native.Nat.{_-_};
+ghost use lib.ListN.{length};
+ghost use mathlib.Core.Path.{_≡_};
+ghost use Rattle.districting.specs.Districts.{badRuns, runCauses, districtsAnswer, districtsForests, districtsMarks};
+ghost use Rattle.forest.specs.Districts.{risesTo, forests};
+ghost use Rattle.forest.specs.Growing.{grownForest};
+ghost use Rattle.matrix.specs.Matrix.{matrixColumn};
+ghost use Rattle.mst1.specs.Answers.{answerOf};
+ghost use Rattle.mst1.specs.steps.Growth.{graphBy, graphOn, loadedGraph, Grows};
+ghost use Rattle.refusal.specs.Outcomes.{refusalOf};
+ghost use Rattle.rowset.specs.Columns.{inColumns};
+ghost use Rattle.rowset.specs.Integers.{integerIn, signed};
+ghost use Rattle.rowset.specs.Searches.{equalTo, smallest};
+ghost use Rattle.rowset.specs.Sets.{upTo, both, either, oneOf, without, firstOf, uppermost};
+ghost use Rattle.slice.specs.Slices.{size, component};
+ghost use Rattle.star.specs.Call.{tableOf, callOf, workOf};
+ghost use Rattle.star.specs.Refusals.{refusal};
+ghost use Rattle.table.specs.Loads.{loadedRow};
+ghost use Rattle.table.specs.Tables.{width, row};
+ghost use Rattle.districts.specs.steps.Divided.{Divided};
+use mst1::Built;
+use refusal::Outcome;
+use refusal::Refusal;
+use slice::SIZE;
+use slice::Slice;
+use slice::WORDS;
+use slice::difference::without;
+use slice::rows::rows_to;
+use slice::words::rows_in_use;
+use table::Table;
+
+// The largest number of ends that is taken.
+pub const MAX_ENDS: usize = 8;
+
+// What was grown: the forests' rows, whether the tree is a whole one, and its rows, none where it is not.
+pub struct City {
+    pub forests: Slice,
+    pub whole: bool,
+    pub chosen: Slice,
+}
+
+// Whether each end is above the one before, the first above 0, and the last is m; without an end, whether m is 0.
+fn ends_rise(ends: &[u32], m: usize) -> bool
+    ensures { λ r. ⌜ r ≡ risesTo m 0 (now (ends .entry)) ⌝ }
+{
+    let mut p: usize = 0;
+    let mut j = 0;
+    while j < ends.len() {
+        let q = ends[j] as usize;
+        if q <= p {
+            return false;
+        }
+        p = q;
+        j += 1;
+    }
+    p == m
+}
+
+// Cause 14.
+fn runs_check(ends: &[u32], m: usize) -> Outcome
+    ensures { λ r. ⌜ refusalOf r ≡ badRuns m (now (ends .entry)) ⌝ }
+{
+    let rising = ends_rise(ends, m);
+    checks::refused_if(MAX_ENDS < ends.len() || !rising, 14)
+}
+
+// Causes 1 to 4, 15 and 14; 3 looks at both lent columns.
+pub fn call_check(
+    n: u32,
+    m: usize,
+    whole: bool,
+    rows: Slice,
+    left: &[u8],
+    right: &[u8],
+    weight: &[u8],
+    ends: &[u32],
+    forests: &[u8],
+    mark: &[u8],
+) -> Outcome
+    ensures { λ r.
+        let c = tableOf n m whole (component rows) (now (left .entry)) (now (right .entry)) (now (weight .entry)) (now (mark .entry)) in
+        ⌜ refusalOf r ≡ refusal (runCauses c (now (forests .entry)) (now (ends .entry))) ⌝ }
+{
+    let sizes = checks::size_check(n, m);
+    let column = checks::first(sizes, checks::refused_if(forests.len() != m, 3));
+    let table = checks::table_check(n, m, whole, rows, left, right, weight, mark);
+    checks::first(column, checks::first(table, runs_check(ends, m)))
+}
+
+// The row that a forest of `rows` takes next: the uppermost of least weight with exactly one end in the fragment, else with neither end in it, 0 where there is none.
+// `lefts` and `rights` are the rows whose left and whose right end is in the fragment.
+fn next_row(weight: &[u64], first: usize, rows: Slice, lefts: Slice, rights: Slice) -> usize
+    ensures { λ r.
+        let w = integerIn (matrixColumn (now (weight .entry))) first (width - first) in
+        ⌜ r ≡ firstOf (uppermost size (smallest size w (oneOf (component lefts) (component rights)))) (uppermost size (smallest size w (without (without (component rows) (component lefts)) (component rights)))) ⌝ }
+{
+    let i = mst1::cheapest(weight, first, slice::xor(lefts, rights));
+    if i != 0 {
+        return i;
+    }
+    mst1::cheapest(weight, first, without(without(rows, lefts), rights))
+}
+
+// x, and with it the rows that hold u or v.
+fn reach_both(x: Slice, ends: &[u64], first: usize, u: u32, v: u32, rows: Slice) -> Slice
+    ensures { λ r.
+        let side = inColumns (matrixColumn (now (ends .entry))) first (width - first) in
+        ⌜ component r ≡ either (either (component x) (equalTo side u (component rows))) (equalTo side v (component rows)) ⌝ }
+{
+    mst1::reach(mst1::reach(x, ends, first, u, rows), ends, first, v, rows)
+}
+
+// The forest of the rows of a slice, whose ends and weights are lent as columns; columns on the left are left out. It has at most n rows.
+fn forest_of(
+    left: &[u64],
+    l: usize,
+    right: &[u64],
+    r: usize,
+    weight: &[u64],
+    w: usize,
+    rows: Slice,
+    n: usize,
+) -> Slice
+    ensures { λ f.
+        let g = graphBy (inColumns (matrixColumn (now (left .entry))) l (width - l)) (inColumns (matrixColumn (now (right .entry))) r (width - r)) rows n in
+        ⌜ component f ≡ grownForest g (integerIn (matrixColumn (now (weight .entry))) w (width - w)) (component rows) ⌝ }
+{
+    let mut lefts = Slice::empty();
+    let mut rights = Slice::empty();
+    let mut chosen = Slice::empty();
+    let mut k = 0;
+    while k < n {
+        let i = next_row(weight, w, rows, lefts, rights);
+        if i == 0 {
+            return chosen;
+        }
+        let u = lent::row_from(left, l, i);
+        let v = lent::row_from(right, r, i);
+        lefts = reach_both(lefts, left, l, u, v, rows);
+        rights = reach_both(rights, right, r, u, v, rows);
+        chosen = slice::put(chosen, i, true);
+        k += 1;
+    }
+    chosen
+}
+
+// The rows of a slice at positions p + 1 to q.
+fn run_of(rows: Slice, p: usize, q: usize) -> Slice
+    ensures { λ r. ⌜ component r ≡ both (component rows) (without (upTo q) (upTo p)) ⌝ }
+{
+    slice::and(rows, without(rows_to(q), rows_to(p)))
+}
+
+// The forests of the runs that have these ends, of the rows of a slice.
+fn forests_of(
+    left: &[u64],
+    l: usize,
+    right: &[u64],
+    r: usize,
+    weight: &[u64],
+    w: usize,
+    rows: Slice,
+    n: usize,
+    ends: &[u32],
+) -> Slice
+    ensures { λ f.
+        let g = graphBy (inColumns (matrixColumn (now (left .entry))) l (width - l)) (inColumns (matrixColumn (now (right .entry))) r (width - r)) rows n in
+        ⌜ component f ≡ forests g (integerIn (matrixColumn (now (weight .entry))) w (width - w)) (now (ends .entry)) ⌝ }
+{
+    let mut all = Slice::empty();
+    let mut p: usize = 0;
+    let mut j = 0;
+    while j < ends.len() {
+        let q = ends[j] as usize;
+        let run = run_of(rows, p, q);
+        let forest = forest_of(left, l, right, r, weight, w, run, n);
+        all = slice::or(all, forest);
+        p = q;
+        j += 1;
+    }
+    all
+}
+
+// The same over tables, whose columns are stored once and lent. The searches leave out columns on the left: MATCH those that are empty, MIN those that only repeat the sign.
+fn forests_on(
+    left: Table,
+    right: Table,
+    weight: Table,
+    rows: Slice,
+    n: usize,
+    ends: &[u32],
+) -> Slice
+    ensures { λ f. ⌜ component f ≡ forests (graphOn left right rows n) (λ i. signed (row weight i)) (now (ends .entry)) ⌝ }
+{
+    let l = mst1::empty_columns(left);
+    let r = mst1::empty_columns(right);
+    let w = search::sign_columns(weight);
+    let stored_left = lent::columns_of(left);
+    let stored_right = lent::columns_of(right);
+    let stored_weight = lent::columns_of(weight);
+    forests_of(
+        &stored_left.columns,
+        l,
+        &stored_right.columns,
+        r,
+        &stored_weight.columns,
+        w,
+        rows,
+        n,
+        ends,
+    )
+}
+
+// The forests of the runs of a slice's rows, and the tree of n vertices from the forests' rows alone.
+fn grow_city(left: Table, right: Table, weight: Table, rows: Slice, n: usize, ends: &[u32]) -> City
+    ensures { λ r. ⌜ Divided (graphOn left right rows n) (λ i. signed (row weight i)) (now (ends .entry)) (component (r .forests)) (r .whole) (component (r .chosen)) ⌝ }
+{
+    let forests = forests_on(left, right, weight, rows, n, ends);
+    let tree = mst1::grow_tree(left, right, weight, forests, n);
+    let whole = tree.whole;
+    let chosen = tree.chosen;
+    City {
+        forests: forests,
+        whole: whole,
+        chosen: chosen,
+    }
+}
+
+// The same over the rows of a slice among the first m, grown on the columns as tables.
+pub fn city_of(
+    n: u32,
+    m: usize,
+    rows: Slice,
+    left: &[u8],
+    right: &[u8],
+    weight: &[u8],
+    ends: &[u32],
+) -> City
+    ensures { λ r.
+        let g = loadedGraph n m (component rows) (now (left .entry)) (now (right .entry)) in
+        ⌜ Divided g (λ i. signed (loadedRow 4 (now (weight .entry)) i)) (now (ends .entry)) (component (r .forests)) (r .whole) (component (r .chosen)) ⌝ }
+{
+    let lefts = table::load_bytes(left);
+    let rights = table::load_bytes(right);
+    let weights = table::load_quads(weight);
+    grow_city(
+        lefts.table,
+        rights.table,
+        weights.table,
+        slice::rows::rows_among(m, rows),
+        n as usize,
+        ends,
+    )
+}
+
+// Districts and city over a table of m rows, of which those of a slice are in use: the refusal, and both lent columns stay as they were;
+// or the tree's weight, and the columns are 1 at the forests' and at the tree's rows and 0 elsewhere.
+pub fn districts_rows(
+    n: u32,
+    m: usize,
+    whole: bool,
+    rows: Slice,
+    left: &[u8],
+    right: &[u8],
+    weight: &[u8],
+    ends: &[u32],
+    forests: &mut [u8],
+    mark: &mut [u8],
+) -> Built
+    ensures { λ r.
+        let c = tableOf n m whole (component rows) (now (left .entry)) (now (right .entry)) (now (weight .entry)) (now (mark .entry)) in
+        ⌜ (answerOf r ≡ districtsAnswer c (now (forests .entry)) (now (ends .entry)))
+        × (now (forests .exit) ≡ districtsForests c (now (forests .entry)) (now (ends .entry)))
+        × (now (mark .exit) ≡ districtsMarks c (now (forests .entry)) (now (ends .entry))) ⌝ }
+{
+    if let Outcome::Refused(refusal) = call_check(
+        n,
+        m,
+        whole,
+        rows,
+        left,
+        right,
+        weight,
+        ends,
+        forests,
+        mark,
+    ) {
+        return Built::Refused(refusal);
+    }
+    let city = city_of(n, m, rows, left, right, weight, ends);
+    if !city.whole {
+        return Built::Refused(Refusal {
+            number: 11,
+            place: 0,
+        });
+    }
+    claim::write_claim(forests, city.forests);
+    claim::write_claim(mark, city.chosen);
+    Built::Tree(claim::weigh(weight, city.chosen))
+}
+
+// Districts and city over a plain table: a row for each byte of the left column, all in use.
+pub fn districts(
+    n: u32,
+    left: &[u8],
+    right: &[u8],
+    weight: &[u8],
+    ends: &[u32],
+    forests: &mut [u8],
+    mark: &mut [u8],
+) -> Built
+    ensures { λ r.
+        let c = callOf n (now (left .entry)) (now (right .entry)) (now (weight .entry)) (now (mark .entry)) in
+        ⌜ (answerOf r ≡ districtsAnswer c (now (forests .entry)) (now (ends .entry)))
+        × (now (forests .exit) ≡ districtsForests c (now (forests .entry)) (now (ends .entry)))
+        × (now (mark .exit) ≡ districtsMarks c (now (forests .entry)) (now (ends .entry))) ⌝ }
+{
+    let m = left.len();
+    districts_rows(
+        n,
+        m,
+        true,
+        rows_to(m),
+        left,
+        right,
+        weight,
+        ends,
+        forests,
+        mark,
+    )
+}
+
+// Districts and city over a working table: 1,024 rows, and the rows in use lent as sixteen words. Both columns become 0 at rows that are not in use.
+pub fn work_districts(
+    n: u32,
+    words: &[u64],
+    left: &[u8],
+    right: &[u8],
+    weight: &[u8],
+    ends: &[u32],
+    forests: &mut [u8],
+    mark: &mut [u8],
+) -> Built
+    ensures { λ r.
+        let c = workOf n (now (words .entry)) (now (left .entry)) (now (right .entry)) (now (weight .entry)) (now (mark .entry)) in
+        ⌜ (answerOf r ≡ districtsAnswer c (now (forests .entry)) (now (ends .entry)))
+        × (now (forests .exit) ≡ districtsForests c (now (forests .entry)) (now (ends .entry)))
+        × (now (mark .exit) ≡ districtsMarks c (now (forests .entry)) (now (ends .entry))) ⌝ }
+{
+    let whole = words.len() == WORDS;
+    districts_rows(
+        n,
+        SIZE,
+        whole,
+        rows_in_use(words),
+        left,
+        right,
+        weight,
+        ends,
+        forests,
+        mark,
+    )
+}
