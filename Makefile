@@ -1,7 +1,7 @@
 # make           the library over the proved core, the console, and the programs readstp and diglist
 # make run       checks the yard
 # make test      the whole gate: proofs, must-fail edits, programs, tests from outside
-# make bench     times the door against other libraries, where they are installed
+# make bench     times the doors against other libraries, where they are installed, and plots the times (target/c/bench.svg)
 # make install PREFIX=DIR     the header, the library, the console, its manual page, the pkg-config file; needs no toolchain once all is built
 # make uninstall PREFIX=DIR   removes these files
 CC ?= cc
@@ -109,6 +109,18 @@ $(ASKED:%=$(BUILD)/%_test_faulty): $(BUILD)/%_test_faulty: tests/%_test.c tests/
 	$(CC) -std=c99 $(CFLAGS) -Iinclude -c -o $(BUILD)/faulty_$*.o tests/faulty_$*.c
 	$(CC) -std=c99 $(CFLAGS) -Iinclude -Itests -Dstar_$*=faulty_$* -Dstar_work_$*=faulty_work_$* -Dstar_$*_text=faulty_$*_text -o $@ $< $(ASKED_PARTS) $(BUILD)/faulty_$*.o $(ARCHIVE) -pthread
 
+# Districts, in the same two ways: each has its test, its faulty doors, and a plain implementation if it needs one.
+PLANS := districts
+PLAN := tests/plan_lent.c tests/plain_work.c tests/plain.c
+PLAN_HEADERS := tests/plan_lent.h tests/plain_work.h tests/plain.h include/star.h
+$(PLANS:%=$(BUILD)/%_test): $(BUILD)/%_test: $(ARCHIVE) tests/%_test.c $(PLAN) $(PLAN_HEADERS) $(wildcard tests/plain_*.[ch])
+	@mkdir -p $(BUILD)
+	$(CC) -std=c99 $(CFLAGS) -Iinclude -Itests -o $@ tests/$*_test.c $(PLAIN_$*) $(PLAN) $(ARCHIVE)
+
+$(PLANS:%=$(BUILD)/%_test_faulty): $(BUILD)/%_test_faulty: $(BUILD)/%_test tests/faulty_%.c tests/faulty_plan.h
+	$(CC) -std=c99 $(CFLAGS) -Iinclude -Itests -c -o $(BUILD)/faulty_$*.o tests/faulty_$*.c
+	$(CC) -std=c99 $(CFLAGS) -Iinclude -Itests -Dstar_$*=faulty_$* -Dstar_work_$*=faulty_work_$* -o $@ tests/$*_test.c $(PLAIN_$*) $(PLAN) $(BUILD)/faulty_$*.o $(ARCHIVE)
+
 $(BUILD)/import_test: $(ARCHIVE) tests/import_test.c include/star.h
 	@mkdir -p $(BUILD)
 	$(CC) -std=c99 $(CFLAGS) -Iinclude -o $@ tests/import_test.c $(ARCHIVE)
@@ -118,7 +130,7 @@ $(PLAIN): $(BUILD)/%.o: tests/%.c tests/plain.h tests/plain_work.h tests/plain_a
 	@mkdir -p $(BUILD)
 	$(CC) -std=c99 $(CFLAGS) -Iinclude -Itests -c -o $@ $<
 
-$(BUILD)/bench: $(ARCHIVE) bench/bench.cpp $(PLAIN) include/star.h
+$(BUILD)/bench: $(ARCHIVE) $(wildcard bench/*.[ch]pp) $(PLAIN) include/star.h
 	$(CXX) -std=c++17 $(CXXFLAGS) -Iinclude -Itests $$(pkg-config --cflags igraph 2>/dev/null) -o $@ bench/bench.cpp $(PLAIN) $(ARCHIVE) $$(pkg-config --libs igraph 2>/dev/null)
 
 run: $(BUILD)/star
@@ -129,11 +141,11 @@ test:
 
 # What stands outside the proofs: the doors against the plain implementation, the import against the plain reader (python3), both under a
 # memory checker, and the console.
-outside: $(BUILD)/star $(BUILD)/door_test $(BUILD)/door_test_faulty $(BUILD)/work_test $(BUILD)/work_test_faulty $(ASKED:%=$(BUILD)/%_test) $(ASKED:%=$(BUILD)/%_test_faulty) $(BUILD)/import_test $(READSTP) $(DIGLIST)
+outside: $(BUILD)/star $(BUILD)/door_test $(BUILD)/door_test_faulty $(BUILD)/work_test $(BUILD)/work_test_faulty $(ASKED:%=$(BUILD)/%_test) $(ASKED:%=$(BUILD)/%_test_faulty) $(PLANS:%=$(BUILD)/%_test) $(PLANS:%=$(BUILD)/%_test_faulty) $(BUILD)/import_test $(READSTP) $(DIGLIST)
 	bash tests/outside.sh $(BUILD) $(READSTP) $(DIGLIST)
 
 bench: $(BUILD)/bench
-	$(BUILD)/bench
+	$(BUILD)/bench $(BUILD)/bench.svg
 
 INCLUDES := $(DESTDIR)$(PREFIX)/include
 LIBRARIES := $(DESTDIR)$(PREFIX)/lib

@@ -45,7 +45,7 @@ static void say_saving(struct message *to, struct star_answer before, int64_t ma
 int command_build(struct table *t, const struct options *with, struct output *o) {
     struct star_answer before = table_cst(t), a;
     int64_t marked = table_total(t);
-    size_t marks = table_marks(t), i;
+    size_t marks = table_marks(t);
     struct message words = {{0}, 0};
     char figures[FIGURES];
     FILE *to;
@@ -58,8 +58,7 @@ int command_build(struct table *t, const struct options *with, struct output *o)
         fprintf(to, "%s\n", words.text);
         return EXIT_REFUSED;
     }
-    for (i = table_next(t, 0); i <= t->m; i = table_next(t, i))
-        if (t->mark[i - 1] == 1) fprintf(to, "trench %zu: %u-%u, price %s\n", i, t->left[i - 1], t->right[i - 1], table_price(figures, t, i));
+    table_list(to, t, t->mark, 1, t->m);
     fprintf(to, "Total %s\n", amount_figures(figures, a.amount));
     if (marks > 0 && (before.kind != STAR_REFUSED || refusal_of_plan(before))) {
         say_saving(&words, before, marked, a.amount);

@@ -91,6 +91,24 @@ uint32_t table_which(const struct table *first, const struct table *second, stru
     return said;
 }
 
+/* The ends of districts as the doors take them: the last row of a working table is 1,024, whatever the file's last trench is. Ends keep their order. */
+static void ends_of(const struct table *t, const uint32_t *ends, size_t count, uint32_t *to) {
+    size_t i;
+    for (i = 0; i < count; i++) to[i] = ends[i] < t->m ? ends[i] : ends[i] - (uint32_t)t->m >= UINT32_MAX - STAR_MAX_ROWS ? UINT32_MAX : STAR_MAX_ROWS + (ends[i] - (uint32_t)t->m);
+}
+
+struct star_answer table_districts(struct table *t, const uint32_t *ends, size_t count, uint8_t forests[KEPT]) {
+    uint8_t answer[STAR_ANSWER_BYTES];
+    uint64_t in_use[STAR_COLUMN_WORDS];
+    uint32_t own[STAR_MAX_RUNS + 1];
+    if (count > STAR_MAX_RUNS) count = STAR_MAX_RUNS + 1; /* one too many is refused as more are */
+    if (working(t, in_use)) {
+        ends_of(t, ends, count, own);
+        star_work_districts(t->n, in_use, STAR_COLUMN_WORDS, COLUMNS(t, STAR_MAX_ROWS), own, count, forests, STAR_MAX_ROWS, t->mark, STAR_MAX_ROWS, answer, sizeof answer);
+    } else star_districts(t->n, COLUMNS(t, kept(t)), ends, count, forests, kept(t), t->mark, kept(t), answer, sizeof answer);
+    return star_read_answer(answer);
+}
+
 struct star_answer table_strike(struct table *t, size_t i) {
     uint8_t answer[STAR_ANSWER_BYTES];
     uint64_t in_use[STAR_COLUMN_WORDS];

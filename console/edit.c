@@ -5,6 +5,21 @@
 
 static void copy(FILE *to, const char *from, const char *end) { fwrite(from, 1, (size_t)(end - from), to); }
 
+/* The line of trench i with the mark that the table has; the line as it stands where it says the same. */
+static void marked(FILE *to, const struct table *t, size_t i, const char *from, const char *end) {
+    struct span price = text_nth(t->row[i - 1].text, 2), mark = text_nth(t->row[i - 1].text, 3);
+    const char *rest = mark.len > 0 ? mark.at + mark.len : price.at + price.len;
+    uint32_t old = 0;
+    if (mark.len > 0) text_number(mark, &old);
+    if (old == t->mark[i - 1]) {
+        copy(to, from, end);
+        return;
+    }
+    copy(to, from, mark.len > 0 ? mark.at : rest);
+    fprintf(to, "%s%u", mark.len > 0 ? "" : " ", t->mark[i - 1]);
+    copy(to, rest, end);
+}
+
 /* One line of the file, with its end: that of trench i, or another one where i is 0. */
 static void line(FILE *to, const struct table *t, const struct edit *e, size_t i, const char *from, const char *end) {
     if (i > 0 && i == e->instead) fprintf(to, "%s\n", e->line);
@@ -13,7 +28,8 @@ static void line(FILE *to, const struct table *t, const struct edit *e, size_t i
         copy(to, from, t->row[i - 1].text.at);
         fputs("struck ", to);
         copy(to, t->row[i - 1].text.at, end);
-    } else copy(to, from, end);
+    } else if (i > 0 && e->marks && !t->struck[i - 1]) marked(to, t, i, from, end);
+    else copy(to, from, end);
 }
 
 void edit_write(FILE *to, const struct table *t, const struct edit *e) {

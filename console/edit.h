@@ -1,4 +1,4 @@
-/* Changes to a table file: lines that are struck, left out, replaced or added. All else stands as it did, comments too. */
+/* Changes to a table file: lines that are struck, left out, replaced, added or marked anew. All else stands as it did, comments too. */
 #ifndef CONSOLE_EDIT_H
 #define CONSOLE_EDIT_H
 
@@ -9,6 +9,7 @@ struct edit {
     int merge;            /* whether the lines of struck trenches are left out */
     size_t instead;       /* the trench whose line is replaced by the new one; 0 for none: then a new one stands at the end */
     const char *line;     /* the line of a new trench, NULL for none */
+    int marks;            /* whether each trench in use gets the mark that the table has now */
     uint32_t n;           /* the number of junctions that a line 'junctions N' says, where lines are left out or replaced and none does */
 };
 

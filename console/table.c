@@ -105,6 +105,18 @@ size_t table_next(const struct table *t, size_t i) {
 
 size_t table_used(const struct table *t) { return t->m - t->strikes; }
 
+int64_t table_list(FILE *to, const struct table *t, const uint8_t *mark, size_t from, size_t last) {
+    char price[FIGURES];
+    int64_t total = 0;
+    size_t i;
+    for (i = table_next(t, from - 1); i <= last && i <= kept(t); i = table_next(t, i))
+        if (mark[i - 1] == 1) {
+            fprintf(to, "trench %zu: %u-%u, price %s\n", i, t->left[i - 1], t->right[i - 1], table_price(price, t, i));
+            total += table_cost(t, i);
+        }
+    return total;
+}
+
 size_t table_marks(const struct table *t) {
     size_t i, marks = 0;
     for (i = 0; i < kept(t); i++) marks += t->mark[i] == 1;

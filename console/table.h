@@ -57,10 +57,17 @@ struct star_answer table_digs(const struct table *t, uint8_t *text, size_t len);
 /* Which of two marked tables costs less: 1 the first, 2 the second, 0 none where one is refused. They are the same but for their marks. */
 uint32_t table_which(const struct table *first, const struct table *second, struct star_answer *a);
 
+/* The doors that make a plan, whose marks the table has afterwards: of at most eight districts, given by the numbers of their last trenches, with the
+   trenches of each in forests. */
+struct star_answer table_districts(struct table *t, const uint32_t *ends, size_t count, uint8_t forests[KEPT]);
+
 /* The doors that change a table, over a copy of it: numbers has 1,024. A struck trench is remembered in the table. */
 struct star_answer table_strike(struct table *t, size_t i);
 struct star_answer table_add(const struct table *t, const struct trench *new, uint32_t *numbers);
 struct star_answer table_merge(const struct table *t, uint32_t *numbers);
+
+/* Writes a line for each trench in use from one number to another that is marked 1 in a column, and gives the sum of their prices. */
+int64_t table_list(FILE *to, const struct table *t, const uint8_t *mark, size_t from, size_t last);
 
 /* The number of marked trenches, and the sum of their prices. */
 size_t table_marks(const struct table *t);

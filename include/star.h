@@ -17,12 +17,13 @@
  * star_which  says which of two claims over one table costs less.
  * star_digs   writes the dig list of a least network; it takes no marks. star_digs_text does so from an STP text.
  * star_import reads a SteinLib STP text into columns of 1,024 rows; it has no marks.
+ * star_districts  finds the least trenches of each run of the rows, and a least network from these alone.
  *
  * A working table is one in which rows are struck out and entered. All its columns have 1,024 rows, marks too, and sixteen words say which
  * of them are in use (star_in_use): the rows in use are the table, and what stands in the others is not looked at.
  *
- * star_work_X   answers as star_X, over the rows in use (cst, other, mst1, paths, quote, breaking, which, digs). What is said below of star_X
- *               holds of it too.
+ * star_work_X   answers as star_X, over the rows in use (cst, other, mst1, paths, quote, breaking, which, digs, districts). What is
+ *               said below of star_X holds of it too.
  * star_strike   takes a row out of use.
  * star_add      enters a row after the last one in use.
  * star_merge    packs the rows in use to the top, and says where each one went.
@@ -30,13 +31,13 @@
  * Each returns 1 with the verdict in the sixteen bytes of the answer (star_quote: twenty-four), or 0 if the lent answer has
  * another length; then nothing is written anywhere. star_which returns 1 for the first claim, 2 for the second, and 0 on a
  * refusal too. Every other input is taken, whatever its bytes and lengths: a fault is told as a refusal with its number and
- * place, and a refused call leaves the marks, the matrix, the columns lent to star_import, and the working table and the
- * numbers lent to star_strike, star_add and star_merge, as they were.
+ * place, and a refused call leaves the marks, the matrix, the columns lent to star_import, the forests, and the
+ * working table and the numbers lent to star_strike, star_add and star_merge, as they were.
  *
  * The caller owes that each pointer has as many readable bytes behind it as its length says (writable
  * ones behind answer, and behind every other pointer that is not to const), and that a column that is written
  * overlaps no other. The length of a matrix and of the rows in use counts words of eight bytes, that of a list
- * of numbers the numbers. An empty column may be lent as a null pointer with length 0. The calling thread has
+ * of numbers or ends the numbers. An empty column may be lent as a null pointer with length 0. The calling thread has
  * stack left, 1 MiB for star_import and star_digs_text and 128 KiB for each of the others, whatever is lent. Nothing else is asked.
  */
 #ifndef STAR_H
@@ -78,12 +79,12 @@ enum star_kind {
     STAR_REFUSED = 0,
     STAR_PASSED = 1,  /* star_cst, star_other: no cheaper set exists; star_mst1: the network is built; star_paths: the matrix is filled;
                          star_quote: both totals are found; star_breaking: there is such a price; star_which: both claims are trees;
-                         star_digs: the list is written; star_import: the text is read; star_strike, star_add, star_merge: done */
+                         star_digs: the list is written; star_import: the text is read; star_strike, star_add, star_merge, star_districts: done */
     STAR_LIGHTER = 2, /* a cheaper set exists: the exchange of two rows is one */
     STAR_NEVER = 2    /* star_breaking: no other route joins the row's ends, so that it is in every network */
 };
 
-/* Byte 1 of a refused answer, and what its place is. 5, 14 and 16 are not used. */
+/* Byte 1 of a refused answer, and what its place is. 5 and 16 are not used. */
 enum star_refusal {
     STAR_BAD_JUNCTION_COUNT = 1, /* n is 0 or above 255 */
     STAR_TOO_MANY_ROWS = 2,      /* m is above 1,024 */
@@ -91,14 +92,17 @@ enum star_refusal {
                                     tables: the rows in use are not sixteen words, or the numbers not 1,024 */
     STAR_BAD_END = 4,            /* place: the uppermost row with an end that is 0 or above n, or with equal ends */
     STAR_BAD_MARK = 6,           /* place: the uppermost row marked with another byte than 0 and 1 (all but star_mst1) */
-    STAR_BAD_SOURCE = 7,         /* s is 0 or above n (star_paths); the row asked about is 0, above m or not in use (star_quote, star_breaking) */
+    STAR_BAD_SOURCE = 7,         /* s is 0 or above n (star_paths); the row asked about is 0, above m or not in use (star_quote,
+                                    star_breaking) */
     STAR_SHORT_MATRIX = 8,       /* the matrix has fewer than 16 n words (star_paths) */
     STAR_BAD_MARK_COUNT = 9,     /* the marks are not n - 1 (all but star_mst1) */
     STAR_NOT_JOINED = 10,        /* place: the smallest junction that marked rows do not join to 1, or to s (star_paths) */
-    STAR_NO_NETWORK = 11,        /* no set of rows joins every junction (star_mst1, star_quote, star_breaking, star_digs) */
+    STAR_NO_NETWORK = 11,        /* no set of rows joins every junction (star_mst1, star_quote, star_breaking, star_digs, star_districts) */
     STAR_BAD_TEXT = 12,          /* place: the first byte, counted from 0, of the first word that cannot stand; the text's length if it ends
                                     too early; 65,536 if it is longer (star_import) */
     STAR_BAD_EDGE_COUNT = 13,    /* the E lines are not as many as the line Edges says (star_import) */
+    STAR_BAD_RUNS = 14,          /* the ends are more than eight, one is not above the one before it (the first not above 0), the last is not m, or
+                                    there is none though m is above 0 (star_districts); told before 11 */
     STAR_REPEATED_ROW = 15,      /* place: the uppermost row that joins the same two junctions as an earlier one, in either direction; told
                                     after 4 and before 6 */
     STAR_TABLE_FULL = 17,        /* all 1,024 rows are in use (star_add); told before 3 */
@@ -236,6 +240,23 @@ static inline void star_carry_marks(uint8_t *mark, const uint32_t *numbers) {
         if (numbers[row - 1] >= 1 && numbers[row - 1] <= row) mark[numbers[row - 1] - 1] = own;
     }
 }
+
+/* The rows in at most eight runs: ends has the last position of each, in order, and the last end is m; where m is 0 there is none. forests, m bytes,
+ * gets 1 at the rows of a least forest of each run, which has no ring and joins exactly the junctions that the run joins, and 0 elsewhere. mark gets a
+ * tree of these rows alone; its total, the answer's amount, is the least of the whole table, and star_cst passes it. Neither is read. A refusal is
+ * 1, 2, 3, 4, 15, 14 or 11, in this order, and leaves both as they were. */
+uint32_t star_districts(uint32_t n, const uint8_t *left, size_t left_len, const uint8_t *right, size_t right_len, const uint8_t *weight,
+                        size_t weight_len, const uint32_t *ends, size_t count, uint8_t *forests, size_t forests_len, uint8_t *mark,
+                        size_t mark_len, uint8_t *answer, size_t answer_len);
+
+/* The last end is 1,024, and both columns get 0 at rows not in use. */
+uint32_t star_work_districts(uint32_t n, const uint64_t *in_use, size_t in_use_words, const uint8_t *left, size_t left_len,
+                             const uint8_t *right, size_t right_len, const uint8_t *weight, size_t weight_len, const uint32_t *ends,
+                             size_t count, uint8_t *forests, size_t forests_len, uint8_t *mark, size_t mark_len, uint8_t *answer,
+                             size_t answer_len);
+
+/* The most runs. */
+enum { STAR_MAX_RUNS = 8 };
 
 /* Reads an STP text: a first line that opens with 33D32945; sections, of which one is named Graph, with its lines Nodes N, Edges M,
  * E LEFT RIGHT PRICE for each row, END; and EOF. Sections of other names are skipped. left, right and weight are lent for 1,024 rows:

@@ -206,7 +206,7 @@ try help-after 0 '^usage: star check' '' build --help
 try help-after-short 0 '^usage: star check' '' draw -h $yard
 try version 0 '^star [0-9]+\.[0-9]+\.[0-9]+$' '' --version
 try usage-none 4 '^usage: star check' ''
-try usage-command 4 "unknown command 'mend'" '' mend
+try usage-command 4 "unknown command 'mending'" '' mending
 try usage-option 4 "unknown option '--tabel'" '' build --tabel $yard
 try usage-table 4 "unknown option '--table'" '' check --table $yard
 try usage-files 4 "one file is read, and there is also '$dear'" '' check $yard $dear

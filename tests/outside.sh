@@ -52,6 +52,15 @@ for asked in quote breaking which digs; do
 done
 
 # The import, on texts whose answers a plain reader gives: the door, in a thread of 1 MiB, and the program.
+# Districts, in the same way: a name and how many tables.
+for plan in 'districts 50000'; do
+    read -r name tables <<<"$plan"
+    "$build/${name}_test" "$tables" | tee "$work/$name"
+    add "$work/$name"
+    controls "${name}_test_faulty" $(grep -o 'fault("[^"]*")' "tests/faulty_$name.c" | cut -d '"' -f 2 | sort -u)
+done
+
+# The import, on texts whose answers a plain reader gives: the door, in a thread of 1 MiB, and the program, run under the kit's loader as rt does.
 python3 -B tests/stp/generate.py "$work/texts"
 "$build/import_test" "$work/texts" | tee "$work/import"
 add "$work/import"
@@ -73,6 +82,7 @@ if command -v valgrind >/dev/null; then
     memory "$build/door_test" 150
     memory "$build/work_test" 1000 exact
     for asked in quote breaking which digs; do memory "$build/${asked}_test" 300 exact; done
+    for name in districts; do memory "$build/${name}_test" 300 exact; done
     memory "$build/import_test" "$work/texts" 20
     for words in 'draw console/examples/t2.txt' 'build tests/console/build-refused11.txt' 'check tests/console/check-refused4.txt' \
         'build tests/console/build-stp-edges.txt' 'build tests/console/build-stp-price-above.txt' 'draw console/examples/grant.txt' 'table console/examples/street.stp' \
@@ -80,7 +90,8 @@ if command -v valgrind >/dev/null; then
         'quote console/examples/yard.txt 4 9' 'quote console/examples/struck.txt 3 9' 'breaking console/examples/struck.txt 1' 'breaking console/examples/bridge.txt 4' \
         'which console/examples/office-a.txt console/examples/office-b.txt' 'which console/examples/yard.txt console/examples/t1.txt' 'stretch console/examples/city.txt 1 255' \
         'digs console/examples/struck.txt' 'digs console/examples/street.stp' 'digs tests/console/build-stp-word.txt' \
-        'strike console/examples/struck.txt 1' 'merge console/examples/struck.txt' 'add console/examples/struck.txt 2 4 7' 'page console/examples/struck.txt'; do
+        'strike console/examples/struck.txt 1' 'merge console/examples/struck.txt' 'add console/examples/struck.txt 2 4 7' 'page console/examples/struck.txt' \
+        'districts console/examples/struck.txt 2 5' 'districts console/examples/yard.txt 1 2 3 4 5 6 7 8 9 10'; do
         valgrind -q --error-exitcode=9 --leak-check=full --errors-for-leak-kinds=definite "$build/star" $words >"$work/valgrind" 2>&1
         if [ $? != 9 ]; then passed=$((passed + 1)); else
             echo "valgrind found a fault in star $words"
@@ -97,6 +108,8 @@ bash tests/changes.sh "$star" | tee "$work/changes"
 add "$work/changes"
 bash tests/asked.sh "$star" | tee "$work/console-asked"
 add "$work/console-asked"
+bash tests/plans.sh "$star" | tee "$work/plans"
+add "$work/plans"
 python3 -B tests/picture.py "$star" | tee "$work/picture"
 add "$work/picture"
 python3 -B tests/page.py "$star" | tee "$work/page"

@@ -1,0 +1,87 @@
+/* The command districts: the cheapest trenches of each district, a run of the file's trenches, and a cheapest network of the city from these. Both come
+   from one door. */
+#include <string.h>
+
+#include "commands.h"
+#include "refusal.h"
+#include "status.h"
+#include "usage.h"
+
+/* The ends that are looked at: one more than are taken. */
+enum { ENDS = STAR_MAX_RUNS + 1 };
+
+static uint8_t forests[KEPT];
+
+/* Reads the ends; those after the first ENDS are counted and not kept. */
+static int ends_read(const struct options *with, uint32_t ends[ENDS]) {
+    int i;
+    for (i = 0; i < with->count; i++) {
+        struct span word = {with->words[i], strlen(with->words[i])};
+        uint32_t end;
+        if (!text_number(word, &end)) return misused("a district is given by the number of its last trench, and not by", with->words[i]);
+        if (i < ENDS) ends[i] = end;
+    }
+    return 0;
+}
+
+/* Why the ends are no districts of the table. */
+static void say_runs(struct message *to, const struct table *t, const uint32_t *ends, size_t count) {
+    size_t i;
+    refusal_opens(to, STAR_BAD_RUNS, t->file, 0);
+    if (count > STAR_MAX_RUNS) {
+        say(to, "there are %zu districts; at most %d are taken.", count, STAR_MAX_RUNS);
+        return;
+    }
+    for (i = 0; i < count; i++)
+        if (ends[i] <= (i ? ends[i - 1] : 0)) {
+            say(to, "district %zu ends with trench %u", i + 1, (unsigned)ends[i]);
+            if (i > 0) say(to, ", and district %zu before it with trench %u.", i, (unsigned)ends[i - 1]);
+            else say(to, "; trenches are counted from 1.");
+            return;
+        }
+    if (count == 0) say(to, "no district is given; each is given by the number of its last trench, the last one by %zu.", t->m);
+    else say(to, "the last district ends with trench %u; it has to end with the last trench, and the table has %zu.", (unsigned)ends[count - 1], t->m);
+}
+
+/* A refusal is the result, unless that is to be a table. */
+static int refused(FILE *to, const struct table *t, struct star_answer a, const uint32_t *ends, size_t count) {
+    struct message words = {{0}, 0};
+    if (!to) return EXIT_UNWRITTEN;
+    if (a.number == STAR_BAD_RUNS) say_runs(&words, t, ends, count);
+    else refusal_words(&words, t, a);
+    fprintf(to, "%s\n", words.text);
+    return EXIT_REFUSED;
+}
+
+static void total(FILE *to, int64_t amount) {
+    char figures[FIGURES];
+    fprintf(to, "Total %s\n", amount_figures(figures, amount));
+}
+
+int command_districts(struct table *t, const struct options *with, struct output *o) {
+    uint32_t ends[ENDS];
+    size_t count = (size_t)with->count, i;
+    struct star_answer a;
+    FILE *to;
+    int status = ends_read(with, ends);
+    if (status != 0) return status;
+    a = table_districts(t, ends, count, forests);
+    if (a.kind != STAR_PASSED) return refused(with->table ? stderr : output_open(o), t, a, ends, count);
+    to = output_open(o);
+    if (!to) return EXIT_UNWRITTEN;
+    if (with->table) {
+        table_write(to, t);
+        return EXIT_PASSED;
+    }
+    for (i = 0; i < count; i++) {
+        size_t first = i ? ends[i - 1] + (size_t)1 : 1;
+        if (first < ends[i]) fprintf(to, "District %zu, trenches %zu to %u:\n", i + 1, first, (unsigned)ends[i]);
+        else fprintf(to, "District %zu, trench %zu:\n", i + 1, first);
+        total(to, table_list(to, t, forests, first, ends[i]));
+    }
+    fprintf(to, "The city, from the districts' trenches:\n");
+    table_list(to, t, t->mark, 1, t->m);
+    total(to, a.amount);
+    fprintf(to, "No network of the whole table is cheaper.\n");
+    return EXIT_PASSED;
+}

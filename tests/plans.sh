@@ -1,0 +1,48 @@
+#!/usr/bin/env bash
+# Tests of the console's command districts; the stored cases of console.sh have the rest.
+# usage: plans.sh STAR..   the program, with words before it if it is to be run by another. Ends in one line 'N passed, M failed'.
+. "$(dirname "$0")/try.sh"
+city=console/examples/city.txt
+
+# Random files, against plain searches.
+python3 -B tests/plans.py "${star[@]}" >"$work/all"
+verdict plans $?
+
+# The examples. The city's total is that of build, whatever the districts are; the mended plan passes.
+for ends in 1024 '200 1024' '100 101 300 555 556 800 900 1024'; do
+    try "districts of the city: $ends" 0 '^Total 130316$' '' districts $city $ends
+    "${star[@]}" districts --table $city $ends | "${star[@]}" check - >"$work/all"
+    verdict "districts of the city, checked: $ends" $?
+done
+try districts-street 0 '^Total 249$' '' districts $street 5 12
+# The largest tables, and one trench more.
+for ((u = 1; u < 46; u++)); do for ((v = u + 1; v <= 46; v++)); do echo "$u $v $((u * v % 50)) $(((u + v) % 2))"; done; done | head -n 1024 >"$work/full.txt"
+{ cat "$work/full.txt"; echo '45 46 3 0'; } >"$work/more.txt"
+for words in 'districts %s 1024'; do
+    try "full: $words" 0 '.' '' ${words/\%s/$work/full.txt}
+    try "more: $words" 2 'Refused \(2\): .*more.txt: there are 1025 trenches; at most 1024' '' ${words/\%s/$work/more.txt}
+done
+
+# Usage, what is refused before anything is written, output that cannot be written.
+try districts-word 4 "a district is given by the number of its last trench, and not by 'x'" '' districts $yard 2 x
+try districts-below-0 4 "a district is given by the number of its last trench, and not by '-1'" '' districts $yard -1 5
+try districts-missing 3 'nowhere.txt: No such file' '' districts nowhere.txt 5
+try districts-option 4 "unknown option '--all'" '' districts --all $yard 5
+for words in "districts --table -o %s $yard 4"; do
+    echo kept >"$work/kept.txt"
+    try "refused: $words" 2 '^Refused' '' ${words/\%s/$work/kept.txt}
+    [ "$(cat "$work/kept.txt")" = kept ] && [ ! -s "$work/out" ]
+    verdict "refused, and nothing written: $words" $?
+done
+for words in "districts $yard 5" "districts --table $yard 5"; do
+    "${star[@]}" $words >/dev/full 2>"$work/all"
+    [ $? = 5 ] && grep -q 'standard output: it could not be written: No space left' "$work/all"
+    verdict "full: $words" $?
+    "${star[@]}" $words >&- 2>"$work/all"
+    [ $? = 5 ] && grep -q 'standard output: it could not be written' "$work/all"
+    verdict "closed: $words" $?
+done
+for word in districts; do try "help: $word" 0 "^ +star $word " '' $word --help; done
+
+echo "$passed passed, $failed failed"
+[ "$failed" = 0 ]
