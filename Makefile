@@ -12,7 +12,6 @@ PREFIX ?= /usr/local
 BUILD := target/c
 # The crates whose functions for C the library is made of.
 DOORS := door workdoor changedoor importdoor digsdoor quotedoor breakingdoor whichdoor districtsdoor
-STAMPS := $(DOORS:%=target/stamp/%)
 STAMPS := $(DOORS:%=target/stamp/%) target/stamp/programs
 ARCHIVES := $(DOORS:%=target/staticlib/lib%.a)
 ARCHIVE := $(BUILD)/libproved.a

@@ -51,7 +51,6 @@ for asked in quote breaking which digs; do
     controls "${asked}_test_faulty" $(sed -n 's/.*fault("\([^"]*\)").*/\1/p' "tests/faulty_$asked.c")
 done
 
-# The import, on texts whose answers a plain reader gives: the door, in a thread of 1 MiB, and the program.
 # Districts, in the same way: a name and how many tables.
 for plan in 'districts 50000'; do
     read -r name tables <<<"$plan"
@@ -60,7 +59,7 @@ for plan in 'districts 50000'; do
     controls "${name}_test_faulty" $(grep -o 'fault("[^"]*")' "tests/faulty_$name.c" | cut -d '"' -f 2 | sort -u)
 done
 
-# The import, on texts whose answers a plain reader gives: the door, in a thread of 1 MiB, and the program, run under the kit's loader as rt does.
+# The import, on texts whose answers a plain reader gives: the door, in a thread of 1 MiB, and the program.
 python3 -B tests/stp/generate.py "$work/texts"
 "$build/import_test" "$work/texts" | tee "$work/import"
 add "$work/import"
