@@ -9,9 +9,11 @@ use mathlib.Core.Path.{_≡_}
 use lib.Dec.{eqb}
 use lib.IntN.{ℤ, pos, negsuc}
 use lib.ListN.{replicate}
-use Rattle.listing.specs.DigList.{digList, refusedLine, tableList, textList, printed}
+use Rattle.listing.specs.DigList.{digList, refusedLine, unlisted, tableList, textList, printed}
+use Rattle.listing.specs.Door.{listFields, textFields, withList}
 use Rattle.listing.specs.Reading.{Dig, Listed, read}
 use Rattle.star.specs.Call.{Call, tableOf, callOf}
+use Rattle.star.specs.Door.{fieldBytes}
 use Rattle.words.specs.Bytes.{bytes}
 
 -- a weight below 256 as four bytes
@@ -96,8 +98,30 @@ ReadHold =
     ∷ none ∷ none ∷ none ∷ none ∷ none
     ∷ [])
 
+-- the door's bytes: the length of a list of one vertex; 11 of a table, and 12 at 65,536 of a text
+abbrev pub BytesHold : Type 0
+BytesHold =
+    (
+    fieldBytes (listFields (tableList (callOf 1 [] [] [] [])))
+    ∷ fieldBytes (listFields (tableList (callOf 2 [] [] [] [])))
+    ∷ fieldBytes (textFields (unlisted (record { number = 12; place = 65536 })))
+    ∷ [])
+    ≡ (
+    (1 ∷ 0 ∷ 0 ∷ 0 ∷ 0 ∷ 0 ∷ 0 ∷ 0 ∷ 8 ∷ 0 ∷ 0 ∷ 0 ∷ 0 ∷ 0 ∷ 0 ∷ 0 ∷ [])
+    ∷ (0 ∷ 11 ∷ 0 ∷ 0 ∷ 0 ∷ 0 ∷ 0 ∷ 0 ∷ 0 ∷ 0 ∷ 0 ∷ 0 ∷ 0 ∷ 0 ∷ 0 ∷ 0 ∷ [])
+    ∷ (0 ∷ 12 ∷ 0 ∷ 0 ∷ 0 ∷ 0 ∷ 0 ∷ 0 ∷ 0 ∷ 0 ∷ 1 ∷ 0 ∷ 0 ∷ 0 ∷ 0 ∷ 0 ∷ [])
+    ∷ [])
+
+-- the lent text: the list at its start, and behind it what it held; a refusal leaves it
+abbrev pub BehindHold : Type 0
+BehindHold =
+    (withList (tableList (callOf 1 [] [] [] [])) (bytes "0123456789") ∷ withList (tableList (callOf 2 [] [] [] [])) (bytes "0123456789") ∷ [])
+    ≡ (bytes "Total 0\n89" ∷ bytes "0123456789" ∷ [])
+
 -- the theorem: each trial gives what it should
 pub record TrialsHold : Type 0 where
   pub printed-hold : PrintedHold
   pub texts-hold : TextsHold
   pub read-hold : ReadHold
+  pub bytes-hold : BytesHold
+  pub behind-hold : BehindHold
