@@ -17,7 +17,7 @@ returns-2 : tie.Need-returns-2
 unfolding doorReturns wellLent mendDoor mendDoorMarks mendDoorList
 returns-2 c =
     let d = c .before .before .before .before .before .before .before .before .before .mend .ensures in
-    rw (eq-eqb (length (c .before .before .before .before .before .before .before .before .before .before .before .before .before .before .before .before .before .before .args .answer .now)) 16 (omega arith)) (
+    rw (eq-eqb (length (c .before .before .before .before .before .before .before .before .before .before .before .before .before .before .before .before .before .before .before .args .answer .now)) 16 (omega arith)) (
       refl,
       (c .before .before .write-answer .ensures ∙ ap (answerAfter _) (c .before .before .before .before .of-mended .ensures ∙ ap mendFields (d .0)), d .1, d .2),
     )
