@@ -35,21 +35,21 @@ module _ (g : Graph) (ok : Sound g) (w : ℕ → ℤ) (M : ℕ → Bool) (inside
   meant c m = ⊎-elim (λ (j, q, _, t, off, ring). subst (Meant g w M) (sym q) (dropped j t off ring)) (λ (j, q, _, r, apart). subst (Meant g w M) (sym q) (added j r apart)) (filled .meant c m)
 
   -- where there is a spanning tree, no vertex is left unjoined
-  spanned : (B : ℕ → Bool) → SpanningTree g B → unjoined g (gapless g M .marks) ≡ false
+  pub spanned : (B : ℕ → Bool) → SpanningTree g B → unjoined g (gapless g M .marks) ≡ false
   unfolding unjoined
   spanned B t =
       let tree = filled-tree g ok M inside (ringless g M) kept (gapless g M) filled B t in
       none-any (g .n) (λ v. not (joined g (gapless g M .marks) 1 v)) (λ v l u. rw (walk-joined g ok (gapless g M .marks) (tree .inside) 1 (omega arith) (ok .vertex) v (tree .reached v l u)))
 
   -- where no vertex is left unjoined, the marks are a spanning tree
-  joined-tree : unjoined g (gapless g M .marks) ≡ false → SpanningTree g (gapless g M .marks)
+  pub joined-tree : unjoined g (gapless g M .marks) ≡ false → SpanningTree g (gapless g M .marks)
   unfolding unjoined
   joined-tree e =
       let walk : (v : ℕ) → 1 ≤ v → v ≤ g .n → Walk g (gapless g M .marks) 1 v = λ v l u. joined-walk g (gapless g M .marks) 1 v (not-false _ (any-none (g .n) (λ v. not (joined g (gapless g M .marks) 1 v)) e v l u)) in
       let (B, t) = connected-spanning g ok w (λ v l u. walk-over-more (filled .within) (walk v l u)) in
       filled-tree g ok M inside (ringless g M) kept (gapless g M) filled B t
 
-  mends : unjoined g (gapless g M .marks) ≡ false → Mends g w M (exchanged g w M)
+  pub mends : unjoined g (gapless g M .marks) ≡ false → Mends g w M (exchanged g w M)
   unfolding exchanged
   mends e =
       let visited = visited-after g ok w M (gapless g M) (joined-tree e) (filled .applied) meant (g .m) in

@@ -55,7 +55,7 @@ module _ (g : Graph) (ok : Sound g) (w : ℕ → ℤ) (S : ℕ → Bool) (tree :
           omega arith
 
   -- the row that goes out is on the path, is heavier, and no row on the path is heavier than it
-  rowOut-some : (f j : ℕ) → rowOut g w S f ≡ suc j → (onPath g S (g .a f) (g .b f) (suc j) ≡ true) × (w f <ℤ w (suc j)) × ((k : ℕ) → onPath g S (g .a f) (g .b f) k ≡ true → w k ≤ℤ w (suc j))
+  pub rowOut-some : (f j : ℕ) → rowOut g w S f ≡ suc j → (onPath g S (g .a f) (g .b f) (suc j) ≡ true) × (w f <ℤ w (suc j)) × ((k : ℕ) → onPath g S (g .a f) (g .b f) k ≡ true → w k ≤ℤ w (suc j))
   unfolding rowOut heavierThan
   rowOut-some f j s =
       let t = uppermost-some (g .m) j (largest (g .m) w (heavierThan g w S f)) s .0 in

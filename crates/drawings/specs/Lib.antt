@@ -1,0 +1,4 @@
+pub mod Mend
+pub mod Door
+pub mod Means
+pub mod Trials

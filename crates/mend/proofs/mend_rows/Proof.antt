@@ -1,0 +1,34 @@
+-- `mend::mend_rows` meets its contract: the call is refused, or the three passes are made.
+-- Assumes nothing.
+use borrow.Author.Needs.{needs}
+use mathlib.Core.Path.{sym, _∙_, ap}
+use Rattle.refusal.specs.Outcomes.{refusalOf}
+use Rattle.mend.proofs.Answers.{call-refused}
+use Rattle.mend.specs.Answers.{answerOf}
+use Rattle.mend.proofs.mend_rows.Statement.{statement}
+use Rattle.mend.proofs.mend_rows.Tie as tie
+
+returns : tie.Need-returns
+unfolding answerOf refusalOf
+returns c = call-refused _ _ _ (sym (c .before .before .before .mend-check .ensures) ∙ ap refusalOf (c .before .refusal .given .1))
+
+redraw-requires : tie.Need-redraw-requires
+unfolding refusalOf
+redraw-requires c κs = sym (c .before .before .before .before .mend-check .ensures) ∙ ap refusalOf (c .before .before .enum-told .given .1)
+
+returns-2 : tie.Need-returns-2
+returns-2 c = c .before .before .before .before .redraw .ensures
+
+pub mend-rows-spec : {M : Type 1} → statement M
+mend-rows-spec =
+    tie.close
+    (tie.spec
+    (λ c κs. search needs)
+    (λ c. search needs)
+    (λ c. search needs)
+    returns
+    (λ c. search needs)
+    redraw-requires
+    (λ c. search needs)
+    (λ c. search needs)
+    returns-2)

@@ -1,0 +1,596 @@
+// Mending an old claim: marks that close a ring are dropped, rows that join two groups are added, and each unmarked row from the top is exchanged for the heaviest row of its path where that is heavier.
+// Each drop, addition and exchange becomes a record, three numbers of a lent list. Claim and list are written once nothing can be refused any more.
+ghost use Prim.Native.Nat.{ℕ, _+_, _*_, _^_, _-_, _/_, _<_, _≤_};
+ghost use lib.Dec.{ltb};
+ghost use lib.ListN.{length, take, drop};
+ghost use mathlib.Core.Bool.{Bool, true, cond};
+ghost use mathlib.Core.List.{List, _++_};
+ghost use mathlib.Core.Option.{none};
+ghost use mathlib.Core.Path.{_≡_};
+ghost use Rattle.matrix.specs.Matrix.{matrixColumn};
+ghost use Rattle.refusal.specs.Outcomes.{refusalOf};
+ghost use Rattle.rowset.specs.Bytes.{inRow};
+ghost use Rattle.rowset.specs.Columns.{width};
+ghost use Rattle.rowset.specs.Integers.{integerIn, signed};
+ghost use Rattle.rowset.specs.Sets.{upTo, both};
+ghost use Rattle.slice.specs.Slices.{size, component};
+ghost use Rattle.star.specs.Call.{Call, tableOf, callOf, workOf, claimOf};
+ghost use Rattle.star.specs.MatrixPath.{matrixPath, matrixAfter};
+ghost use Rattle.star.specs.Refusals.{orElse, refusal};
+ghost use Rattle.table.specs.Loads.{loadedRow};
+ghost use Rattle.drawings.specs.Mend.{claimCauses, fewRecords, redrawn, unmended, mend, mendMarks, mendList};
+ghost use Rattle.mend.specs.Answers.{answerOf};
+ghost use Rattle.mend.specs.steps.Machine.{stateOf, stored, renamed, allRenamed, labelsFrom, apart, joinedLabels, dropAt, addAt, pathOf, outOf, swapped, swapAt, visits, twoPasses};
+use checks::row_byte;
+use claim::flipped_weight;
+use refusal::Outcome;
+use refusal::Refusal;
+use slice::SIZE;
+use slice::Slice;
+use slice::WORDS;
+use slice::rows::rows_among;
+use slice::rows::rows_to;
+use slice::words::rows_in_use;
+
+// The vertices that can be, and the numbers of the records of three passes over 1,024 rows.
+const VERTICES: usize = 255;
+
+const NUMBERS: usize = 9216;
+
+// The numbers of a record.
+const FIELDS: usize = 3;
+
+// The kinds of records.
+const DROP: u32 = 1;
+
+const ADDITION: u32 = 2;
+
+const EXCHANGE: u32 = 3;
+
+// What the mender answers: the number of records, or the refusal.
+pub enum Mended {
+    Records(u32),
+    Refused(Refusal),
+}
+
+// The drawing while it is mended: the rows marked by now, and the number of records.
+struct Drawn {
+    marks: Slice,
+    count: usize,
+}
+
+// The labels of vertices 1 to 255.
+struct Labels {
+    labels: [u8; VERTICES],
+}
+
+// Writes record k of the list, counted from 0: the one place where a record is stored.
+fn store(list: &mut [u32], k: usize, kind: u32, out: u32, into: u32)
+    requires { ⌜ 3 * k + 3 ≤ length (now list) ⌝ }
+    ensures { λ r. ⌜ now (list .exit) ≡ stored (now (list .entry)) k kind out into ⌝ }
+{
+    let at = FIELDS * k;
+    list[at] = kind;
+    list[at + 1] = out;
+    list[at + 2] = into;
+}
+
+// A label, where label x becomes y.
+fn rename(z: u8, x: u8, y: u8) -> u8
+    ensures { λ r. ⌜ r ≡ renamed z x y ⌝ }
+{
+    if z == x { y } else { z }
+}
+
+// Label x becomes y at every vertex that has it.
+fn rename_all(labels: &mut [u8], x: u8, y: u8)
+    ensures { λ r. ⌜ now (labels .exit) ≡ allRenamed (now (labels .entry)) x y ⌝ }
+{
+    let mut i = 0;
+    while i < labels.len() {
+        labels[i] = rename(labels[i], x, y);
+        i += 1;
+    }
+}
+
+// Each vertex is a group of its own.
+fn own_labels() -> Labels
+    ensures { λ r. ⌜ r .labels ≡ labelsFrom 0 255 ⌝ }
+{
+    let mut labels = [0u8; VERTICES];
+    let mut i = 0;
+    while i < VERTICES {
+        labels[i] = (i + 1) as u8;
+        i += 1;
+    }
+    Labels { labels: labels }
+}
+
+// Whether vertices a and b are of two groups, which then become one.
+fn join(labels: &mut [u8], a: u8, b: u8) -> bool
+    ensures apart { λ r. ⌜ r ≡ apart (now (labels .entry)) a b ⌝ }
+    ensures joined { λ r. ⌜ now (labels .exit) ≡ joinedLabels (now (labels .entry)) a b ⌝ }
+{
+    let x = row_byte(labels, b as usize);
+    let y = row_byte(labels, a as usize);
+    if x == y {
+        return false;
+    }
+    rename_all(labels, x, y);
+    true
+}
+
+// The first pass at row i: a marked row whose ends earlier kept marks join is dropped.
+fn drop_at(
+    left: &[u8],
+    right: &[u8],
+    i: usize,
+    s: Drawn,
+    list: &mut [u32],
+    labels: &mut [u8],
+) -> Drawn
+    requires { ⌜ (i < 2 ^ 32) × (3 * s .count + 3 ≤ length (now list)) ⌝ }
+    ensures { λ r. ⌜ stateOf r (now (list .exit)) (now (labels .exit)) ≡ dropAt (now (left .entry)) (now (right .entry)) i (stateOf s (now (list .entry)) (now (labels .entry))) ⌝ }
+{
+    if !slice::get(s.marks, i) {
+        return s;
+    }
+    if join(labels, row_byte(left, i), row_byte(right, i)) {
+        return s;
+    }
+    let count = s.count;
+    store(list, count, DROP, i as u32, 0);
+    Drawn {
+        marks: slice::put(s.marks, i, false),
+        count: count + 1,
+    }
+}
+
+// The first pass over rows 1 to m.
+fn drop_rings(
+    m: usize,
+    left: &[u8],
+    right: &[u8],
+    marked: Slice,
+    list: &mut [u32],
+    labels: &mut [u8],
+) -> Drawn
+    requires { ⌜ (m ≤ size) × (3 * m ≤ length (now list)) ⌝ }
+    ensures passed { λ r. ⌜ stateOf r (now (list .exit)) (now (labels .exit)) ≡ visits (dropAt (now (left .entry)) (now (right .entry))) m (record { marks = component marked; count = 0; list = now (list .entry); own = now (labels .entry) }) ⌝ }
+    ensures few { λ r. ⌜ r .count ≤ m ⌝ }
+{
+    let mut s = Drawn {
+        marks: marked,
+        count: 0,
+    };
+    let mut i = 0;
+    while i < m {
+        s = drop_at(left, right, i + 1, s, list, labels);
+        i += 1;
+    }
+    s
+}
+
+// The second pass at row i: a row in use that joins two groups is added.
+fn add_at(
+    used: Slice,
+    left: &[u8],
+    right: &[u8],
+    i: usize,
+    s: Drawn,
+    list: &mut [u32],
+    labels: &mut [u8],
+) -> Drawn
+    requires { ⌜ (i < 2 ^ 32) × (3 * s .count + 3 ≤ length (now list)) ⌝ }
+    ensures { λ r. ⌜ stateOf r (now (list .exit)) (now (labels .exit)) ≡ addAt (component used) (now (left .entry)) (now (right .entry)) i (stateOf s (now (list .entry)) (now (labels .entry))) ⌝ }
+{
+    if !slice::get(used, i) {
+        return s;
+    }
+    if !join(labels, row_byte(left, i), row_byte(right, i)) {
+        return s;
+    }
+    let count = s.count;
+    store(list, count, ADDITION, 0, i as u32);
+    Drawn {
+        marks: slice::put(s.marks, i, true),
+        count: count + 1,
+    }
+}
+
+// The second pass over rows 1 to m.
+fn close_gaps(
+    m: usize,
+    used: Slice,
+    left: &[u8],
+    right: &[u8],
+    start: Drawn,
+    list: &mut [u32],
+    labels: &mut [u8],
+) -> Drawn
+    requires { ⌜ (m ≤ size) × (start .count ≤ m) × (6 * m ≤ length (now list)) ⌝ }
+    ensures passed { λ r. ⌜ stateOf r (now (list .exit)) (now (labels .exit)) ≡ visits (addAt (component used) (now (left .entry)) (now (right .entry))) m (stateOf start (now (list .entry)) (now (labels .entry))) ⌝ }
+    ensures few { λ r. ⌜ r .count ≤ 2 * m ⌝ }
+{
+    let mut s = start;
+    let mut i = 0;
+    while i < m {
+        s = add_at(used, left, right, i + 1, s, list, labels);
+        i += 1;
+    }
+    s
+}
+
+// The first two passes.
+fn join_groups(
+    m: usize,
+    used: Slice,
+    left: &[u8],
+    right: &[u8],
+    marked: Slice,
+    list: &mut [u32],
+) -> Drawn
+    requires { ⌜ (m ≤ size) × (6 * m ≤ length (now list)) ⌝ }
+    ensures marks { λ r. ⌜ component (r .marks) ≡ twoPasses m (component used) (component marked) (now (left .entry)) (now (right .entry)) (now (list .entry)) .marks ⌝ }
+    ensures count { λ r. ⌜ r .count ≡ twoPasses m (component used) (component marked) (now (left .entry)) (now (right .entry)) (now (list .entry)) .count ⌝ }
+    ensures list { λ r. ⌜ now (list .exit) ≡ twoPasses m (component used) (component marked) (now (left .entry)) (now (right .entry)) (now (list .entry)) .list ⌝ }
+    ensures few { λ r. ⌜ r .count ≤ 2 * m ⌝ }
+{
+    let own = own_labels();
+    let mut labels = own.labels;
+    let ringless = drop_rings(m, left, right, marked, list, &mut labels);
+    close_gaps(m, used, left, right, ringless, list, &mut labels)
+}
+
+// The rows on the tree path between row i's ends, from the path matrix.
+fn path_of(own: &[u64], left: &[u8], right: &[u8], i: usize) -> Slice
+    ensures { λ r. ⌜ component r ≡ pathOf (now (own .entry)) (now (left .entry)) (now (right .entry)) i ⌝ }
+{
+    let a = row_byte(left, i) as usize;
+    let b = row_byte(right, i) as usize;
+    slice::xor(matrix::read_column(own, a), matrix::read_column(own, b))
+}
+
+// FND of MAX: the heaviest row of a path, the uppermost among equals, where it is heavier than row i; else 0. `weights` has the words of the weight column as a table, of which the first columns are left out.
+fn row_out(path: Slice, weights: &[u64], first: usize, weight: &[u8], i: usize) -> usize
+    ensures { λ r. ⌜ r ≡ outOf (integerIn (matrixColumn (now (weights .entry))) first (width - first)) (now (weight .entry)) (component path) i ⌝ }
+{
+    let e = slice::fnd(lent::max_from(weights, first, path));
+    if flipped_weight(weight, i) < flipped_weight(weight, e) {
+        return e;
+    }
+    0
+}
+
+// Row out of row i's path goes out and row i comes in: the columns of the path matrix that have it are turned over by the ring.
+fn swap(
+    n: usize,
+    path: Slice,
+    out: usize,
+    i: usize,
+    s: Drawn,
+    list: &mut [u32],
+    own: &mut [u64],
+) -> Drawn
+    requires { ⌜ (out ≤ size) × (i < 2 ^ 32) × (3 * s .count + 3 ≤ length (now list)) ⌝ }
+    ensures { λ r. ⌜ stateOf r (now (list .exit)) (now (own .exit)) ≡ swapped n (component path) out i (stateOf s (now (list .entry)) (now (own .entry))) ⌝ }
+{
+    exchange::turn_columns(own, n, out, slice::put(path, i, true));
+    let count = s.count;
+    store(list, count, EXCHANGE, out as u32, i as u32);
+    Drawn {
+        marks: slice::put(slice::put(s.marks, out, false), i, true),
+        count: count + 1,
+    }
+}
+
+// The third pass at row i: where the heaviest row of an unmarked row's path is heavier, the two are exchanged.
+fn swap_at(
+    n: usize,
+    used: Slice,
+    left: &[u8],
+    right: &[u8],
+    weight: &[u8],
+    weights: &[u64],
+    first: usize,
+    i: usize,
+    s: Drawn,
+    list: &mut [u32],
+    own: &mut [u64],
+) -> Drawn
+    requires { ⌜ (i < 2 ^ 32) × (3 * s .count + 3 ≤ length (now list)) ⌝ }
+    ensures { λ r. ⌜ stateOf r (now (list .exit)) (now (own .exit)) ≡ swapAt n (component used) (integerIn (matrixColumn (now (weights .entry))) first (width - first)) (now (left .entry)) (now (right .entry)) (now (weight .entry)) i (stateOf s (now (list .entry)) (now (own .entry))) ⌝ }
+{
+    if !slice::get(used, i) {
+        return s;
+    }
+    if slice::get(s.marks, i) {
+        return s;
+    }
+    let path = path_of(own, left, right, i);
+    let out = row_out(path, weights, first, weight, i);
+    if out == 0 {
+        return s;
+    }
+    swap(n, path, out, i, s, list, own)
+}
+
+// The third pass over rows 1 to m.
+fn swap_rows(
+    n: usize,
+    m: usize,
+    used: Slice,
+    left: &[u8],
+    right: &[u8],
+    weight: &[u8],
+    weights: &[u64],
+    first: usize,
+    start: Drawn,
+    list: &mut [u32],
+    own: &mut [u64],
+) -> Drawn
+    requires { ⌜ (m ≤ size) × (start .count ≤ 2 * m) × (9 * m ≤ length (now list)) ⌝ }
+    ensures passed { λ r. ⌜ stateOf r (now (list .exit)) (now (own .exit)) ≡ visits (swapAt n (component used) (integerIn (matrixColumn (now (weights .entry))) first (width - first)) (now (left .entry)) (now (right .entry)) (now (weight .entry))) m (stateOf start (now (list .entry)) (now (own .entry))) ⌝ }
+    ensures few { λ r. ⌜ r .count ≤ 3 * m ⌝ }
+{
+    let mut s = start;
+    let mut i = 0;
+    while i < m {
+        s = swap_at(
+            n,
+            used,
+            left,
+            right,
+            weight,
+            weights,
+            first,
+            i + 1,
+            s,
+            list,
+            own,
+        );
+        i += 1;
+    }
+    s
+}
+
+// The third pass with the weight column stored once as a table's columns. The weight column is one that can be loaded.
+fn exchange_rows(
+    n: usize,
+    m: usize,
+    used: Slice,
+    left: &[u8],
+    right: &[u8],
+    weight: &[u8],
+    start: Drawn,
+    list: &mut [u32],
+    own: &mut [u64],
+) -> Drawn
+    requires { ⌜ (m ≤ size) × (start .count ≤ 2 * m) × (9 * m ≤ length (now list)) × (loadedRow 4 (now weight) ≡ inRow 4 (now weight)) ⌝ }
+    ensures passed { λ r. ⌜ stateOf r (now (list .exit)) (now (own .exit)) ≡ visits (swapAt n (component used) (λ k. signed (inRow 4 (now (weight .entry)) k)) (now (left .entry)) (now (right .entry)) (now (weight .entry))) m (stateOf start (now (list .entry)) (now (own .entry))) ⌝ }
+    ensures few { λ r. ⌜ r .count ≤ 3 * m ⌝ }
+{
+    let weights = table::load_quads(weight).table;
+    let first = search::sign_columns(weights);
+    let stored = lent::columns_of(weights);
+    swap_rows(
+        n,
+        m,
+        used,
+        left,
+        right,
+        weight,
+        &stored.columns,
+        first,
+        start,
+        list,
+        own,
+    )
+}
+
+// MatrixPath from vertex 1 of the claim that marks these rows.
+fn tree_paths(
+    n: u32,
+    m: usize,
+    whole: bool,
+    rows: Slice,
+    left: &[u8],
+    right: &[u8],
+    weight: &[u8],
+    marks: Slice,
+    own: &mut [u64],
+) -> Outcome
+    requires { ⌜ m ≤ size ⌝ }
+    ensures { λ o.
+        let c = tableOf n m whole (component rows) (now (left .entry)) (now (right .entry)) (now (weight .entry)) (claimOf m (component marks)) in
+        ⌜ (refusalOf o ≡ matrixPath c 1 (now (own .entry))) × (now (own .exit) ≡ matrixAfter c 1 (now (own .entry))) ⌝ }
+{
+    let mut plan = [0u8; SIZE];
+    claim::write_claim(&mut plan, marks);
+    path::matrix_path_rows(n, m, whole, rows, left, right, weight, &plan[..m], 1, own)
+}
+
+// The byte of row i in the mended claim: as it was where the row is not in use.
+fn mark_of(old: u8, used: Slice, marks: Slice, i: usize) -> u8
+    ensures { λ r. ⌜ r ≡ cond (component used i) (cond (component marks i) 1 0) old ⌝ }
+{
+    if slice::get(used, i) {
+        return slice::get(marks, i) as u8;
+    }
+    old
+}
+
+// The mended claim is written, at rows in use alone.
+fn write_marks(mark: &mut [u8], used: Slice, marks: Slice)
+    ensures { λ r. ⌜ now (mark .exit) ≡ redrawn (component used) (component marks) (now (mark .entry)) ⌝ }
+{
+    let mut i = 0;
+    while i < mark.len() {
+        mark[i] = mark_of(mark[i], used, marks, i + 1);
+        i += 1;
+    }
+}
+
+// The first `count` records of the list become the first of the lent records.
+fn write_records(records: &mut [u32], list: &[u32], count: usize)
+    requires { ⌜ (3 * count ≤ length (now records)) × (3 * count ≤ length (now list)) ⌝ }
+    ensures { λ u. ⌜ now (records .exit) ≡ take (3 * count) (now (list .entry)) ++ drop (3 * count) (now (records .entry)) ⌝ }
+{
+    let numbers = FIELDS * count;
+    let mut k = 0;
+    while k < numbers {
+        records[k] = list[k];
+        k += 1;
+    }
+}
+
+// Causes 1 to 4, 15 and 6, and 16 where a list of so many numbers has fewer than two records a row.
+fn mend_check(
+    n: u32,
+    m: usize,
+    whole: bool,
+    rows: Slice,
+    left: &[u8],
+    right: &[u8],
+    weight: &[u8],
+    mark: &[u8],
+    numbers: usize,
+) -> Outcome
+    ensures { λ r.
+        let c = tableOf n m whole (component rows) (now (left .entry)) (now (right .entry)) (now (weight .entry)) (now (mark .entry)) in
+        ⌜ refusalOf r ≡ orElse (refusal (claimCauses c)) (fewRecords m (numbers / 3)) ⌝ }
+{
+    let claim = checks::claim_check(n, m, whole, rows, left, right, weight, mark);
+    checks::first(claim, checks::refused_if(numbers / (2 * FIELDS) < m, 16))
+}
+
+// Refused 11: no spanning tree exists.
+fn no_tree() -> Mended
+    ensures { λ r. ⌜ answerOf r ≡ unmended (record { number = 11; place = 0 }) ⌝ }
+{
+    Mended::Refused(Refusal {
+        number: 11,
+        place: 0,
+    })
+}
+
+// The three passes over a call that nothing but cause 11 can refuse: the records are kept in a list of the mender's own, and claim and records are written once a tree is known to exist.
+fn redraw(
+    n: u32,
+    m: usize,
+    whole: bool,
+    rows: Slice,
+    left: &[u8],
+    right: &[u8],
+    weight: &[u8],
+    mark: &mut [u8],
+    records: &mut [u32],
+) -> Mended
+    requires { ⌜ orElse (refusal (claimCauses (tableOf n m whole (component rows) (now left) (now right) (now weight) (now mark)))) (fewRecords m (length (now records) / 3)) ≡ none ⌝ }
+    ensures { λ r.
+        let c = tableOf n m whole (component rows) (now (left .entry)) (now (right .entry)) (now (weight .entry)) (now (mark .entry)) in
+        ⌜ (answerOf r ≡ mend c (now (records .entry))) × (now (mark .exit) ≡ mendMarks c (now (records .entry))) × (now (records .exit) ≡ mendList c (now (records .entry))) ⌝ }
+{
+    let used = rows_among(m, rows);
+    let marked = claim::claim_rows(mark, used);
+    let mut list = [0u32; NUMBERS];
+    let tree = join_groups(m, used, left, right, marked, &mut list);
+    let mut own = [0u64; path::ALL_WORDS];
+    let walked = tree_paths(n, m, whole, rows, left, right, weight, tree.marks, &mut own);
+    let Outcome::Done = walked else {
+        return no_tree();
+    };
+    let least = exchange_rows(
+        n as usize,
+        m,
+        used,
+        left,
+        right,
+        weight,
+        tree,
+        &mut list,
+        &mut own,
+    );
+    let count = least.count;
+    write_marks(mark, used, least.marks);
+    write_records(records, &list, count);
+    Mended::Records(count as u32)
+}
+
+// Mending over a table of m rows, of which those of a slice are in use.
+pub fn mend_rows(
+    n: u32,
+    m: usize,
+    whole: bool,
+    rows: Slice,
+    left: &[u8],
+    right: &[u8],
+    weight: &[u8],
+    mark: &mut [u8],
+    records: &mut [u32],
+) -> Mended
+    ensures { λ r.
+        let c = tableOf n m whole (component rows) (now (left .entry)) (now (right .entry)) (now (weight .entry)) (now (mark .entry)) in
+        ⌜ (answerOf r ≡ mend c (now (records .entry))) × (now (mark .exit) ≡ mendMarks c (now (records .entry))) × (now (records .exit) ≡ mendList c (now (records .entry))) ⌝ }
+{
+    let numbers = records.len();
+    if let Outcome::Refused(refusal) = mend_check(
+        n,
+        m,
+        whole,
+        rows,
+        left,
+        right,
+        weight,
+        mark,
+        numbers,
+    ) {
+        return Mended::Refused(refusal);
+    }
+    redraw(n, m, whole, rows, left, right, weight, mark, records)
+}
+
+// Mending over a plain table: a row for each byte of the left column, all in use.
+pub fn mend(
+    n: u32,
+    left: &[u8],
+    right: &[u8],
+    weight: &[u8],
+    mark: &mut [u8],
+    records: &mut [u32],
+) -> Mended
+    ensures { λ r.
+        let c = callOf n (now (left .entry)) (now (right .entry)) (now (weight .entry)) (now (mark .entry)) in
+        ⌜ (answerOf r ≡ mend c (now (records .entry))) × (now (mark .exit) ≡ mendMarks c (now (records .entry))) × (now (records .exit) ≡ mendList c (now (records .entry))) ⌝ }
+{
+    let m = left.len();
+    mend_rows(n, m, true, rows_to(m), left, right, weight, mark, records)
+}
+
+// Mending over a working table: 1,024 rows, and the rows in use lent as sixteen words.
+pub fn work_mend(
+    n: u32,
+    words: &[u64],
+    left: &[u8],
+    right: &[u8],
+    weight: &[u8],
+    mark: &mut [u8],
+    records: &mut [u32],
+) -> Mended
+    ensures { λ r.
+        let c = workOf n (now (words .entry)) (now (left .entry)) (now (right .entry)) (now (weight .entry)) (now (mark .entry)) in
+        ⌜ (answerOf r ≡ mend c (now (records .entry))) × (now (mark .exit) ≡ mendMarks c (now (records .entry))) × (now (records .exit) ≡ mendList c (now (records .entry))) ⌝ }
+{
+    let whole = words.len() == WORDS;
+    mend_rows(
+        n,
+        SIZE,
+        whole,
+        rows_in_use(words),
+        left,
+        right,
+        weight,
+        mark,
+        records,
+    )
+}
