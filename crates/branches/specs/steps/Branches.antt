@@ -2,7 +2,9 @@
 -- Assumes nothing.
 use Prim.Native.Nat.{ℕ}
 use lib.Dec.{eqb}
+use lib.ListN.{getD}
 use mathlib.Core.Bool.{Bool, true, false, cond}
+use mathlib.Core.List.{List}
 use mathlib.Core.Path.{_≡_}
 use Rattle.degree.specs.Degree.{touches}
 use Rattle.graph.specs.Graph.{Graph}
@@ -24,3 +26,7 @@ hung branch v x u = cond (eqb u v) x (branch u)
 -- what hung on row e hangs on row x
 unfoldable pub moved : (ℕ → ℕ) → (e x : ℕ) → ℕ → ℕ
 moved branch e x v = cond (eqb (branch v) e) x (branch v)
+
+-- the branches that a column of numbers holds, one for each vertex from 0 on; past its end 0
+abbrev pub branchIn : List ℕ → ℕ → ℕ
+branchIn l v = getD l v 0
