@@ -1,17 +1,16 @@
 // The exchanges that take rows at a vertex out of a tree, one at a time. For each vertex a column of numbers says on which row at r it hangs;
 // an exchange takes the heavier of the two rows on which the ends of a row hang, and what hung on it hangs on the other then.
-ghost use Prim.Native.Nat.{_≤_, _<_};
-ghost use lib.ListN.{length};
 ghost use mathlib.Core.Bool.{cond};
 ghost use mathlib.Core.Path.{_≡_};
 ghost use lib.Dec.{eqb};
-ghost use Rattle.branches.specs.steps.Branches.{branchIn, moved};
+ghost use Rattle.branches.specs.steps.Branches.{branchIn};
 ghost use Rattle.branches.specs.steps.Offers.{heavierOf, heavier, costOf, offerOf, offerAt, better, bestTo, otherOf};
 ghost use Rattle.rowset.specs.Bytes.{inRow};
 ghost use Rattle.slice.specs.Slices.{component};
 ghost use Rattle.exchange.specs.steps.Columns.{priceIn, offerFrom};
-use claim::flipped_weight;
+ghost use Rattle.exchange.specs.steps.Exchanges.{movedIn, followed, swapped, exchangesTo, Ends};
 use checks::row_byte;
+use claim::flipped_weight;
 use slice::Slice;
 
 // 2 ^ 32, which is added to a cost.
@@ -22,6 +21,12 @@ pub struct Offer {
     pub row: usize,
     pub out: usize,
     pub cost: u64,
+}
+
+// What is left of a tree: whether all exchanges were made, and the rows then, none where they were not.
+pub struct Reduced {
+    pub whole: bool,
+    pub chosen: Slice,
 }
 
 // The row on which vertex v hangs, 0 past the column's end.
@@ -167,12 +172,62 @@ fn in_place(row: usize, e: usize, x: usize) -> usize
 
 // What hung on row e hangs on row x.
 fn move_branches(branch: &mut [usize], e: usize, x: usize)
-    requires { ⌜ 1 ≤ e ⌝ }
-    ensures { λ _. ⌜ (branchIn (now (branch .exit)) ≡ moved (branchIn (now (branch .entry))) e x) × (length (now (branch .exit)) ≡ length (now (branch .entry))) ⌝ }
+    ensures { λ _. ⌜ now (branch .exit) ≡ movedIn (now (branch .entry)) e x ⌝ }
 {
     let mut v = 0;
     while v < branch.len() {
         branch[v] = in_place(branch[v], e, x);
         v += 1;
+    }
+}
+
+// The branches after row e goes out for row f: what hung on e hangs where the other end of f does.
+fn follow(left: &[u8], right: &[u8], branch: &mut [usize], f: usize, e: usize)
+    ensures { λ _. ⌜ now (branch .exit) ≡ followed (inRow 1 (now (left .entry))) (inRow 1 (now (right .entry))) (now (branch .entry)) f e ⌝ }
+{
+    let x = branch_of(branch, row_byte(left, f) as usize);
+    let y = branch_of(branch, row_byte(right, f) as usize);
+    move_branches(branch, e, other_of(x, y, e));
+}
+
+// The rows of a tree with row e out and row f in.
+fn exchanged(tree: Slice, e: usize, f: usize) -> Slice
+    ensures { λ r. ⌜ component r ≡ swapped (component tree) e f ⌝ }
+{
+    slice::put(slice::put(tree, e, false), f, true)
+}
+
+// The tree after k exchanges of least cost, each for one of the rows 1 to m of a slice that has none at r.
+pub fn exchanges(
+    m: usize,
+    rows: Slice,
+    left: &[u8],
+    right: &[u8],
+    weight: &[u8],
+    k: usize,
+    tree: Slice,
+    branch: &mut [usize],
+) -> Reduced
+    ensures { λ r. ⌜ Ends (exchangesTo (inRow 1 (now (left .entry))) (inRow 1 (now (right .entry))) (priceIn (now (weight .entry))) (component rows) m k (record { chosen = component tree; branch = now (branch .entry) })) (r .whole) (component (r .chosen)) ⌝ }
+{
+    let mut chosen = tree;
+    let mut i = 0;
+    while i < k {
+        let best = best_offer(m, rows, left, right, weight, branch);
+        let f = best.row;
+        let e = best.out;
+        if f == 0 {
+            return Reduced {
+                whole: false,
+                chosen: Slice::empty(),
+            };
+        }
+        follow(left, right, branch, f, e);
+        chosen = exchanged(chosen, e, f);
+        i += 1;
+    }
+    Reduced {
+        whole: true,
+        chosen: chosen,
     }
 }

@@ -23,7 +23,7 @@ same-length : tie.Need-same-length Inv-loop μ-loop
 same-length c = c .before .loop .inv .full
 
 returns : tie.Need-returns Inv-loop μ-loop
-returns c = (moved-all _ _ _ _ _ (c .before .loop .inv) (omega (arith, c .before .loop .inv .full)) (c .before .before .before .pre), c .before .loop .inv .full)
+returns c = moved-all _ _ _ _ _ (c .before .loop .inv) (omega (arith, c .before .loop .inv .full))
 
 pub move-branches-spec : {M : Type 1} → statement M
 move-branches-spec =
