@@ -36,35 +36,35 @@ pub struct Grown {
 }
 
 // A fragment: the rows whose left end is in it, the rows whose right end is, and the chosen rows.
-struct Fragment {
-    lefts: Slice,
-    rights: Slice,
-    chosen: Slice,
+pub struct Fragment {
+    pub lefts: Slice,
+    pub rights: Slice,
+    pub chosen: Slice,
 }
 
 // FND of MIN: the uppermost row of x of least weight, 0 where x has no row.
-fn first_row(weight: Table, x: Slice) -> usize
+pub fn first_row(weight: Table, x: Slice) -> usize
     ensures { λ r. ⌜ r ≡ uppermost size (smallest size (λ i. signed (row weight i)) (component x)) ⌝ }
 {
     slice::fnd(search::min(weight, x))
 }
 
 // The same over a table's words, and over the columns after the first ones.
-fn cheapest(weight: &[u64], first: usize, x: Slice) -> usize
+pub fn cheapest(weight: &[u64], first: usize, x: Slice) -> usize
     ensures { λ r. ⌜ r ≡ uppermost size (smallest size (integerIn (matrixColumn (now (weight .entry))) first (width - first)) (component x)) ⌝ }
 {
     slice::fnd(lent::min_from(weight, first, x))
 }
 
 // x, and with it the rows that hold v, by MATCH over the columns after the first ones.
-fn reach(x: Slice, ends: &[u64], first: usize, v: u32, rows: Slice) -> Slice
+pub fn reach(x: Slice, ends: &[u64], first: usize, v: u32, rows: Slice) -> Slice
     ensures { λ r. ⌜ component r ≡ either (component x) (equalTo (inColumns (matrixColumn (now (ends .entry))) first (width - first)) v (component rows)) ⌝ }
 {
     slice::or(x, lent::match_from(ends, first, v, rows))
 }
 
 // The fragment of row i: both its ends.
-fn begin(left: Table, right: Table, rows: Slice, i: usize) -> Fragment
+pub fn begin(left: Table, right: Table, rows: Slice, i: usize) -> Fragment
     ensures lefts { λ r. ⌜ component (r .lefts) ≡ meeting (row left) (row left i) (row right i) (component rows) ⌝ }
     ensures rights { λ r. ⌜ component (r .rights) ≡ meeting (row right) (row left i) (row right i) (component rows) ⌝ }
     ensures chosen { λ r. ⌜ component (r .chosen) ≡ written empty i true ⌝ }
@@ -85,7 +85,7 @@ fn begin(left: Table, right: Table, rows: Slice, i: usize) -> Fragment
 }
 
 // No rows: the whole tree of one vertex, or what is left where there is no tree.
-fn nothing(whole: bool) -> Grown
+pub fn nothing(whole: bool) -> Grown
     ensures whole { λ r. ⌜ r .whole ≡ whole ⌝ }
     ensures chosen { λ r. ⌜ component (r .chosen) ≡ empty ⌝ }
 {
@@ -96,7 +96,7 @@ fn nothing(whole: bool) -> Grown
 }
 
 // The columns on the left that MATCH may leave out of a table of ends: those that are empty, none where column 1 is not.
-fn empty_columns(t: Table) -> usize
+pub fn empty_columns(t: Table) -> usize
     ensures { λ r. ⌜ inColumns (column t) r (width - r) ≡ row t ⌝ }
 {
     if slice::some(t.columns[0]) {
