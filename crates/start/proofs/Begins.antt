@@ -280,3 +280,12 @@ module _ (a b : ℕ → ℕ) (w : ℕ → ℤ) (rows : Slice) (n : ℕ) (ok : So
       go zero e lo hi = absurd (omega arith)
       go (suc zero) e lo hi = record { all = p ∙ rw e; rows = q ∙ rw e; hangs = λ t. rw q (empty-hangs branch) }
       go (suc (suc j)) e lo hi = absurd (omega arith)
+
+-- the rows that MATCH finds on either side are the rows at r
+pub rows-at-r : (a b : ℕ → ℕ) (rows : ℕ → Bool) (g : Graph) (r : ℕ) → g .a ≡ a → g .b ≡ b → either (equalTo a r rows) (equalTo b r rows) ≡ both rows (touches g r)
+unfolding either equalTo both touches
+rows-at-r a b rows g r ea eb = rw (ea, eb) (fun-ext (λ i. go (rows i) (eqb (a i) r) (eqb (b i) r)))
+  where
+    go : (p x y : Bool) → (p && x || p && y) ≡ (p && (x || y))
+    go true x y = refl
+    go false x y = refl
