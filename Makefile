@@ -10,7 +10,11 @@ CFLAGS ?= -O2 -g -Wall -Wextra -Wpedantic
 CXXFLAGS ?= -O2
 PREFIX ?= /usr/local
 BUILD := target/c
-ARCHIVE := target/staticlib/libdoor.a
+# The crates whose functions for C the library is made of.
+DOORS := door workdoor changedoor importdoor quotedoor
+STAMPS := $(DOORS:%=target/stamp/%)
+ARCHIVES := $(DOORS:%=target/staticlib/lib%.a)
+ARCHIVE := $(BUILD)/libproved.a
 LIBRARY := $(BUILD)/libstar.a
 CONSOLE := $(sort $(wildcard console/*.c))
 READSTP := target/bin/readstp
@@ -19,8 +23,8 @@ VERSION := $(shell sed -n 's/^\#define STAR_VERSION "\(.*\)"/\1/p' include/star.
 
 all: $(BUILD)/star
 
-# rt proves the core before it writes the archive, and does nothing where nothing has changed. On a fresh machine that takes minutes: a line
-# a crate that is proved is shown, and all that rt prints is kept in a log. The status stands in the log's last line.
+# rt proves the core, and does nothing where nothing has changed. On a fresh machine that takes minutes: a line a crate that is proved is
+# shown, and all that rt prints is kept in a log. The status stands in the log's last line.
 define PROVE
 @mkdir -p target; began=$$(date +%s); log=target/make-$(2).log; echo "proving what has changed; the log is $$log"; \
 { rt $(1) 2>&1; echo "status $$?"; } | tee $$log | grep --line-buffered '^rt: ' | grep --line-buffered -v 'unchanged since'; \
@@ -30,11 +34,24 @@ endef
 
 # What is installed is taken as it was built: make install alone asks rt for nothing that is there.
 ifneq ($(filter-out install uninstall,$(or $(MAKECMDGOALS),all)),)
-$(ARCHIVE) $(READSTP) $(DIGLIST): FORCE
+$(READSTP) $(DIGLIST): FORCE
+$(ARCHIVES): target/staticlib/lib%.a: target/stamp/%
 endif
 
-$(ARCHIVE):
-	$(call PROVE,staticlib door,library)
+# The crates of the doors. rt writes a crate's stamp where it has proved it anew, and leaves it as it is otherwise.
+proved:
+	$(call PROVE,check $(DOORS),library)
+$(STAMPS): proved ;
+
+# rt proves a crate once more before it writes its archive: that is done only where its stamp is newer.
+$(ARCHIVES): target/staticlib/lib%.a:
+	$(call PROVE,staticlib $*,$*)
+
+# One archive of all: each has one member, named after its crate, whose only global symbols are its functions for C.
+$(ARCHIVE): $(ARCHIVES) Makefile
+	@mkdir -p $(BUILD)
+	@rm -f $@
+	@{ echo "create $@"; printf 'addlib %s\n' $(ARCHIVES); echo save; echo end; } | $(AR) -M
 
 # The program that prints what an STP text holds, proved as well.
 $(READSTP):
@@ -123,4 +140,4 @@ clean:
 	rm -rf target
 
 FORCE:
-.PHONY: all run test outside bench install uninstall clean FORCE
+.PHONY: all proved run test outside bench install uninstall clean FORCE

@@ -123,6 +123,16 @@ holds prices-c99 "$compiler" -std=c99 "${strict[@]}" -Wconversion -o "$work/pric
 holds prices-c++17 "$plus" -std=c++17 "${strict[@]}" -Wconversion -o "$work/prices-cpp" -x c++ "$work/prices.c" -x none "${flags[@]}"
 for language in c cpp; do holds "prices-$language" "$work/prices-$language"; done
 
+# The library has every function that the header declares, one of each name, and no other global name.
+sed -n 's/^uint32_t \(star_[a-z0-9_]*\)(.*/\1/p; s/^const char \*\(star_[a-z0-9_]*\)(.*/\1/p' "$to/include/star.h" | sort >"$work/declared"
+if command -v nm >/dev/null; then
+    nm -g --defined-only "$to/lib/libstar.a" | awk 'NF == 3 { print $3 }' | sort >"$work/defined"
+    holds declared [ -s "$work/declared" ]
+    holds defined [ -z "$(comm -23 "$work/declared" "$work/defined")" ]
+    holds defined-once [ -z "$(uniq -d "$work/defined")" ]
+    holds no-other-names fails grep -qv '^star_' "$work/defined"
+fi
+
 # The manual page: every command, option and status of the help, and no fault that a formatter finds.
 manual=$to/share/man/man1/star.1
 for word in check build explain page draw dot table strike add merge struck '\\-\\-table' '\\-\\-all' '\\-o' '\\-h' '\\-\\-help' '\\-\\-version'; do holds "manual $word" grep -q -- "$word" "$manual"; done
@@ -139,11 +149,15 @@ holds uninstalled [ "$(find "$to" -type f)" = "$to/bin/other" ]
 cp -r Makefile include console "$work/no-rt"
 cat >"$work/no-rt/rt" <<'TEXT'
 #!/bin/sh
+echo "$*" >>asked
 echo "fn rowset::a: proved"; echo "library std: modules loaded=0"; echo "rt: rowset proved (12 s)"; echo "rt: slice proved (unchanged since it was last proved)"
 [ -e fault ] && { echo "door.rt:1: error: no proof"; exit 1; }
-mkdir -p target/staticlib && cp "$ARCHIVE_BUILT" target/staticlib/libdoor.a
+mkdir -p target/staticlib target/stamp
+if [ "$1" = staticlib ]; then cp "$BUILT/staticlib/lib$2.a" target/staticlib; exit; fi
+shift
+for crate in "$@"; do [ -e "target/stamp/$crate" ] || cp "$BUILT/stamp/$crate" target/stamp; done
 TEXT
-export ARCHIVE_BUILT=$PWD/target/staticlib/libdoor.a
+export BUILT=$PWD/target
 (cd "$work/no-rt" && PATH="$work/no-rt:$PATH" make -s run) >"$work/run" 2>&1
 holds run-crates grep -qx 'rt: rowset proved (12 s)' "$work/run"
 holds run-short fails grep -q '^fn \|^library\|slice' "$work/run"
@@ -151,6 +165,16 @@ holds run-log grep -qx 'fn rowset::a: proved' "$work/no-rt/target/make-library.l
 holds run-named grep -q 'target/make-library.log' "$work/run"
 holds run-time grep -Eqx 'proved \([0-9]+ s in all\)' "$work/run"
 holds run-verdict grep -q 'Total 12' "$work/run"
+# Where nothing has changed no archive is made anew, and where one crate is proved anew only its own.
+archives() { grep -c '^staticlib' "$work/no-rt/asked"; }
+made=$(archives)
+(cd "$work/no-rt" && PATH="$work/no-rt:$PATH" make -s) >"$work/run" 2>&1
+holds run-again [ "$(archives)" = "$made" ]
+sleep 1
+touch "$work/no-rt/target/stamp/door"
+(cd "$work/no-rt" && PATH="$work/no-rt:$PATH" make -s) >"$work/run" 2>&1
+holds run-one [ "$(tail -n 1 "$work/no-rt/asked")" = 'staticlib door' ]
+holds run-one-alone [ "$(archives)" = "$((made + 1))" ]
 touch "$work/no-rt/fault"
 (cd "$work/no-rt" && PATH="$work/no-rt:$PATH" make -s run) >"$work/run" 2>&1
 holds run-fails [ $? != 0 ]

@@ -1,7 +1,9 @@
-// The sixteen bytes of an answer, written in one place for every door.
+// The sixteen bytes of an answer, written in one place for every door, and the fields of what is done or refused.
+use refusal::Outcome;
 ghost use mathlib.Core.Path.{_≡_};
-ghost use Rattle.star.specs.Door.{fieldBytes, answerAfter};
+ghost use Rattle.star.specs.Door.{fieldBytes, answerAfter, outcomeFields};
 ghost use Rattle.answer.specs.Records.{fieldsOf};
+ghost use Rattle.refusal.specs.Outcomes.{refusalOf};
 
 // What byte 7 holds.
 const UNUSED: u8 = 0;
@@ -71,5 +73,29 @@ pub fn write_answer(answer: &mut [u8], x: Record)
     while i < 16 {
         answer[i] = bytes[i];
         i += 1;
+    }
+}
+
+// The fields of what is done or refused.
+pub fn of_outcome(o: Outcome) -> Record
+    ensures { λ r. ⌜ fieldsOf r ≡ outcomeFields (refusalOf o) ⌝ }
+{
+    match o {
+        Outcome::Done => Record {
+            kind: 1,
+            number: 0,
+            out: 0,
+            into: 0,
+            only: 0,
+            amount: 0,
+        },
+        Outcome::Refused(r) => Record {
+            kind: 0,
+            number: r.number,
+            out: r.place,
+            into: 0,
+            only: 0,
+            amount: 0,
+        },
     }
 }

@@ -1,45 +1,10 @@
 // CST for C.
-use answer::Record;
 use answer::write_answer;
-use cst::Verdict;
+use fields::verdict::of_verdict;
 ghost use mathlib.Core.Path.{_≡_};
-ghost use Rattle.answer.specs.Records.{fieldsOf};
 ghost use Rattle.star.specs.Call.{callOf};
 ghost use Rattle.demand3.specs.Bytes.{CstCall};
-ghost use Rattle.cst.specs.Verdicts.{answerOf};
-ghost use Rattle.star.specs.Door.{fields, doorReturns, cstDoor};
-
-// The fields of CST's verdict.
-pub fn of_verdict(v: Verdict) -> Record
-    ensures { λ r. ⌜ fieldsOf r ≡ fields (answerOf v) ⌝ }
-{
-    match v {
-        Verdict::Passed(x) => Record {
-            kind: 1,
-            number: 0,
-            out: 0,
-            into: 0,
-            only: x.only as u32,
-            amount: x.weight,
-        },
-        Verdict::Lighter(x) => Record {
-            kind: 2,
-            number: 0,
-            out: x.out,
-            into: x.into,
-            only: 0,
-            amount: x.saving as u64,
-        },
-        Verdict::Refused(r) => Record {
-            kind: 0,
-            number: r.number,
-            out: r.place,
-            into: 0,
-            only: 0,
-            amount: 0,
-        },
-    }
-}
+ghost use Rattle.star.specs.Door.{doorReturns, cstDoor};
 
 // CST through the door. `means` says what the bytes are worth: what is read back, and what it says of the table's spanning trees.
 #[no_mangle]

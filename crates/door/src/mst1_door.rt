@@ -1,37 +1,10 @@
 // MST1 for C.
-use answer::Record;
 use answer::write_answer;
-use mst1::Built;
+use fields::built::of_built;
 ghost use mathlib.Core.Path.{_≡_};
-ghost use Rattle.answer.specs.Records.{fieldsOf};
 ghost use Rattle.star.specs.Call.{callOf};
 ghost use Rattle.demand3.specs.Bytes.{Mst1Call};
-ghost use Rattle.mst1.specs.Answers.{answerOf};
-ghost use Rattle.star.specs.Door.{builtFields, doorReturns, mst1Door, mst1DoorMarks};
-
-// The fields of what MST1 built.
-pub fn of_built(b: Built) -> Record
-    ensures { λ r. ⌜ fieldsOf r ≡ builtFields (answerOf b) ⌝ }
-{
-    match b {
-        Built::Tree(weight) => Record {
-            kind: 1,
-            number: 0,
-            out: 0,
-            into: 0,
-            only: 0,
-            amount: weight,
-        },
-        Built::Refused(r) => Record {
-            kind: 0,
-            number: r.number,
-            out: r.place,
-            into: 0,
-            only: 0,
-            amount: 0,
-        },
-    }
-}
+ghost use Rattle.star.specs.Door.{doorReturns, mst1Door, mst1DoorMarks};
 
 // MST1 through the door: the marks are written where a tree is built, and stay as they are otherwise.
 // `means` says what the bytes and the marks are worth.

@@ -1,36 +1,10 @@
 // CST for C, with the rows of an exchange that gives another tree of the same weight.
-use crate::cst_door::of_verdict;
-use answer::Record;
 use answer::write_answer;
-use cst::Checked;
+use fields::checked::of_checked;
 ghost use mathlib.Core.Path.{_≡_};
-ghost use Rattle.answer.specs.Records.{fieldsOf};
 ghost use Rattle.star.specs.Call.{callOf};
 ghost use Rattle.demand3.specs.Bytes.{OtherCall};
-ghost use Rattle.cst.specs.Verdicts.{answerOf, equalRowsOf};
-ghost use Rattle.star.specs.Door.{fieldsBeside, doorReturns, otherDoor};
-
-// The fields of CST's verdict, and beside a pass that is not the only one the two rows of the exchange.
-pub fn of_checked(x: Checked) -> Record
-    ensures { λ r. ⌜ fieldsOf r ≡ fieldsBeside (answerOf (x .verdict)) (equalRowsOf x) ⌝ }
-{
-    let v = x.verdict;
-    let plain = of_verdict(v);
-    if plain.kind != 1 {
-        return plain;
-    }
-    if plain.only != 0 {
-        return plain;
-    }
-    Record {
-        kind: 1,
-        number: 0,
-        out: x.out,
-        into: x.into,
-        only: 0,
-        amount: plain.amount,
-    }
-}
+ghost use Rattle.star.specs.Door.{doorReturns, otherDoor};
 
 // CST with the exchange through the door. `means` says what the bytes are worth: what is read back, and what it says of the table's spanning trees.
 #[no_mangle]

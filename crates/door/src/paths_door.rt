@@ -1,5 +1,5 @@
 // MatrixPath for C.
-use crate::outcome::of_outcome;
+use answer::of_outcome;
 use answer::write_answer;
 ghost use mathlib.Core.Path.{_≡_};
 ghost use Rattle.star.specs.Call.{callOf};
