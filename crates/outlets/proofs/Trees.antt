@@ -90,9 +90,9 @@ module _ (c : Call) (ok : Accepted c) (r : ℕ) (v : Vertex (c .n) r) where
   same : loaded ≡ over G size
   unfolding graphOf used t
   same = rw (
-      loaded-taken 1 (c .left) (load-taken 1 (c .left) (omega (arith, t .left-length, few)) (mod-one (length (c .left)))),
-      loaded-taken 1 (c .right) (load-taken 1 (c .right) (omega (arith, t .right-length, few)) (mod-one (length (c .right)))),
-    )
+    loaded-taken 1 (c .left) (load-taken 1 (c .left) (omega (arith, t .left-length, few)) (mod-one (length (c .left)))),
+    loaded-taken 1 (c .right) (load-taken 1 (c .right) (omega (arith, t .right-length, few)) (mod-one (length (c .right)))),
+  )
 
   few-m : G .m ≤ size
   unfolding graphOf
@@ -196,7 +196,11 @@ module _ (c : Call) (ok : Accepted c) (r : ℕ) (v : Vertex (c .n) r) where
 
       module _ (n : ℕ) (l : List ℕ) (hung : branch ≡ branchIn l) {left : Bool} {remaining : ℕ → Bool}
           (ends : Ends (reducedBy (inRow 1 (c .left)) (inRow 1 (c .right)) (priceIn (c .weight)) (without (both (upTo (c .m)) (c .inUse)) at) (c .m) (count size (both chosen at)) n (record { chosen = chosen; branch = l })) left remaining) where
-        ready : Ready G fine few-m (weightOf c) (priceIn (c .weight)) priced r (v .0) (v .1) (without (both (upTo (c .m)) (c .inUse)) at) rest (record { chosen = chosen; branch = l })
+        high : r ≤ G .n
+        unfolding graphOf
+        high = v .1
+
+        ready : Ready G fine few-m (weightOf c) (priceIn (c .weight)) priced r (v .0) high (without (both (upTo (c .m)) (c .inUse)) at) rest (record { chosen = chosen; branch = l })
         ready = record { tree = start-tree e; hangs = rw hung at (start-hangs e) }
 
         tree-is : treeAt c r n ≡ reduced G (weightOf c) r n chosen
@@ -209,7 +213,10 @@ module _ (c : Call) (ok : Accepted c) (r : ℕ) (v : Vertex (c .n) r) where
         left-tree = rw (tree-is, ← have) (go (ltb (count size (both chosen at)) n) refl)
           where
             go : (b : Bool) → ltb (count size (both chosen at)) n ≡ b → ((left ≡ false) × (cond (ltb (count size (both chosen at)) n) none (swaps G (weightOf c) r (count size (both chosen at) - n) chosen) ≡ none)) ⊎ ((left ≡ true) × (cond (ltb (count size (both chosen at)) n) none (swaps G (weightOf c) r (count size (both chosen at) - n) chosen) ≡ some remaining))
-            go b q = ?
+            go true q = inl (ends .all ∙ rw q, rw q)
+            go false q =
+                let en = rw q at ends in
+                ⊎-elim (λ (a, b). inl (a, rw q b)) (λ (a, b). inr (a, rw q b)) (ends-swaps G fine few-m (weightOf c) (priceIn (c .weight)) priced r (v .0) high (without (both (upTo (c .m)) (c .inUse)) at) rest (record { chosen = chosen; branch = l }) ready (count size (both chosen at) - n) left remaining en)
 
 -- ── The answer ──
 
@@ -247,7 +254,7 @@ module _ (c : Call) (r n : ℕ) where
     exchanges-refused e q = refused-by _ (last ∙ rw (e, q))
 
     pub exchanges-built : isNone (tree (graphOf c) (weightOf c)) ≡ false → (T : ℕ → Bool) → treeAt c r n ≡ some T → (bits : ℕ) → fromBits 64 bits ≡ total size (λ i. signed (inRow 4 (c .weight) i)) T → Answers c r n (treeBuilt (fromBits 64 bits)) (claimOf (length (c .mark)) T)
-    unfolding outlets outletsOr outletMarks marksOr noTree noTreeWith isMissing rowsIn cause orElse weightOf
+    unfolding outlets outletsOr outletMarks marksOr noTree noTreeWith isMissing rowsIn cause orElse weightOf treeAt graphOf
     exchanges-built e T q bits h =
         let (ok, v) = accepted in
         let tk = taken c ok in
@@ -258,4 +265,4 @@ module _ (c : Call) (r n : ℕ) where
         )
       where
         past : Accepted c → treeAt c r n ≡ some T → (i : ℕ) → rowsOf c < i → T i ≡ false
-        past ok q i u = ?
+        past ok q i u = refuted _ (λ h. let (l, x, y) = used-row c i (degrees (graphOf c) (sound c (taken c ok)) (weightOf c) r n .built T q .tree .inside i h) in omega arith)

@@ -105,8 +105,7 @@ fn grow_at(
     start: Fragment,
     branch: &mut [usize],
 ) -> Grown
-    requires {
-        let g = graphOn left right rows n in
+    requires { let g = graphOn left right rows n in
         ⌜ (2 ≤ n) × Sound g × (n ≤ 255) × (length (now branch) ≡ 256) × (1 ≤ r) × (r ≤ n) × (component at ≡ both (component rows) (touches g r)) × Begun g (λ i. signed (row weight i)) r 2 (component (start .lefts)) (component (start .rights)) (component (start .chosen)) (branchIn (now branch)) ⌝ }
     ensures { λ t. ⌜ Starts (graphOn left right rows n) (λ i. signed (row weight i)) r (t .whole) (component (t .chosen)) (branchIn (now (branch .exit))) ⌝ }
 {
@@ -150,8 +149,7 @@ fn grow_start(
     at: Slice,
     branch: &mut [usize],
 ) -> Grown
-    requires {
-        let g = graphOn left right rows n in
+    requires { let g = graphOn left right rows n in
         ⌜ Sound g × (n ≤ 255) × (length (now branch) ≡ 256) × (1 ≤ r) × (r ≤ n) × (component at ≡ both (component rows) (touches g r)) ⌝ }
     ensures { λ t. ⌜ Starts (graphOn left right rows n) (λ i. signed (row weight i)) r (t .whole) (component (t .chosen)) (branchIn (now (branch .exit))) ⌝ }
 {

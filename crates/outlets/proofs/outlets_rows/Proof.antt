@@ -1,99 +1,87 @@
+-- `outlets::outlets_rows` meets its contract in each of its four cases: the table or the vertex is refused, there is no tree, none has exactly t rows at r, or a tree is built. Assumes nothing.
+use mathlib.Core.Logic.{⊎-elim}
+use mathlib.Core.Path.{refl, _∙_}
 use borrow.Author.Needs.{needs}
+use borrow.Author.Tests.{not-true, not-false}
+use Rattle.mst1.specs.Answers.{answerOf}
+use Rattle.rowset.proofs.Laws.{clash}
+use Rattle.outlets.proofs.Trees.{loaded-sound, few-vertices, no-tree, some-tree, left-tree, table-refused, accepted, tree-refused, exchanges-refused, exchanges-built}
 use Rattle.outlets.proofs.outlets_rows.Statement.{statement}
 use Rattle.outlets.proofs.outlets_rows.Tie as tie
-use Rattle.outlets.proofs.outlets_rows.Reads as reads
-use Rattle.outlets.proofs.outlets_rows.Lts as lts
-use Rattle.claim.proofs.weigh.Reads as weigh-reads
-use Rattle.claim.proofs.write_claim.Reads as write-claim-reads
-use Rattle.outlets.proofs.reduce.Reads as reduce-reads
-use Rattle.outlets.proofs.vertex_check.Reads as vertex-check-reads
-use Rattle.start.proofs.start_of.Reads as start-of-reads
 
--- src/lib.rt:104:40
-vertex-check-requires : tie.Need-vertex-check-requires
-vertex-check-requires c κs = search needs
-
--- src/lib.rt:104:29
-enum-known-refusal : tie.Need-enum-known-refusal
-enum-known-refusal c = search needs
-
--- src/lib.rt:115:9
-same-length : tie.Need-same-length
-same-length c = search needs
-
--- src/lib.rt:115:9
 returns : tie.Need-returns
-returns c = ?
+unfolding answerOf
+returns c = table-refused _ _ _ (c .before .before .before .vertex-check .ensures) (c .before .refusal .given .1)
 
-enum-told : tie.Need-enum-told
-enum-told c = search needs
-
--- src/lib.rt:118:69
-slice-aggregate-start-of : tie.Need-slice-aggregate-start-of
-slice-aggregate-start-of c = search needs
-
--- src/lib.rt:118:9
 start-of-requires : tie.Need-start-of-requires
-start-of-requires c κs = ?
+start-of-requires c κs =
+    let k = c .before in
+    let (ok, v) = accepted _ _ 0 (k .before .before .vertex-check .ensures) (k .enum-told .given .1) in
+    (loaded-sound _ ok _ v, few-vertices _ ok _ v, refl, v .0, v .1)
 
--- src/lib.rt:120:9
-same-length-2 : tie.Need-same-length-2
-same-length-2 c = search needs
-
--- src/lib.rt:120:9
 returns-2 : tie.Need-returns-2
-returns-2 c = ?
+unfolding answerOf
+returns-2 c =
+    let s = c .before .before .before in
+    let k = s .before .before in
+    let checked = k .before .before .vertex-check .ensures in
+    let told = k .enum-told .given .1 in
+    let (ok, v) = accepted _ _ 0 checked told in
+    tree-refused _ _ _ checked told (no-tree _ ok _ v (s .start-of .ensures .0) (not-true _ (c .if1 .taken)))
 
--- src/lib.rt:127:69
-slice-aggregate-reduce : tie.Need-slice-aggregate-reduce
-slice-aggregate-reduce c = search needs
-
--- src/lib.rt:127:9
-reduce-requires : tie.Need-reduce-requires
-reduce-requires c κs = search needs
-
--- src/lib.rt:129:9
-same-length-3 : tie.Need-same-length-3
-same-length-3 c = search needs
-
--- src/lib.rt:129:9
 returns-3 : tie.Need-returns-3
-returns-3 c = ?
+unfolding answerOf
+returns-3 c =
+    let x = c .before .before .before in
+    let d = x .before .before .before .before in
+    let s = d .before .before .before in
+    let k = s .before .before in
+    let checked = k .before .before .vertex-check .ensures in
+    let told = k .enum-told .given .1 in
+    let (ok, v) = accepted _ _ 0 checked told in
+    let whole = not-false _ (d .if1 .left) in
+    ⊎-elim
+    (λ (a, q). exchanges-refused _ _ _ checked told (some-tree _ ok _ v (s .start-of .ensures .0) whole) q)
+    (λ (a, q). clash a (not-true _ (c .if2 .taken)))
+    (left-tree _ ok _ v (s .start-of .ensures .0) whole (s .start-of .ensures .1) _ _ refl (x .reduce .ensures))
 
--- src/lib.rt:134:5
-write-claim-requires : tie.Need-write-claim-requires
-write-claim-requires c κs = search needs
-
--- src/lib.rt:135:17
-weigh-requires : tie.Need-weigh-requires
-weigh-requires c κs = search needs
-
--- src/lib.rt:88:1
-same-length-4 : tie.Need-same-length-4
-same-length-4 c = search needs
-
--- src/lib.rt:88:1
 returns-4 : tie.Need-returns-4
-returns-4 c = ?
+unfolding answerOf
+returns-4 c =
+    let y = c .before .before .before .before .before in
+    let x = y .before .before .before in
+    let d = x .before .before .before .before in
+    let s = d .before .before .before in
+    let k = s .before .before in
+    let checked = k .before .before .vertex-check .ensures in
+    let told = k .enum-told .given .1 in
+    let (ok, v) = accepted _ _ 0 checked told in
+    let whole = not-false _ (d .if1 .left) in
+    ⊎-elim
+    (λ (a, q). clash (not-false _ (y .if2 .left)) a)
+    (λ (a, q).
+    let (answer, marks) = exchanges-built _ _ _ checked told (some-tree _ ok _ v (s .start-of .ensures .0) whole) _ q _ (c .weigh .ensures) in
+    (answer, c .before .before .before .write-claim .ensures ∙ marks))
+    (left-tree _ ok _ v (s .start-of .ensures .0) whole (s .start-of .ensures .1) _ _ refl (x .reduce .ensures))
 
 pub outlets-rows-spec : {M : Type 1} → statement M
 outlets-rows-spec =
     tie.close
     (tie.spec
-    vertex-check-requires
-    enum-known-refusal
-    same-length
+    (λ c κs. search needs)
+    (λ c. search needs)
+    (λ c. search needs)
     returns
-    enum-told
-    slice-aggregate-start-of
+    (λ c. search needs)
+    (λ c. search needs)
     start-of-requires
-    same-length-2
+    (λ c. search needs)
     returns-2
-    slice-aggregate-reduce
-    reduce-requires
-    same-length-3
+    (λ c. search needs)
+    (λ c κs. search needs)
+    (λ c. search needs)
     returns-3
-    write-claim-requires
-    weigh-requires
-    same-length-4
+    (λ c κs. search needs)
+    (λ c κs. search needs)
+    (λ c. search needs)
     returns-4)

@@ -1,61 +1,34 @@
+-- `outlets::reduce` meets its contract, by the number of rows at r. Assumes nothing.
 use borrow.Author.Needs.{needs}
+use borrow.Author.Tests.{lt-ltb, le-ltb}
+use mathlib.Core.Path.{refl}
+use Rattle.exchange.proofs.Turns.{ends-none}
+use Rattle.outlets.specs.steps.Reduced.{reducedBy}
 use Rattle.outlets.proofs.reduce.Statement.{statement}
 use Rattle.outlets.proofs.reduce.Tie as tie
-use Rattle.outlets.proofs.reduce.Reads as reads
-use Rattle.outlets.proofs.reduce.Lts as lts
-use Rattle.exchange.proofs.exchanges.Reads as exchanges-reads
-use Rattle.outlets.proofs.count_rows.Reads as count-rows-reads
-use Rattle.slice.proofs.Slice.empty.Reads as empty-reads
-use Rattle.slice.proofs.and.Reads as and-reads
-use Rattle.slice.proofs.difference.without.Reads as without-reads
-use Rattle.slice.proofs.rows.rows_among.Reads as rows-among-reads
 
--- src/lib.rt:75:27
-and-requires : tie.Need-and-requires
-and-requires c κs = search needs
-
--- src/lib.rt:75:9
-count-rows-requires : tie.Need-count-rows-requires
-count-rows-requires c κs = search needs
-
--- src/lib.rt:80:21
-empty-requires : tie.Need-empty-requires
-empty-requires c κs = search needs
-
--- src/lib.rt:78:9
 returns : tie.Need-returns
-returns c = ?
+unfolding reducedBy
+returns c = rw (← c .before .before .before .and .ensures, ← c .before .before .count-rows .ensures, lt-ltb _ _ (c .before .if1 .taken)) (ends-none refl refl (c .empty .ensures))
 
--- src/lib.rt:83:43
-rows-among-requires : tie.Need-rows-among-requires
-rows-among-requires c κs = search needs
-
--- src/lib.rt:83:9
-without-requires : tie.Need-without-requires
-without-requires c κs = search needs
-
--- src/lib.rt:84:5
-exchanges-requires : tie.Need-exchanges-requires
-exchanges-requires c κs = search needs
-
--- src/lib.rt:62:1
-same-length : tie.Need-same-length
-same-length c = search needs
-
--- src/lib.rt:62:1
 returns-2 : tie.Need-returns-2
-returns-2 c = ?
+unfolding reducedBy
+returns-2 c =
+    let x = c .before .before in
+    let r = x .before .before in
+    let e = r .before .before in
+    rw (← e .before .before .and .ensures, ← e .before .count-rows .ensures, le-ltb _ _ (e .if1 .left), ← r .before .rows-among .ensures, ← r .without .ensures) (x .exchanges .ensures)
 
 pub reduce-spec : {M : Type 1} → statement M
 reduce-spec =
     tie.close
     (tie.spec
-    and-requires
-    count-rows-requires
-    empty-requires
+    (λ c κs. search needs)
+    (λ c κs. search needs)
+    (λ c κs. search needs)
     returns
-    rows-among-requires
-    without-requires
-    exchanges-requires
-    same-length
+    (λ c κs. search needs)
+    (λ c κs. search needs)
+    (λ c κs. search needs)
+    (λ c. search needs)
     returns-2)

@@ -1,27 +1,12 @@
+-- `outlets::work_outlets` meets its contract: the call on a working table. Assumes nothing.
 use borrow.Author.Needs.{needs}
 use Rattle.outlets.proofs.work_outlets.Statement.{statement}
 use Rattle.outlets.proofs.work_outlets.Tie as tie
-use Rattle.outlets.proofs.work_outlets.Reads as reads
-use Rattle.outlets.proofs.work_outlets.Lts as lts
-use Rattle.outlets.proofs.outlets_rows.Reads as outlets-rows-reads
-use Rattle.slice.proofs.words.rows_in_use.Reads as rows-in-use-reads
 
--- src/lib.rt:176:9
-rows-in-use-requires : tie.Need-rows-in-use-requires
-rows-in-use-requires c κs = search needs
-
--- src/lib.rt:172:5
-outlets-rows-requires : tie.Need-outlets-rows-requires
-outlets-rows-requires c κs = search needs
-
--- src/lib.rt:157:1
-same-length : tie.Need-same-length
-same-length c = search needs
-
--- src/lib.rt:157:1
 returns : tie.Need-returns
-returns c = ?
+returns c =
+    let b = c .before .before in
+    rw (b .before .before .rows-in-use .ensures) at (b .outlets-rows .ensures)
 
 pub work-outlets-spec : {M : Type 1} → statement M
-work-outlets-spec =
-    tie.close (tie.spec rows-in-use-requires outlets-rows-requires same-length returns)
+work-outlets-spec = tie.close (tie.spec (λ c κs. search needs) (λ c κs. search needs) (λ c. search needs) returns)

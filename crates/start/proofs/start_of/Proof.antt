@@ -17,8 +17,7 @@ returns : tie.Need-returns
 returns c =
     let t = c .before .before .before in
     let r = t .before .before in
-    let b = r .before .before .before in
-    (
+    let b = r .before .before .before in (
       rw (← b .before .before .before .load-bytes .ensures .1, ← b .before .before .load-bytes2 .ensures .1, ← b .before .load-quads .ensures .1, ← b .rows-among .ensures) (t .grow-start .ensures),
       rw (← b .before .before .before .load-bytes .ensures .1, ← b .before .before .load-bytes2 .ensures .1, ← b .rows-among .ensures) (r .rows-at .ensures ∙ rows-at-r _ _ _ _ _ refl refl),
     )
