@@ -21,9 +21,9 @@ use Rattle.degree.proofs.Shifted.{shifted}
 use Rattle.degree.proofs.Start.{Low, low, start-built}
 use Rattle.degree.proofs.Promise.{degrees}
 use Rattle.degree.specs.Degree.{touches, rowsAt, start, swaps, reduced, reducedFrom, treeWith}
-use Rattle.exchange.proofs.Swaps.{Ready, ends-swaps}
-use Rattle.exchange.specs.steps.Columns.{priceIn}
-use Rattle.exchange.specs.steps.Exchanges.{Hung, exchangesTo, isMade, rowsLeft, Ends}
+use Rattle.reductions.proofs.Swaps.{Ready, ends-swaps}
+use Rattle.reductions.specs.steps.Columns.{priceIn}
+use Rattle.reductions.specs.steps.Exchanges.{Hung, exchangesTo, isMade, rowsLeft, Ends}
 use Rattle.graph.proofs.Builder.{built-spanning, not-built}
 use Rattle.graph.specs.Builder.{Fragment, tree}
 use Rattle.graph.specs.Graph.{Graph, Sound}

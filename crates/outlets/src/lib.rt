@@ -2,8 +2,8 @@
 ghost use mathlib.Core.Path.{_≡_};
 ghost use Rattle.branches.specs.steps.Branches.{branchIn};
 ghost use Rattle.connections.specs.Outlets.{vertexAsked, outlets, outletMarks};
-ghost use Rattle.exchange.specs.steps.Columns.{priceIn};
-ghost use Rattle.exchange.specs.steps.Exchanges.{Ends};
+ghost use Rattle.reductions.specs.steps.Columns.{priceIn};
+ghost use Rattle.reductions.specs.steps.Exchanges.{Ends};
 ghost use Rattle.mst1.specs.Answers.{answerOf};
 ghost use Rattle.refusal.specs.Outcomes.{refusalOf};
 ghost use Rattle.rowset.specs.Bytes.{inRow};
@@ -12,8 +12,8 @@ ghost use Rattle.slice.specs.Slices.{size, component};
 ghost use Rattle.star.specs.Call.{tableOf, callOf, workOf};
 ghost use Rattle.star.specs.Refusals.{refusal};
 ghost use Rattle.outlets.specs.steps.Reduced.{reducedBy};
-use exchange::Reduced;
 use mst1::Built;
+use reductions::Reduced;
 use refusal::Outcome;
 use refusal::Refusal;
 use slice::SIZE;
@@ -81,7 +81,7 @@ fn reduce(
         };
     }
     let rest = slice::difference::without(slice::rows::rows_among(m, rows), at);
-    exchange::exchanges(m, rest, left, right, weight, have - least, tree, branch)
+    reductions::exchanges(m, rest, left, right, weight, have - least, tree, branch)
 }
 
 // The tree with exactly t rows at r over a table of m rows, of which those of a slice are in use: the refusal, and the marks stay as they were; or the tree's weight, and the marks are 1 for each of its rows and 0 for every other.

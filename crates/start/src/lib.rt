@@ -78,7 +78,7 @@ fn hung_on(branch: &[usize], r: u32, i: usize, near: u32) -> usize
     if near == r {
         return i;
     }
-    exchange::branch_of(branch, near as usize)
+    reductions::branch_of(branch, near as usize)
 }
 
 // Row i with ends a and b brings in its far end, b where a is in the fragment and else a, which hangs as the near end does, or on row i where that is r.

@@ -2,7 +2,7 @@
 use borrow.Author.Needs.{needs}
 use borrow.Author.Tests.{lt-ltb, le-ltb}
 use mathlib.Core.Path.{refl}
-use Rattle.exchange.proofs.Turns.{ends-none}
+use Rattle.reductions.proofs.Turns.{ends-none}
 use Rattle.outlets.specs.steps.Reduced.{reducedBy}
 use Rattle.outlets.proofs.reduce.Statement.{statement}
 use Rattle.outlets.proofs.reduce.Tie as tie

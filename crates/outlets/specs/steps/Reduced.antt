@@ -4,7 +4,7 @@ use Prim.Native.Nat.{ℕ, _-_}
 use lib.Dec.{ltb}
 use mathlib.Core.Bool.{Bool, cond}
 use mathlib.Core.Option.{Option, none}
-use Rattle.exchange.specs.steps.Exchanges.{Hung, exchangesTo}
+use Rattle.reductions.specs.steps.Exchanges.{Hung, exchangesTo}
 
 -- none where there are fewer than t
 unfoldable pub reducedBy : (a b price : ℕ → ℕ) → (ℕ → Bool) → (m have t : ℕ) → Hung → Option Hung
