@@ -75,7 +75,7 @@ module _ (g : Graph) (ok : Sound g) (w : ℕ → ℤ) (r : ℕ) (L : ℤ) (low :
   smallest-off X off i = same-truth _ _ (λ s. let xi = smallest-in (g .m) (shifted g w r L) X i s in in-smallest (g .m) w X i xi (λ k l u xk. omega (arith, integers, smallest-least (g .m) (shifted g w r L) X i k s l u xk, shifted-off g w r L i (off i xi), shifted-off g w r L k (off k xk)))) (λ s. let xi = smallest-in (g .m) w X i s in in-smallest (g .m) (shifted g w r L) X i xi (λ k l u xk. omega (arith, integers, smallest-least (g .m) w X i k s l u xk, shifted-off g w r L i (off i xi), shifted-off g w r L k (off k xk))))
 
   -- the preferred row is the cheapest under the shifted prices
-  preferred-cheapest : (X : ℕ → Bool) → Inside g X → preferred g w r X ≡ cheapest g (shifted g w r L) X
+  pub preferred-cheapest : (X : ℕ → Bool) → Inside g X → preferred g w r X ≡ cheapest g (shifted g w r L) X
   unfolding preferred firstOf cheapest
   preferred-cheapest X inside = go (cheapest g w (both X (touches g r))) refl
     where
@@ -95,14 +95,15 @@ module _ (g : Graph) (ok : Sound g) (w : ℕ → ℤ) (r : ℕ) (L : ℤ) (low :
       go none q = rw q
       go (some f) q = rw q (ap (choose g f) (preferred-cheapest (both (g .rows) (crosses g (f .vertices))) (λ i t. both-in (g .rows) (crosses g (f .vertices)) i t .0)))
 
+  pub startOf-built : (n : ℕ) → startOf n g w r ≡ builder.treeOf n g (shifted g w r L)
+  unfolding startOf builder.treeOf
+  startOf-built zero = refl
+  startOf-built (suc zero) = refl
+  startOf-built (suc (suc k)) = fragment-built k
+
   pub start-built : start g w r ≡ builder.tree g (shifted g w r L)
-  unfolding start startOf builder.tree builder.treeOf
-  start-built = go (g .n)
-    where
-      go : (n : ℕ) → startOf n g w r ≡ builder.treeOf n g (shifted g w r L)
-      go zero = refl
-      go (suc zero) = refl
-      go (suc (suc k)) = fragment-built k
+  unfolding start builder.tree
+  start-built = startOf-built (g .n)
 
   -- a tree that is good under the shifted prices is good where each row at r weighs minus one and the others nothing
   pub low-good : (S : ℕ → Bool) → SpanningTree g S → Good g (shifted g w r L) S → Good g (shifted g (λ i. pos 0) r (negsuc 0)) S

@@ -36,14 +36,14 @@ pub struct Grown {
 }
 
 // A fragment: the rows whose left end is in it, the rows whose right end is, and the chosen rows.
-struct Fragment {
-    lefts: Slice,
-    rights: Slice,
-    chosen: Slice,
+pub struct Fragment {
+    pub lefts: Slice,
+    pub rights: Slice,
+    pub chosen: Slice,
 }
 
 // FND of MIN: the uppermost row of x of least weight, 0 where x has no row.
-fn first_row(weight: Table, x: Slice) -> usize
+pub fn first_row(weight: Table, x: Slice) -> usize
     ensures { λ r. ⌜ r ≡ uppermost size (smallest size (λ i. signed (row weight i)) (component x)) ⌝ }
 {
     slice::fnd(search::min(weight, x))
@@ -64,7 +64,7 @@ pub fn reach(x: Slice, ends: &[u64], first: usize, v: u32, rows: Slice) -> Slice
 }
 
 // The fragment of row i: both its ends.
-fn begin(left: Table, right: Table, rows: Slice, i: usize) -> Fragment
+pub fn begin(left: Table, right: Table, rows: Slice, i: usize) -> Fragment
     ensures lefts { λ r. ⌜ component (r .lefts) ≡ meeting (row left) (row left i) (row right i) (component rows) ⌝ }
     ensures rights { λ r. ⌜ component (r .rights) ≡ meeting (row right) (row left i) (row right i) (component rows) ⌝ }
     ensures chosen { λ r. ⌜ component (r .chosen) ≡ written empty i true ⌝ }
@@ -85,7 +85,7 @@ fn begin(left: Table, right: Table, rows: Slice, i: usize) -> Fragment
 }
 
 // No rows: the whole tree of one vertex, or what is left where there is no tree.
-fn nothing(whole: bool) -> Grown
+pub fn nothing(whole: bool) -> Grown
     ensures whole { λ r. ⌜ r .whole ≡ whole ⌝ }
     ensures chosen { λ r. ⌜ component (r .chosen) ≡ empty ⌝ }
 {

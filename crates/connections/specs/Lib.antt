@@ -1,0 +1,4 @@
+pub mod Outlets
+pub mod Means
+pub mod Door
+pub mod Trials
