@@ -119,7 +119,7 @@ std::vector<Line> grown(uint32_t n, const std::vector<size_t> &sizes) {
 
 int main(int count, char **words) {
     std::printf("Median of one call; beside it the time over that of star_mst1, of star_cst and of the fastest library (above 1: slower than that).\n");
-    if (libraries().size() < 3) std::printf("Not all libraries are installed: LEMON, Boost Graph and igraph are liblemon-dev, libboost-graph-dev and libigraph-dev of Debian.\n");
+    tell_missing();
     const uint32_t sizes[][2] = {{7, 16}, {17, 64}, {64, 256}, {255, 256}, {64, 1024}, {255, 1024}};
     for (auto s : sizes) measure(s[0], s[1], 0, STAR_MAX_PRICE);
     measure(255, 1024, 0, 4999);

@@ -4,6 +4,7 @@
 
 #include <algorithm>
 #include <cstdint>
+#include <cstdio>
 #include <set>
 #include <utility>
 #include <vector>
@@ -192,6 +193,19 @@ std::vector<Library> libraries() {
         {"igraph", igraph_tree},
 #endif
     };
+}
+
+// Says which of them are not.
+void tell_missing() {
+#ifndef HAVE_LEMON
+    std::printf("LEMON is not installed (Debian: liblemon-dev).\n");
+#endif
+#ifndef HAVE_BOOST
+    std::printf("Boost Graph is not installed (Debian: libboost-graph-dev).\n");
+#endif
+#ifndef HAVE_IGRAPH
+    std::printf("igraph is not installed (Debian: libigraph-dev).\n");
+#endif
 }
 
 } // namespace
