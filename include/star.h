@@ -39,7 +39,8 @@
  * ones behind answer, and behind every other pointer that is not to const), and that a column that is written
  * overlaps no other. The length of a matrix and of the rows in use counts words of eight bytes, that of a list
  * of numbers, ends or records the numbers. An empty column may be lent as a null pointer with length 0. The calling thread has
- * stack left, 1 MiB for star_import and star_digs_text and 128 KiB for each of the others, whatever is lent. Nothing else is asked.
+ * stack left, 1 MiB for star_import and star_digs_text, 256 KiB for star_mend and 128 KiB for each of the others, whatever is
+ * lent. Nothing else is asked.
  */
 #ifndef STAR_H
 #define STAR_H

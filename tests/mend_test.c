@@ -132,7 +132,7 @@ static void cases(void) {
     plan_tell(plan_does(t.answer, 0), "one junction");
     for (k = 0; k < 2; k++) {
         plan_table(&t, 255, STAR_MAX_ROWS, 1, (int)k);
-        plan_tell(plan_small_stack(ask, &t) && t.answer[0] == STAR_PASSED, "a thread of 128 KiB");
+        plan_tell(plan_small_stack(ask, &t, PLAN_STACK_MEND) && t.answer[0] == STAR_PASSED, "a thread of 256 KiB");
     }
 }
 
