@@ -11,7 +11,7 @@ CXXFLAGS ?= -O2
 PREFIX ?= /usr/local
 BUILD := target/c
 # The crates whose functions for C the library is made of.
-DOORS := door workdoor changedoor importdoor quotedoor breakingdoor whichdoor digsdoor
+DOORS := door workdoor changedoor importdoor quotedoor breakingdoor whichdoor digsdoor districtsdoor menddoor
 STAMPS := $(DOORS:%=target/stamp/%)
 ARCHIVES := $(DOORS:%=target/staticlib/lib%.a)
 ARCHIVE := $(BUILD)/libproved.a
