@@ -1,5 +1,5 @@
 // The doors against a plain implementation in C and, where they are installed, LEMON, Boost Graph and igraph: MST1, CST, the quote, the breaking price,
-// districts and outlets; MST1 and CST on working tables too. One process, one table at a time; the median of many rounds. What is found is
+// districts and mends; MST1 and CST on working tables too. One process, one table at a time; the median of many rounds. What is found is
 // compared, so that a solver that is wrong is told.
 // usage: bench [PLOT]   prints the times; writes a plot (SVG) of time against the number of rows to the file PLOT
 #include "plot.hpp"
@@ -75,17 +75,25 @@ void measure_working(uint32_t n) {
 // The doors that make plans, on the largest tables.
 void measure_plans() {
     Table t = make(255, STAR_MAX_ROWS, 0, STAR_MAX_PRICE);
-    std::vector<uint8_t> forests(t.rows());
+    std::vector<uint8_t> claim(t.rows()), forests(t.rows());
+    std::vector<uint32_t> list(2 * STAR_RECORD_NUMBERS * t.rows());
     uint32_t ends[STAR_MAX_RUNS];
     uint8_t answer[16];
+    for (auto &mark : claim) mark = uint8_t(any(2));
     for (uint32_t i = 0; i < STAR_MAX_RUNS; i++) ends[i] = (i + 1) * uint32_t(t.rows()) / STAR_MAX_RUNS;
     auto districts = [&](Table &of) {
         star_districts(of.n, of.left.data(), of.rows(), of.right.data(), of.rows(), of.weight.data(), of.weight.size(), ends, STAR_MAX_RUNS, forests.data(), of.rows(), of.mark.data(), of.rows(), answer, 16);
         return amount(answer);
     };
-    std::printf("n %u, m %zu: eight districts\n", t.n, t.rows());
+    auto mend = [&](Table &of) { // the same claim each time; the number of records is what the first call gives
+        of.mark = claim;
+        star_mend(of.n, of.left.data(), of.rows(), of.right.data(), of.rows(), of.weight.data(), of.weight.size(), of.mark.data(), of.rows(), list.data(), list.size(), answer, 16);
+        return amount(answer);
+    };
+    std::printf("n %u, m %zu: eight districts; a claim of random marks mended\n", t.n, t.rows());
     Rows rows(t, plain_build(t));
     rows.add("star_districts", districts);
+    rows.add("star_mend", mend, t, mend(t));
     rows.add_libraries();
     rows.print();
 }

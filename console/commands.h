@@ -30,6 +30,7 @@ int command_strike(struct table *t, const struct options *with, struct output *o
 int command_add(struct table *t, const struct options *with, struct output *o);     /* writes the file with a trench more */
 int command_merge(struct table *t, const struct options *with, struct output *o);   /* writes the file without its struck trenches */
 int command_districts(struct table *t, const struct options *with, struct output *o); /* lists the cheapest trenches of each district, and of the city */
+int command_mend(struct table *t, const struct options *with, struct output *o);    /* writes the file with its plan mended, and tells each step */
 
 /* Why there are 255 junctions at most. */
 void explain_limit(struct message *to);

@@ -27,6 +27,7 @@ static const char HELP[] =
     "       star add FILE LEFT RIGHT PRICE   write the file with a trench more, after the last one in use\n"
     "       star merge [FILE]          write the file without its struck trenches, and tell the new numbers of the others\n"
     "       star districts [--table] FILE END..   list the cheapest trenches of each district, END its last trench, then the city's from these\n"
+    "       star mend [FILE]           write the file with its plan made a cheapest network, and tell each step\n"
     "       star --help, -h            this text\n"
     "       star --version             the version\n"
     "\n"
@@ -75,6 +76,7 @@ static const struct command COMMANDS[] = {
     {"add", command_add, "w", LINES, WRITING, NULL},
     {"merge", command_merge, "", LINES, WRITING, NULL},
     {"districts", command_districts, "tw", FILE_ALONE, WORDS, NULL},
+    {"mend", command_mend, "", PLAN, WRITING, "mend"},
 };
 
 struct request {

@@ -20,6 +20,7 @@ static const char *const TEXTS[] = {
     [STAR_BAD_EDGE_COUNT] = "the E lines are not as many as the line Edges says",
     [STAR_BAD_RUNS] = "the ends of the runs are more than eight, do not rise, or do not close with the last row",
     [STAR_REPEATED_ROW] = "a row joins the same two junctions as an earlier row",
+    [STAR_SHORT_RECORDS] = "the list has fewer than two records for each row",
     [STAR_TABLE_FULL] = "a row is added, and all 1024 are in use",
     [STAR_NOT_IN_USE] = "the row to strike is not in use",
 };

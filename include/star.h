@@ -18,11 +18,12 @@
  * star_digs   writes the dig list of a least network; it takes no marks. star_digs_text does so from an STP text.
  * star_import reads a SteinLib STP text into columns of 1,024 rows; it has no marks.
  * star_districts  finds the least trenches of each run of the rows, and a least network from these alone.
+ * star_mend       turns any claim into a least network, and lists each step.
  *
  * A working table is one in which rows are struck out and entered. All its columns have 1,024 rows, marks too, and sixteen words say which
  * of them are in use (star_in_use): the rows in use are the table, and what stands in the others is not looked at.
  *
- * star_work_X   answers as star_X, over the rows in use (cst, other, mst1, paths, quote, breaking, which, digs, districts). What is
+ * star_work_X   answers as star_X, over the rows in use (cst, other, mst1, paths, quote, breaking, which, digs, districts, mend). What is
  *               said below of star_X holds of it too.
  * star_strike   takes a row out of use.
  * star_add      enters a row after the last one in use.
@@ -31,14 +32,15 @@
  * Each returns 1 with the verdict in the sixteen bytes of the answer (star_quote: twenty-four), or 0 if the lent answer has
  * another length; then nothing is written anywhere. star_which returns 1 for the first claim, 2 for the second, and 0 on a
  * refusal too. Every other input is taken, whatever its bytes and lengths: a fault is told as a refusal with its number and
- * place, and a refused call leaves the marks, the matrix, the columns lent to star_import, the forests, and the
+ * place, and a refused call leaves the marks, the matrix, the columns lent to star_import, the forests, the records, and the
  * working table and the numbers lent to star_strike, star_add and star_merge, as they were.
  *
  * The caller owes that each pointer has as many readable bytes behind it as its length says (writable
  * ones behind answer, and behind every other pointer that is not to const), and that a column that is written
  * overlaps no other. The length of a matrix and of the rows in use counts words of eight bytes, that of a list
- * of numbers or ends the numbers. An empty column may be lent as a null pointer with length 0. The calling thread has
- * stack left, 1 MiB for star_import and star_digs_text and 128 KiB for each of the others, whatever is lent. Nothing else is asked.
+ * of numbers, ends or records the numbers. An empty column may be lent as a null pointer with length 0. The calling thread has
+ * stack left, 1 MiB for star_import and star_digs_text, 256 KiB for star_mend and 128 KiB for each of the others, whatever is
+ * lent. Nothing else is asked.
  */
 #ifndef STAR_H
 #define STAR_H
@@ -79,12 +81,12 @@ enum star_kind {
     STAR_REFUSED = 0,
     STAR_PASSED = 1,  /* star_cst, star_other: no cheaper set exists; star_mst1: the network is built; star_paths: the matrix is filled;
                          star_quote: both totals are found; star_breaking: there is such a price; star_which: both claims are trees;
-                         star_digs: the list is written; star_import: the text is read; star_strike, star_add, star_merge, star_districts: done */
+                         star_digs: the list is written; star_import: the text is read; star_strike, star_add, star_merge, star_districts, star_mend: done */
     STAR_LIGHTER = 2, /* a cheaper set exists: the exchange of two rows is one */
     STAR_NEVER = 2    /* star_breaking: no other route joins the row's ends, so that it is in every network */
 };
 
-/* Byte 1 of a refused answer, and what its place is. 5 and 16 are not used. */
+/* Byte 1 of a refused answer, and what its place is. 5 is not used. */
 enum star_refusal {
     STAR_BAD_JUNCTION_COUNT = 1, /* n is 0 or above 255 */
     STAR_TOO_MANY_ROWS = 2,      /* m is above 1,024 */
@@ -97,7 +99,7 @@ enum star_refusal {
     STAR_SHORT_MATRIX = 8,       /* the matrix has fewer than 16 n words (star_paths) */
     STAR_BAD_MARK_COUNT = 9,     /* the marks are not n - 1 (all but star_mst1) */
     STAR_NOT_JOINED = 10,        /* place: the smallest junction that marked rows do not join to 1, or to s (star_paths) */
-    STAR_NO_NETWORK = 11,        /* no set of rows joins every junction (star_mst1, star_quote, star_breaking, star_digs, star_districts) */
+    STAR_NO_NETWORK = 11,        /* no set of rows joins every junction (star_mst1, star_quote, star_breaking, star_digs, star_districts, star_mend) */
     STAR_BAD_TEXT = 12,          /* place: the first byte, counted from 0, of the first word that cannot stand; the text's length if it ends
                                     too early; 65,536 if it is longer (star_import) */
     STAR_BAD_EDGE_COUNT = 13,    /* the E lines are not as many as the line Edges says (star_import) */
@@ -105,6 +107,7 @@ enum star_refusal {
                                     there is none though m is above 0 (star_districts); told before 11 */
     STAR_REPEATED_ROW = 15,      /* place: the uppermost row that joins the same two junctions as an earlier one, in either direction; told
                                     after 4 and before 6 */
+    STAR_SHORT_RECORDS = 16,     /* the list has fewer than 2 m records (star_mend); told after 6 and before 11 */
     STAR_TABLE_FULL = 17,        /* all 1,024 rows are in use (star_add); told before 3 */
     STAR_NOT_IN_USE = 18         /* the row is not in use, or none from 1 to 1,024 (star_strike); told before 3 */
 };
@@ -258,6 +261,41 @@ uint32_t star_work_districts(uint32_t n, const uint64_t *in_use, size_t in_use_w
 /* The most runs. */
 enum { STAR_MAX_RUNS = 8 };
 
+/* A step of star_mend. */
+enum star_step {
+    STAR_DROPPED = 1,  /* the mark of row out is taken away: marks above it join its ends */
+    STAR_ADDED = 2,    /* row in is marked: it joins two groups of junctions */
+    STAR_EXCHANGED = 3 /* row out goes and row in, which costs less, comes: out was the dearest on the path between the ends of in, the uppermost of them */
+};
+
+/* A record of star_mend. In the list it is three numbers, in this order; star_get_record reads one at an index from 0 on. */
+struct star_record {
+    uint32_t kind, out, in; /* out and in: 0 where a kind lacks one */
+};
+
+enum { STAR_RECORD_NUMBERS = 3 };
+
+static inline struct star_record star_get_record(const uint32_t *list, size_t index) {
+    struct star_record r;
+    r.kind = list[STAR_RECORD_NUMBERS * index];
+    r.out = list[STAR_RECORD_NUMBERS * index + 1];
+    r.in = list[STAR_RECORD_NUMBERS * index + 2];
+    return r;
+}
+
+/* Turns any marks, 0 and 1, into a least network: going down the marks, those are dropped whose ends earlier ones join; going down the rows, those
+ * are added that join two groups; then each row unmarked by now is visited once, from the top, and exchanged for the dearest row on its path where that
+ * one costs more. The steps stand in the list in their order; the answer's amount is their number, at most 2 m, and records past the last one keep their
+ * content. star_cst passes the marks. count counts the numbers that are lent, three for each of 2 m records or more. A refusal is 1, 2, 3, 4, 15, 6,
+ * 16 or 11, in this order, and leaves marks and list as they were. */
+uint32_t star_mend(uint32_t n, const uint8_t *left, size_t left_len, const uint8_t *right, size_t right_len, const uint8_t *weight,
+                   size_t weight_len, uint8_t *mark, size_t mark_len, uint32_t *list, size_t count, uint8_t *answer, size_t answer_len);
+
+/* The list has 2,048 records or more, 6,144 numbers. Marks at rows not in use are neither read nor written. */
+uint32_t star_work_mend(uint32_t n, const uint64_t *in_use, size_t in_use_words, const uint8_t *left, size_t left_len, const uint8_t *right,
+                        size_t right_len, const uint8_t *weight, size_t weight_len, uint8_t *mark, size_t mark_len,
+                        uint32_t *list, size_t count, uint8_t *answer, size_t answer_len);
+
 /* Reads an STP text: a first line that opens with 33D32945; sections, of which one is named Graph, with its lines Nodes N, Edges M,
  * E LEFT RIGHT PRICE for each row, END; and EOF. Sections of other names are skipped. left, right and weight are lent for 1,024 rows:
  * 1,024, 1,024 and 4,096 bytes. The m rows of the text are written at the top, and rows past m keep their content. A PRICE may open
@@ -287,7 +325,8 @@ struct star_answer {
     unsigned in;     /* bytes 4 and 5: lighter: the row to put in; star_other: as out */
     unsigned only;   /* byte 6: 1 where star_cst or star_other passes the claim and no other network has its total; 0 in every other answer */
     int64_t amount;  /* bytes 8 to 15, two's complement: passed: the total; lighter: the saving, above 0 and at most 4,294,967,295;
-                        star_breaking: the breaking price; star_digs: the list's length; star_add: the new row's position */
+                        star_breaking: the breaking price; star_digs: the list's length; star_add: the new row's position;
+                        star_mend: the number of records */
 };
 
 static inline struct star_answer star_read_answer(const uint8_t bytes[16]) {

@@ -209,7 +209,7 @@ static void cases(void) {
     }
     plan_table(&t, 255, STAR_MAX_ROWS, 1, 0);
     runs(&t);
-    plan_tell(plan_small_stack(ask, &t), "a thread of 128 KiB");
+    plan_tell(plan_small_stack(ask, &t, PLAN_STACK), "a thread of 128 KiB");
 }
 
 /* Every length one too small, one too large, and 0 with a null pointer. */

@@ -6,8 +6,6 @@
 #include <stdlib.h>
 #include <string.h>
 
-enum { STACK = 128 << 10 };
-
 int plan_exact;
 unsigned long plan_passed, plan_failed;
 
@@ -327,9 +325,9 @@ static void *in_thread(void *own) {
     return NULL;
 }
 
-int plan_small_stack(uint32_t (*call)(struct lent *), struct lent *t) {
+int plan_small_stack(uint32_t (*call)(struct lent *), struct lent *t, size_t stack) {
     struct run r = {call, t, 0};
     pthread_attr_t attr;
     pthread_t thread;
-    return !pthread_attr_init(&attr) && !pthread_attr_setstacksize(&attr, STACK) && !pthread_create(&thread, &attr, in_thread, &r) && !pthread_join(thread, NULL) && r.said == 1;
+    return !pthread_attr_init(&attr) && !pthread_attr_setstacksize(&attr, stack) && !pthread_create(&thread, &attr, in_thread, &r) && !pthread_join(thread, NULL) && r.said == 1;
 }

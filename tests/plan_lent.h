@@ -1,4 +1,4 @@
-/* Tables as they are lent to the doors of districts, plain ones and working ones: how they are made, damaged, lent and listed, and
+/* Tables as they are lent to the doors of districts and mends, plain ones and working ones: how they are made, damaged, lent and listed, and
    what the plain implementation says of them. */
 #ifndef TESTS_PLAN_LENT_H
 #define TESTS_PLAN_LENT_H
@@ -103,6 +103,7 @@ void plan_back_columns(struct lent *t, struct columns *c);
 #define PLAN_COLUMNS(t, c) (c).left, (t)->left_len, (c).right, (t)->right_len, (c).weight, (t)->weight_len
 
 /* Runs a function in a thread of the stack that the header names; whether it returns 1. */
-int plan_small_stack(uint32_t (*run)(struct lent *), struct lent *t);
+enum { PLAN_STACK = 128 << 10, PLAN_STACK_MEND = 256 << 10 };
+int plan_small_stack(uint32_t (*run)(struct lent *), struct lent *t, size_t stack);
 
 #endif

@@ -1,8 +1,8 @@
 #!/usr/bin/env bash
-# Tests of the console's command districts; the stored cases of console.sh have the rest.
+# Tests of the console's commands districts and mend; the stored cases of console.sh have the rest.
 # usage: plans.sh STAR..   the program, with words before it if it is to be run by another. Ends in one line 'N passed, M failed'.
 . "$(dirname "$0")/try.sh"
-city=console/examples/city.txt
+city=console/examples/city.txt old=console/examples/old.txt
 
 # Random files, against plain searches.
 python3 -B tests/plans.py "${star[@]}" >"$work/all"
@@ -15,10 +15,21 @@ for ends in 1024 '200 1024' '100 101 300 555 556 800 900 1024'; do
     verdict "districts of the city, checked: $ends" $?
 done
 try districts-street 0 '^Total 249$' '' districts $street 5 12
+try old 0 '^The plan is mended in ' '' mend $old
+"${star[@]}" mend $old 2>/dev/null | "${star[@]}" check - >"$work/all"
+verdict old-checked $?
+try old-refused 2 'Refused \((9|10)\)' '' check $old
+try city-mended 0 'There is nothing to mend: the plan is a cheapest network. Total 130316' '' mend $city
+sed 's/ 1$/ 0/' $city | "${star[@]}" mend - 2>"$work/err" | "${star[@]}" check - >"$work/all"
+grep -q 'Total 130316' "$work/all"
+verdict city-from-nothing $?
+cp $old "$work/old.txt"
+try old-in-place 0 '^exit 0' '' mend -o "$work/old.txt" "$work/old.txt"
+try old-again 0 'nothing to mend' '' mend "$work/old.txt"
 # The largest tables, and one trench more.
 for ((u = 1; u < 46; u++)); do for ((v = u + 1; v <= 46; v++)); do echo "$u $v $((u * v % 50)) $(((u + v) % 2))"; done; done | head -n 1024 >"$work/full.txt"
 { cat "$work/full.txt"; echo '45 46 3 0'; } >"$work/more.txt"
-for words in 'districts %s 1024'; do
+for words in 'districts %s 1024' 'mend %s'; do
     try "full: $words" 0 '.' '' ${words/\%s/$work/full.txt}
     try "more: $words" 2 'Refused \(2\): .*more.txt: there are 1025 trenches; at most 1024' '' ${words/\%s/$work/more.txt}
 done
@@ -28,13 +39,16 @@ try districts-word 4 "a district is given by the number of its last trench, and 
 try districts-below-0 4 "a district is given by the number of its last trench, and not by '-1'" '' districts $yard -1 5
 try districts-missing 3 'nowhere.txt: No such file' '' districts nowhere.txt 5
 try districts-option 4 "unknown option '--all'" '' districts --all $yard 5
-for words in "districts --table -o %s $yard 4"; do
+try mend-two 4 "one file is read, and there is also '$dear'" '' mend $yard $dear
+try mend-option 4 "unknown option '--table'" '' mend --table $yard
+try mend-stp 3 'no plan to mend' '' mend $street
+for words in "districts --table -o %s $yard 4" 'mend -o %s tests/console/mend-apart.txt'; do
     echo kept >"$work/kept.txt"
     try "refused: $words" 2 '^Refused' '' ${words/\%s/$work/kept.txt}
     [ "$(cat "$work/kept.txt")" = kept ] && [ ! -s "$work/out" ]
     verdict "refused, and nothing written: $words" $?
 done
-for words in "districts $yard 5" "districts --table $yard 5"; do
+for words in "districts $yard 5" "districts --table $yard 5" "mend $old"; do
     "${star[@]}" $words >/dev/full 2>"$work/all"
     [ $? = 5 ] && grep -q 'standard output: it could not be written: No space left' "$work/all"
     verdict "full: $words" $?
@@ -42,7 +56,7 @@ for words in "districts $yard 5" "districts --table $yard 5"; do
     [ $? = 5 ] && grep -q 'standard output: it could not be written' "$work/all"
     verdict "closed: $words" $?
 done
-for word in districts; do try "help: $word" 0 "^ +star $word " '' $word --help; done
+for word in districts mend; do try "help: $word" 0 "^ +star $word " '' $word --help; done
 
 echo "$passed passed, $failed failed"
 [ "$failed" = 0 ]
