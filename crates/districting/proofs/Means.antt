@@ -135,6 +135,7 @@ module _ (c : Call) (F ends : List ℕ) (t : Taken c F ends) where
     worth =
         record {
           bytes = (claimOf-length (rowsOf c) (forestRows c ends), claimOf-length (rowsOf c) (f .chosen));
+          zero-or-one = (claimOf-bytes (rowsOf c) (forestRows c ends), claimOf-bytes (rowsOf c) (f .chosen));
           rows = (λ i h. row-of c (forestRows c ends) forests-inside i (rw forest-marks at h), λ i h. row-of c (f .chosen) (built-least .tree .inside) i (rw tree-marks at h));
           of-runs = rw forest-marks (known .of-runs);
           from-forests = λ i h. rw forest-marks (known .from-forests f z i (rw tree-marks at h));

@@ -12,6 +12,7 @@ use Rattle.demand3.specs.Demand3.{ClaimTree, LeastClaim}
 use Rattle.forest.specs.Districts.{run, EachRun}
 use Rattle.forest.specs.Forest.{LeastForest}
 use Rattle.refusal.specs.declared.Refusal.{Refusal}
+use Rattle.rowset.specs.Bytes.{inRow}
 use Rattle.rowset.specs.Sets.{both}
 use Rattle.star.specs.Accepted.{AcceptedTable, Row}
 use Rattle.star.specs.Call.{Call, graphOf, weightOf, marked, claimWeight, withClaim}
@@ -36,10 +37,11 @@ pub record Taken (c : Call) (F ends : List ℕ) : Type 0 where
 abbrev pub TakenMeans : Type 0
 TakenMeans = (c : Call) (F ends : List ℕ) → (refusal (runCauses c F ends) ≡ none) ↔ Taken c F ends
 
--- what is built is worth, with the forests' column F and the mark column T afterwards
+-- what the forests' column F and the mark column T are worth where a tree of this weight is built
 pub record City (c : Call) (F T ends : List ℕ) (weight : ℤ) : Type 0 where
-  -- both columns have m bytes, and mark rows in use alone
+  -- both columns have m bytes, 0 and 1 only, and 1 at rows in use alone
   pub bytes : (length F ≡ c .m) × (length T ≡ c .m)
+  pub zero-or-one : ((i : ℕ) → inRow 1 F i ≤ 1) × ((i : ℕ) → inRow 1 T i ≤ 1)
   pub rows : ((i : ℕ) → marked F i ≡ true → Row c i) × ((i : ℕ) → marked T i ≡ true → Row c i)
   -- the rows that F marks in a run are a least forest of the run
   pub of-runs : EachRun (λ p q. LeastForest (graphOf c) (weightOf c) (run (graphOf c) p q) (both (marked F) (run (graphOf c) p q))) 0 ends
