@@ -6,10 +6,14 @@ use Rattle.digsdoor.proofs.digs_text_door.star_digs_text.Statement.{sta
 use Rattle.digsdoor.proofs.digs_text_door.star_digs_text.Tie as tie
 
 returns : tie.Need-returns
-returns c = no-answer _ _ _ _ (c .if1 .taken)
+returns c =
+    let a = c .before .before .before .before .args in
+    no-answer (a .text .now) (a .answer .now) _ _ (λ e. omega arith)
 
 returns-2 : tie.Need-returns-2
-returns-2 c = no-room _ _ _ _ (c .if2 .taken)
+returns-2 c =
+    let a = c .before .before .before .before .before .args in
+    no-room (a .text .now) (a .answer .now) _ _ (omega arith)
 
 returns-3 : tie.Need-returns-3
 returns-3 c =
