@@ -11,9 +11,8 @@ CXXFLAGS ?= -O2
 PREFIX ?= /usr/local
 BUILD := target/c
 # The crates whose functions for C the library is made of.
-DOORS := door workdoor changedoor importdoor digsdoor quotedoor breakingdoor whichdoor districtsdoor menddoor
+DOORS := door workdoor changedoor importdoor digsdoor quotedoor breakingdoor whichdoor districtsdoor menddoor outletsdoor
 STAMPS := $(DOORS:%=target/stamp/%) target/stamp/programs
-STAMPS := $(DOORS:%=target/stamp/%)
 ARCHIVES := $(DOORS:%=target/staticlib/lib%.a)
 ARCHIVE := $(BUILD)/libproved.a
 LIBRARY := $(BUILD)/libstar.a
@@ -109,11 +108,12 @@ $(ASKED:%=$(BUILD)/%_test_faulty): $(BUILD)/%_test_faulty: tests/%_test.c tests/
 	$(CC) -std=c99 $(CFLAGS) -Iinclude -c -o $(BUILD)/faulty_$*.o tests/faulty_$*.c
 	$(CC) -std=c99 $(CFLAGS) -Iinclude -Itests -Dstar_$*=faulty_$* -Dstar_work_$*=faulty_work_$* -Dstar_$*_text=faulty_$*_text -o $@ $< $(ASKED_PARTS) $(BUILD)/faulty_$*.o $(ARCHIVE) -pthread
 
-# Districts and mends, in the same two ways: each has its test, its faulty doors, and a plain implementation if it needs one.
-PLANS := districts mend
+# Districts, mends and outlets, in the same two ways: each has its test, its faulty doors, and a plain implementation if it needs one.
+PLANS := districts mend outlets
 PLAN := tests/plan_lent.c tests/plain_work.c tests/plain.c
 PLAN_HEADERS := tests/plan_lent.h tests/plain_work.h tests/plain.h include/star.h
 PLAIN_mend := tests/plain_mend.c
+PLAIN_outlets := tests/plain_outlets.c
 $(PLANS:%=$(BUILD)/%_test): $(BUILD)/%_test: $(ARCHIVE) tests/%_test.c $(PLAN) $(PLAN_HEADERS) $(wildcard tests/plain_*.[ch])
 	@mkdir -p $(BUILD)
 	$(CC) -std=c99 $(CFLAGS) -Iinclude -Itests -o $@ tests/$*_test.c $(PLAIN_$*) $(PLAN) $(ARCHIVE)

@@ -1,5 +1,5 @@
 // The doors against a plain implementation in C and, where they are installed, LEMON, Boost Graph and igraph: MST1, CST, the quote, the breaking price,
-// districts and mends; MST1 and CST on working tables too. One process, one table at a time; the median of many rounds. What is found is
+// districts, mends and outlets; MST1 and CST on working tables too. One process, one table at a time; the median of many rounds. What is found is
 // compared, so that a solver that is wrong is told.
 // usage: bench [PLOT]   prints the times; writes a plot (SVG) of time against the number of rows to the file PLOT
 #include "plot.hpp"
@@ -72,9 +72,31 @@ void measure_working(uint32_t n) {
     rows.print();
 }
 
+// The rows of junction 1 are as many as there can be, 254 of the 1,024: each but one of them goes out before one is left.
+Table boiler_house() {
+    Table t = make(255, STAR_MAX_ROWS, 0, STAR_MAX_PRICE);
+    uint32_t a = 1, b = 1;
+    for (size_t i = 0; i < t.rows(); i++) {
+        if (++b > t.n) a++, b = a + 1;
+        t.left[i] = uint8_t(a);
+        t.right[i] = uint8_t(b);
+    }
+    return t;
+}
+
+// star_outlets with t rows at r; the total is what the first call gives.
+void add_outlets(Rows &rows, const char *name, uint32_t r, uint32_t count) {
+    uint8_t answer[16];
+    auto outlets = [&, r, count](Table &t) {
+        star_outlets(t.n, t.left.data(), t.rows(), t.right.data(), t.rows(), t.weight.data(), t.weight.size(), t.mark.data(), t.rows(), r, count, answer, 16);
+        return answer[0] == STAR_PASSED ? amount(answer) : INT64_MIN;
+    };
+    rows.add(name, outlets, rows.t, outlets(rows.t));
+}
+
 // The doors that make plans, on the largest tables.
 void measure_plans() {
-    Table t = make(255, STAR_MAX_ROWS, 0, STAR_MAX_PRICE);
+    Table t = make(255, STAR_MAX_ROWS, 0, STAR_MAX_PRICE), boiler = boiler_house();
     std::vector<uint8_t> claim(t.rows()), forests(t.rows());
     std::vector<uint32_t> list(2 * STAR_RECORD_NUMBERS * t.rows());
     uint32_t ends[STAR_MAX_RUNS];
@@ -90,12 +112,19 @@ void measure_plans() {
         star_mend(of.n, of.left.data(), of.rows(), of.right.data(), of.rows(), of.weight.data(), of.weight.size(), of.mark.data(), of.rows(), list.data(), list.size(), answer, 16);
         return amount(answer);
     };
-    std::printf("n %u, m %zu: eight districts; a claim of random marks mended\n", t.n, t.rows());
+    std::printf("n %u, m %zu: eight districts; a claim of random marks mended; the fewest rows at a junction\n", t.n, t.rows());
     Rows rows(t, plain_build(t));
     rows.add("star_districts", districts);
     rows.add("star_mend", mend, t, mend(t));
+    add_outlets(rows, "star_outlets", t.left[t.rows() / 2], 1);
     rows.add_libraries();
     rows.print();
+    std::printf("n %u, m %zu, with 254 rows at junction 1, of which one is left\n", boiler.n, boiler.rows());
+    Rows others(boiler, plain_build(boiler));
+    add_outlets(others, "star_outlets, 1 of 254", 1, 1);
+    add_outlets(others, "star_outlets, 128", 1, 128);
+    others.add_libraries();
+    others.print();
 }
 
 // The times of each solver of the least network as the rows become more.

@@ -7,10 +7,10 @@
 
 /* What is asked for beside the command. */
 struct options {
-    int table;     /* build, districts: the table with the chosen trenches marked */
+    int table;     /* build, districts, outlets: the table with the chosen trenches marked */
     int all;       /* explain: every trench that is left out */
     size_t trench; /* explain: this one; 0 for none */
-    char **words;  /* quote, breaking, which, stretch, strike, add, districts: what follows the file */
+    char **words;  /* quote, breaking, which, stretch, strike, add, districts, outlets: what follows the file */
     int count;
 };
 
@@ -31,6 +31,7 @@ int command_add(struct table *t, const struct options *with, struct output *o); 
 int command_merge(struct table *t, const struct options *with, struct output *o);   /* writes the file without its struck trenches */
 int command_districts(struct table *t, const struct options *with, struct output *o); /* lists the cheapest trenches of each district, and of the city */
 int command_mend(struct table *t, const struct options *with, struct output *o);    /* writes the file with its plan mended, and tells each step */
+int command_outlets(struct table *t, const struct options *with, struct output *o); /* lists the cheapest network with a number of trenches at a junction */
 
 /* Why there are 255 junctions at most. */
 void explain_limit(struct message *to);

@@ -118,6 +118,14 @@ struct star_answer table_mend(struct table *t, uint32_t list[LIST]) {
     return star_read_answer(answer);
 }
 
+struct star_answer table_outlets(struct table *t, uint32_t junction, uint32_t count) {
+    uint8_t answer[STAR_ANSWER_BYTES];
+    uint64_t in_use[STAR_COLUMN_WORDS];
+    if (working(t, in_use)) star_work_outlets(t->n, in_use, STAR_COLUMN_WORDS, COLUMNS(t, STAR_MAX_ROWS), t->mark, STAR_MAX_ROWS, junction, count, answer, sizeof answer);
+    else star_outlets(t->n, COLUMNS(t, kept(t)), t->mark, kept(t), junction, count, answer, sizeof answer);
+    return star_read_answer(answer);
+}
+
 struct star_answer table_strike(struct table *t, size_t i) {
     uint8_t answer[STAR_ANSWER_BYTES];
     uint64_t in_use[STAR_COLUMN_WORDS];

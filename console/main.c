@@ -28,6 +28,7 @@ static const char HELP[] =
     "       star merge [FILE]          write the file without its struck trenches, and tell the new numbers of the others\n"
     "       star districts [--table] FILE END..   list the cheapest trenches of each district, END its last trench, then the city's from these\n"
     "       star mend [FILE]           write the file with its plan made a cheapest network, and tell each step\n"
+    "       star outlets [--table] FILE JUNCTION COUNT   list a cheapest network with exactly COUNT trenches at JUNCTION\n"
     "       star --help, -h            this text\n"
     "       star --version             the version\n"
     "\n"
@@ -77,6 +78,7 @@ static const struct command COMMANDS[] = {
     {"merge", command_merge, "", LINES, WRITING, NULL},
     {"districts", command_districts, "tw", FILE_ALONE, WORDS, NULL},
     {"mend", command_mend, "", PLAN, WRITING, "mend"},
+    {"outlets", command_outlets, "tw", FILE_ALONE, WORDS, NULL},
 };
 
 struct request {

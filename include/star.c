@@ -23,6 +23,7 @@ static const char *const TEXTS[] = {
     [STAR_SHORT_RECORDS] = "the list has fewer than two records for each row",
     [STAR_TABLE_FULL] = "a row is added, and all 1024 are in use",
     [STAR_NOT_IN_USE] = "the row to strike is not in use",
+    [STAR_NO_OUTLETS] = "no network has exactly this number of rows at the junction",
 };
 
 const char *star_refusal_text(unsigned number) { return number < sizeof TEXTS / sizeof TEXTS[0] && TEXTS[number] ? TEXTS[number] : "a refusal without a text"; }

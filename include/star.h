@@ -19,11 +19,12 @@
  * star_import reads a SteinLib STP text into columns of 1,024 rows; it has no marks.
  * star_districts  finds the least trenches of each run of the rows, and a least network from these alone.
  * star_mend       turns any claim into a least network, and lists each step.
+ * star_outlets    builds a network that is least among those with an exact number of rows at one junction.
  *
  * A working table is one in which rows are struck out and entered. All its columns have 1,024 rows, marks too, and sixteen words say which
  * of them are in use (star_in_use): the rows in use are the table, and what stands in the others is not looked at.
  *
- * star_work_X   answers as star_X, over the rows in use (cst, other, mst1, paths, quote, breaking, which, digs, districts, mend). What is
+ * star_work_X   answers as star_X, over the rows in use (cst, other, mst1, paths, quote, breaking, which, digs, districts, mend, outlets). What is
  *               said below of star_X holds of it too.
  * star_strike   takes a row out of use.
  * star_add      enters a row after the last one in use.
@@ -81,7 +82,8 @@ enum star_kind {
     STAR_REFUSED = 0,
     STAR_PASSED = 1,  /* star_cst, star_other: no cheaper set exists; star_mst1: the network is built; star_paths: the matrix is filled;
                          star_quote: both totals are found; star_breaking: there is such a price; star_which: both claims are trees;
-                         star_digs: the list is written; star_import: the text is read; star_strike, star_add, star_merge, star_districts, star_mend: done */
+                         star_digs: the list is written; star_import: the text is read; star_strike, star_add, star_merge, star_districts,
+                         star_mend, star_outlets: done */
     STAR_LIGHTER = 2, /* a cheaper set exists: the exchange of two rows is one */
     STAR_NEVER = 2    /* star_breaking: no other route joins the row's ends, so that it is in every network */
 };
@@ -94,12 +96,13 @@ enum star_refusal {
                                     tables: the rows in use are not sixteen words, or the numbers not 1,024 */
     STAR_BAD_END = 4,            /* place: the uppermost row with an end that is 0 or above n, or with equal ends */
     STAR_BAD_MARK = 6,           /* place: the uppermost row marked with another byte than 0 and 1 (all but star_mst1) */
-    STAR_BAD_SOURCE = 7,         /* s is 0 or above n (star_paths); the row asked about is 0, above m or not in use (star_quote,
+    STAR_BAD_SOURCE = 7,         /* s (star_paths) or r (star_outlets) is 0 or above n; the row asked about is 0, above m or not in use (star_quote,
                                     star_breaking) */
     STAR_SHORT_MATRIX = 8,       /* the matrix has fewer than 16 n words (star_paths) */
     STAR_BAD_MARK_COUNT = 9,     /* the marks are not n - 1 (all but star_mst1) */
     STAR_NOT_JOINED = 10,        /* place: the smallest junction that marked rows do not join to 1, or to s (star_paths) */
-    STAR_NO_NETWORK = 11,        /* no set of rows joins every junction (star_mst1, star_quote, star_breaking, star_digs, star_districts, star_mend) */
+    STAR_NO_NETWORK = 11,        /* no set of rows joins every junction (star_mst1, star_quote, star_breaking, star_digs, star_districts, star_mend,
+                                    star_outlets) */
     STAR_BAD_TEXT = 12,          /* place: the first byte, counted from 0, of the first word that cannot stand; the text's length if it ends
                                     too early; 65,536 if it is longer (star_import) */
     STAR_BAD_EDGE_COUNT = 13,    /* the E lines are not as many as the line Edges says (star_import) */
@@ -109,7 +112,8 @@ enum star_refusal {
                                     after 4 and before 6 */
     STAR_SHORT_RECORDS = 16,     /* the list has fewer than 2 m records (star_mend); told after 6 and before 11 */
     STAR_TABLE_FULL = 17,        /* all 1,024 rows are in use (star_add); told before 3 */
-    STAR_NOT_IN_USE = 18         /* the row is not in use, or none from 1 to 1,024 (star_strike); told before 3 */
+    STAR_NOT_IN_USE = 18,        /* the row is not in use, or none from 1 to 1,024 (star_strike); told before 3 */
+    STAR_NO_OUTLETS = 19         /* the table is connected, and no network has exactly t rows at r (star_outlets); told after 11 */
 };
 
 /* A refusal in words, such as "the marks are not n - 1"; never a null pointer, whatever the number. */
@@ -295,6 +299,15 @@ uint32_t star_mend(uint32_t n, const uint8_t *left, size_t left_len, const uint8
 uint32_t star_work_mend(uint32_t n, const uint64_t *in_use, size_t in_use_words, const uint8_t *left, size_t left_len, const uint8_t *right,
                         size_t right_len, const uint8_t *weight, size_t weight_len, uint8_t *mark, size_t mark_len,
                         uint32_t *list, size_t count, uint8_t *answer, size_t answer_len);
+
+/* Builds a network with exactly t rows at junction r, and marks its rows: every other one with exactly t rows at r costs at least as much. The answer's
+ * amount is its total; the marks lent are not read. A refusal is 1, 2, 3, 4, 15, 7, 11 or 19, in this order. */
+uint32_t star_outlets(uint32_t n, const uint8_t *left, size_t left_len, const uint8_t *right, size_t right_len, const uint8_t *weight,
+                      size_t weight_len, uint8_t *mark, size_t mark_len, uint32_t r, uint32_t t, uint8_t *answer, size_t answer_len);
+
+uint32_t star_work_outlets(uint32_t n, const uint64_t *in_use, size_t in_use_words, const uint8_t *left, size_t left_len, const uint8_t *right,
+                           size_t right_len, const uint8_t *weight, size_t weight_len, uint8_t *mark, size_t mark_len, uint32_t r, uint32_t t,
+                           uint8_t *answer, size_t answer_len);
 
 /* Reads an STP text: a first line that opens with 33D32945; sections, of which one is named Graph, with its lines Nodes N, Edges M,
  * E LEFT RIGHT PRICE for each row, END; and EOF. Sections of other names are skipped. left, right and weight are lent for 1,024 rows:

@@ -1,4 +1,4 @@
-/* What the faulty doors of districts and mends have in common: which fault is asked for, and the table as it is lent. */
+/* What the faulty doors of districts, mends and outlets have in common: which fault is asked for, and the table as it is lent. */
 #ifndef TESTS_FAULTY_PLAN_H
 #define TESTS_FAULTY_PLAN_H
 

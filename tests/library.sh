@@ -92,8 +92,33 @@ row 4 stays up to 5
 row 5 stays up to 5
 plan 2 stands: 12
 TEXT
+cat >"$work/expected-plans" <<'TEXT'
+mended, in steps: 3
+  dropped: out 5, in 0
+  added: out 0, in 3
+  exchanged: out 1, in 4
+  row 2: 2-3, price 3
+  row 3: 3-4, price 5
+  row 4: 1-4, price 4
+rows 1 and 2, then 3 to 5: 12
+  row 1: 1-2, price 5
+  row 2: 2-3, price 3
+  row 3: 3-4, price 5
+  row 4: 1-4, price 4
+the city
+  row 1: 1-2, price 5
+  row 2: 2-3, price 3
+  row 4: 1-4, price 4
+3 at junction 1
+the least total: 15
+  row 1: 1-2, price 5
+  row 4: 1-4, price 4
+  row 5: 1-3, price 6
+4 at junction 1
+the least total: refused 19, no network has exactly this number of rows at the junction
+TEXT
 mv "$work/expected" "$work/expected-plan"
-for example in plan blocked prices; do
+for example in plan blocked prices plans; do
     holds "c99 $example" "$compiler" -std=c99 "${strict[@]}" -o "$work/$example-c" "console/examples/$example.c" "${flags[@]}"
     holds "c++17 $example" "$plus" -std=c++17 "${strict[@]}" -o "$work/$example-cpp" -x c++ "console/examples/$example.c" -x none "${flags[@]}"
     for language in c cpp; do holds "$example-$language" diff "$work/expected-$example" <("$work/$example-$language" 2>&1); done
@@ -106,7 +131,7 @@ cat >"$work/texts.c" <<'TEXT'
 #include "star.h"
 int main(void) {
     unsigned i, k;
-    for (i = 0; i <= 18; i++)
+    for (i = 0; i <= 19; i++)
         for (k = 0; k < i; k++)
             if (strlen(star_refusal_text(i)) < 10 || strcmp(star_refusal_text(i), star_refusal_text(k)) == 0) return 1;
     if (strcmp(star_refusal_text(STAR_NO_NETWORK), "no set of rows joins every junction") != 0) return 2;
@@ -148,10 +173,10 @@ fi
 
 # The manual page: every command, option and status of the help, and no fault that a formatter finds.
 manual=$to/share/man/man1/star.1
-for word in check build explain page draw dot table digs quote breaking which stretch strike add merge districts mend struck '\\-\\-table' '\\-\\-all' '\\-o' '\\-h' '\\-\\-help' '\\-\\-version'; do holds "manual $word" grep -q -- "$word" "$manual"; done
+for word in check build explain page draw dot table digs quote breaking which stretch strike add merge districts mend outlets struck '\\-\\-table' '\\-\\-all' '\\-o' '\\-h' '\\-\\-help' '\\-\\-version'; do holds "manual $word" grep -q -- "$word" "$manual"; done
 for status in 0 1 2 3 4 5; do holds "manual status $status" grep -qx ".B $status" "$manual"; done
 if command -v groff >/dev/null; then holds manual-format [ -z "$(groff -t -man -ww -z -Tascii "$manual" 2>&1)" ]; fi
-for word in 'star explain' 'star page' 'star digs' 'star quote' 'star breaking' 'star which' 'star stretch' 'star strike' 'star add' 'star merge' 'star districts' 'star mend' "opens with 'struck'" '--all' 'star dot' '-o FILE' '--version' '5 the output'; do holds "help $word" grep -q -- "$word" <("$to/bin/star" --help); done
+for word in 'star explain' 'star page' 'star digs' 'star quote' 'star breaking' 'star which' 'star stretch' 'star strike' 'star add' 'star merge' 'star districts' 'star mend' 'star outlets' "opens with 'struck'" '--all' 'star dot' '-o FILE' '--version' '5 the output'; do holds "help $word" grep -q -- "$word" <("$to/bin/star" --help); done
 
 # uninstall removes what install has put there, and nothing else.
 touch "$to/bin/other"

@@ -51,8 +51,8 @@ for asked in quote breaking which digs; do
     controls "${asked}_test_faulty" $(sed -n 's/.*fault("\([^"]*\)").*/\1/p' "tests/faulty_$asked.c")
 done
 
-# Districts and mends, in the same way: a name and how many tables.
-for plan in 'districts 50000' 'mend 50000'; do
+# Districts, mends and outlets, in the same way: a name and how many tables.
+for plan in 'districts 50000' 'mend 50000' 'outlets 20000'; do
     read -r name tables <<<"$plan"
     "$build/${name}_test" "$tables" | tee "$work/$name"
     add "$work/$name"
@@ -81,7 +81,7 @@ if command -v valgrind >/dev/null; then
     memory "$build/door_test" 150
     memory "$build/work_test" 1000 exact
     for asked in quote breaking which digs; do memory "$build/${asked}_test" 300 exact; done
-    for name in districts mend; do memory "$build/${name}_test" 300 exact; done
+    for name in districts mend outlets; do memory "$build/${name}_test" 300 exact; done
     memory "$build/import_test" "$work/texts" 20
     for words in 'draw console/examples/t2.txt' 'build tests/console/build-refused11.txt' 'check tests/console/check-refused4.txt' \
         'build tests/console/build-stp-edges.txt' 'build tests/console/build-stp-price-above.txt' 'draw console/examples/grant.txt' 'table console/examples/street.stp' \
@@ -90,7 +90,8 @@ if command -v valgrind >/dev/null; then
         'which console/examples/office-a.txt console/examples/office-b.txt' 'which console/examples/yard.txt console/examples/t1.txt' 'stretch console/examples/city.txt 1 255' \
         'digs console/examples/struck.txt' 'digs console/examples/street.stp' 'digs tests/console/build-stp-word.txt' \
         'strike console/examples/struck.txt 1' 'merge console/examples/struck.txt' 'add console/examples/struck.txt 2 4 7' 'page console/examples/struck.txt' \
-        'districts console/examples/struck.txt 2 5' 'districts console/examples/yard.txt 1 2 3 4 5 6 7 8 9 10' 'mend console/examples/old.txt' 'mend console/examples/struck.txt'; do
+        'districts console/examples/struck.txt 2 5' 'districts console/examples/yard.txt 1 2 3 4 5 6 7 8 9 10' 'mend console/examples/old.txt' 'mend console/examples/struck.txt' \
+        'outlets console/examples/struck.txt 1 9' 'outlets console/examples/yard.txt 1 3'; do
         valgrind -q --error-exitcode=9 --leak-check=full --errors-for-leak-kinds=definite "$build/star" $words >"$work/valgrind" 2>&1
         if [ $? != 9 ]; then passed=$((passed + 1)); else
             echo "valgrind found a fault in star $words"

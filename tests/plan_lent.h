@@ -1,4 +1,4 @@
-/* Tables as they are lent to the doors of districts and mends, plain ones and working ones: how they are made, damaged, lent and listed, and
+/* Tables as they are lent to the doors of districts, mends and outlets, plain ones and working ones: how they are made, damaged, lent and listed, and
    what the plain implementation says of them. */
 #ifndef TESTS_PLAN_LENT_H
 #define TESTS_PLAN_LENT_H

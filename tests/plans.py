@@ -1,4 +1,4 @@
-"""Tests of districts and mend: on random files, with struck trenches in some, what they write and tell against plain searches in Python, and
+"""Tests of districts, mend and outlets: on random files, with struck trenches in some, what they write and tell against plain searches in Python, and
 what check says of the plans that they write.
 usage: plans.py STAR.."""
 import itertools, random, re, subprocess, sys
@@ -165,7 +165,7 @@ def outlets(n):
             fault("outlets", r, count, text, out, err)
 
 
-for test in (districts, mend,):
+for test in (districts, mend, outlets):
     for number in range(60):
         test(random.randrange(2, 9))
 sys.exit(faults > 0)

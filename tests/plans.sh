@@ -1,5 +1,5 @@
 #!/usr/bin/env bash
-# Tests of the console's commands districts and mend; the stored cases of console.sh have the rest.
+# Tests of the console's commands districts, mend and outlets; the stored cases of console.sh have the rest.
 # usage: plans.sh STAR..   the program, with words before it if it is to be run by another. Ends in one line 'N passed, M failed'.
 . "$(dirname "$0")/try.sh"
 city=console/examples/city.txt old=console/examples/old.txt
@@ -26,10 +26,17 @@ verdict city-from-nothing $?
 cp $old "$work/old.txt"
 try old-in-place 0 '^exit 0' '' mend -o "$work/old.txt" "$work/old.txt"
 try old-again 0 'nothing to mend' '' mend "$work/old.txt"
+for count in 1 2 3; do
+    "${star[@]}" outlets --table $yard 1 $count | "${star[@]}" table - | awk '$4 == 1 && ($1 == 1 || $2 == 1)' | wc -l | grep -qx "$count"
+    verdict "outlets $count" $?
+done
+try outlets-city 0 '^Total 130' '' outlets $city 1 2
+try outlets-city-many 2 'Refused \(19\): .*from [0-9]+ to [0-9]+ are possible' '' outlets $city 1 200
+
 # The largest tables, and one trench more.
 for ((u = 1; u < 46; u++)); do for ((v = u + 1; v <= 46; v++)); do echo "$u $v $((u * v % 50)) $(((u + v) % 2))"; done; done | head -n 1024 >"$work/full.txt"
 { cat "$work/full.txt"; echo '45 46 3 0'; } >"$work/more.txt"
-for words in 'districts %s 1024' 'mend %s'; do
+for words in 'districts %s 1024' 'mend %s' 'outlets %s 1 1'; do
     try "full: $words" 0 '.' '' ${words/\%s/$work/full.txt}
     try "more: $words" 2 'Refused \(2\): .*more.txt: there are 1025 trenches; at most 1024' '' ${words/\%s/$work/more.txt}
 done
@@ -42,13 +49,17 @@ try districts-option 4 "unknown option '--all'" '' districts --all $yard 5
 try mend-two 4 "one file is read, and there is also '$dear'" '' mend $yard $dear
 try mend-option 4 "unknown option '--table'" '' mend --table $yard
 try mend-stp 3 'no plan to mend' '' mend $street
-for words in "districts --table -o %s $yard 4" 'mend -o %s tests/console/mend-apart.txt'; do
+try outlets-few 4 "a junction and a number of trenches follow the file of 'outlets'" '' outlets $yard 1
+try outlets-more 4 "a junction and a number of trenches follow the file of 'outlets'" '' outlets $yard 1 2 3
+try outlets-word 4 "a junction is a number from 1 to 255, and not 'x'" '' outlets $yard x 1
+try outlets-count 4 "the trenches at a junction are a number, and not '-1'" '' outlets $yard 1 -1
+for words in "districts --table -o %s $yard 4" 'mend -o %s tests/console/mend-apart.txt' "outlets --table -o %s $yard 1 9"; do
     echo kept >"$work/kept.txt"
     try "refused: $words" 2 '^Refused' '' ${words/\%s/$work/kept.txt}
     [ "$(cat "$work/kept.txt")" = kept ] && [ ! -s "$work/out" ]
     verdict "refused, and nothing written: $words" $?
 done
-for words in "districts $yard 5" "districts --table $yard 5" "mend $old"; do
+for words in "districts $yard 5" "districts --table $yard 5" "mend $old" "outlets $yard 1 2" "outlets --table $yard 1 2"; do
     "${star[@]}" $words >/dev/full 2>"$work/all"
     [ $? = 5 ] && grep -q 'standard output: it could not be written: No space left' "$work/all"
     verdict "full: $words" $?
@@ -56,7 +67,7 @@ for words in "districts $yard 5" "districts --table $yard 5" "mend $old"; do
     [ $? = 5 ] && grep -q 'standard output: it could not be written' "$work/all"
     verdict "closed: $words" $?
 done
-for word in districts mend; do try "help: $word" 0 "^ +star $word " '' $word --help; done
+for word in districts mend outlets; do try "help: $word" 0 "^ +star $word " '' $word --help; done
 
 echo "$passed passed, $failed failed"
 [ "$failed" = 0 ]
