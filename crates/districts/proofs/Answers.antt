@@ -13,10 +13,10 @@ use native.Mathlib.Omega.{arith}
 use Rattle.districting.proofs.Causes.{causes-in-order, none-applies, taken-means, words-rise}
 use Rattle.districting.specs.Districts.{forestRows, cityTree, cityRows, noCity, runCauses, districtCauses, answerOr, districtsAnswer, columnOr, districtsForests, districtsMarks}
 use Rattle.districting.specs.Means.{Taken}
-use Rattle.districts.proofs.Cut.{forests-cut}
 use Rattle.districts.specs.steps.Divided.{Divided}
 use Rattle.forest.proofs.Districts.{districts-hold}
 use Rattle.forest.specs.Districts.{forests, within, districts, Districts}
+use Rattle.forests.proofs.Cut.{forests-cut}
 use Rattle.graph.specs.Builder.{Fragment, tree}
 use Rattle.graph.specs.Graph.{Graph}
 use Rattle.mst1.proofs.Answers.{loaded-weights}

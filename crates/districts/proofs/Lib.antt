@@ -1,4 +1,2 @@
-pub mod Growing
-pub mod Cut
-pub mod Runs
+pub mod Ends
 pub mod Answers

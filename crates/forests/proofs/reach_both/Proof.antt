@@ -1,7 +1,7 @@
--- `districts::reach_both` meets its contract: MATCH of either end, one after the other. Assumes nothing.
+-- `forests::reach_both` meets its contract: MATCH of either end, one after the other. Assumes nothing.
 use borrow.Author.Needs.{needs}
-use Rattle.districts.proofs.reach_both.Statement.{statement}
-use Rattle.districts.proofs.reach_both.Tie as tie
+use Rattle.forests.proofs.reach_both.Statement.{statement}
+use Rattle.forests.proofs.reach_both.Tie as tie
 
 returns : tie.Need-returns
 returns c = rw (← c .before .reach .ensures) (c .reach2 .ensures)

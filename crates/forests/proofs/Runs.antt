@@ -1,42 +1,21 @@
--- The ends of runs read one after the other: whether they rise, and the forests gathered so far.
+-- A run of a slice's rows, and the forests of runs gathered one after the other.
 -- Assumes nothing.
-use Prim.Native.Nat.{ℕ, zero, suc, _+_, _≤_, _<_}
-use borrow.Author.Tests.{lt-ltb, le-ltb}
-use lib.Dec.{eqb, ltb, leb}
+use Prim.Native.Nat.{ℕ, _+_, _≤_, _<_}
 use lib.IntN.{ℤ}
 use lib.ListN.{length, getD, drop, drop-of-length-le}
 use lib.Seq.{drop-cons}
-use mathlib.Core.Bool.{Bool, true, false, not, _&&_, _||_, and-false, or-false}
+use mathlib.Core.Bool.{Bool, true, false, not, _&&_, _||_, or-false}
 use mathlib.Core.List.{List, [], _∷_}
 use mathlib.Core.Path.{_≡_, refl, sym, _∙_, ap, fun-ext}
 use native.Mathlib.Numerals.{add-one}
-use native.Mathlib.Omega.{arith}
-use Rattle.districts.proofs.Cut.{forest-within}
-use Rattle.forest.specs.Districts.{run, risesTo, forestsAfter, forests, within}
+use Rattle.forests.proofs.Cut.{forest-within}
+use Rattle.forest.specs.Districts.{run, forestsAfter, forests, within}
 use Rattle.forest.specs.Growing.{grownForest}
 use Rattle.graph.specs.Graph.{Graph}
 use Rattle.rowset.specs.Sets.{empty, upTo, both, either, without}
 use Rattle.slice.proofs.Laws.{component-outside}
 use Rattle.slice.specs.Slices.{size, component}
 use Rattle.slice.specs.declared.Slice.{Slice}
-
--- ── Whether they rise ──
-
-module _ (ends : List ℕ) (m p j : ℕ) (inv : risesTo m p (drop j ends) ≡ risesTo m 0 ends) where
-  -- an end that is not above the one before
-  pub rises-not : j < length ends → getD ends j 0 ≤ p → false ≡ risesTo m 0 ends
-  unfolding risesTo
-  rises-not h l = sym (ap (risesTo m p) (drop-cons ends j 0 h) ∙ rw (le-ltb p (getD ends j 0) l)) ∙ inv
-
-  -- an end that is
-  pub rises-more : j < length ends → p < getD ends j 0 → risesTo m (getD ends j 0) (drop (j + 1) ends) ≡ risesTo m 0 ends
-  unfolding risesTo
-  rises-more h l = rw add-one (sym (ap (risesTo m p) (drop-cons ends j 0 h) ∙ rw (lt-ltb p (getD ends j 0) l)) ∙ inv)
-
-  -- no end left
-  pub rises-last : length ends ≤ j → eqb p m ≡ risesTo m 0 ends
-  unfolding risesTo
-  rises-last h = sym (ap (risesTo m p) (drop-of-length-le ends h)) ∙ inv
 
 -- ── A run of a slice's rows ──
 

@@ -1,9 +1,9 @@
--- `districts::next_row` meets its contract: the cheapest of the rows that cross, else of those that neither slice has. Assumes nothing.
+-- `forests::next_row` meets its contract: the cheapest of the rows that cross, else of those that neither slice has. Assumes nothing.
 use borrow.Author.Needs.{needs}
 use native.Mathlib.Omega.{arith}
-use Rattle.districts.proofs.Growing.{first-found, second-found}
-use Rattle.districts.proofs.next_row.Statement.{statement}
-use Rattle.districts.proofs.next_row.Tie as tie
+use Rattle.forests.proofs.Growing.{first-found, second-found}
+use Rattle.forests.proofs.next_row.Statement.{statement}
+use Rattle.forests.proofs.next_row.Tie as tie
 
 returns : tie.Need-returns
 returns c =

@@ -1,17 +1,17 @@
--- `districts::forest_of` meets its contract. The loop's invariant: the slices are those of the forest after k rows. The measure is the number of rows left.
+-- `forests::forest_of` meets its contract. The loop's invariant: the slices are those of the forest after k rows. The measure is the number of rows left.
 -- Assumes nothing.
 use Prim.Native.Nat.{_≤_, _<_, _-_, _^_}
 use borrow.Author.Needs.{needs}
 use native.Mathlib.Omega.{arith}
-use Rattle.districts.proofs.Growing.{Grew, grew-none, grew-ended, grew-more, grew-whole}
+use Rattle.forests.proofs.Growing.{Grew, grew-none, grew-ended, grew-more, grew-whole}
 use Rattle.matrix.specs.Matrix.{matrixColumn}
 use Rattle.mst1.specs.steps.Growth.{graphBy}
 use Rattle.rowset.specs.Columns.{inColumns}
 use Rattle.rowset.specs.Integers.{integerIn}
 use Rattle.slice.specs.Slices.{component}
 use Rattle.table.specs.Tables.{width}
-use Rattle.districts.proofs.forest_of.Statement.{statement}
-use Rattle.districts.proofs.forest_of.Tie as tie
+use Rattle.forests.proofs.forest_of.Statement.{statement}
+use Rattle.forests.proofs.forest_of.Tie as tie
 
 abbrev Inv-loop : tie.InvT-loop
 Inv-loop left l right r weight w rows n lefts₀ rights₀ chosen₀ k₀ lefts rights chosen k =

@@ -1,9 +1,9 @@
--- `districts::run_of` meets its contract: a slice's rows are positions 1 to 1,024. Assumes nothing.
+-- `forests::run_of` meets its contract: a slice's rows are positions 1 to 1,024. Assumes nothing.
 use borrow.Author.Needs.{needs}
 use mathlib.Core.Path.{_∙_}
-use Rattle.districts.proofs.Runs.{run-rows}
-use Rattle.districts.proofs.run_of.Statement.{statement}
-use Rattle.districts.proofs.run_of.Tie as tie
+use Rattle.forests.proofs.Runs.{run-rows}
+use Rattle.forests.proofs.run_of.Statement.{statement}
+use Rattle.forests.proofs.run_of.Tie as tie
 
 returns : tie.Need-returns
 returns c =

@@ -1,9 +1,9 @@
--- `districts::forests_on` meets its contract: the columns that are left out change no row. Assumes nothing.
+-- `forests::forests_on` meets its contract: the columns that are left out change no row. Assumes nothing.
 use borrow.Author.Needs.{needs}
 use mathlib.Core.Path.{_∙_}
 use Rattle.mst1.proofs.Growth.{row-stored, filled-row, signed-row}
-use Rattle.districts.proofs.forests_on.Statement.{statement}
-use Rattle.districts.proofs.forests_on.Tie as tie
+use Rattle.forests.proofs.forests_on.Statement.{statement}
+use Rattle.forests.proofs.forests_on.Tie as tie
 
 returns : tie.Need-returns
 returns c =

@@ -1,10 +1,10 @@
--- `districts::forests_of` meets its contract. The loop's invariant: the forests gathered, with those of the ends that are left, are all. The measure is the number of ends left.
+-- `forests::forests_of` meets its contract. The loop's invariant: the forests gathered, with those of the ends that are left, are all. The measure is the number of ends left.
 -- Assumes nothing.
 use Prim.Native.Nat.{_≤_, _<_, _-_}
 use borrow.Author.Needs.{needs}
 use lib.ListN.{length}
 use native.Mathlib.Omega.{arith}
-use Rattle.districts.proofs.Runs.{Gathered, gathered-none, gathered-more, gathered-all}
+use Rattle.forests.proofs.Runs.{Gathered, gathered-none, gathered-more, gathered-all}
 use Rattle.forest.specs.Districts.{run}
 use Rattle.matrix.specs.Matrix.{matrixColumn}
 use Rattle.mst1.specs.steps.Growth.{graphBy}
@@ -12,8 +12,8 @@ use Rattle.rowset.specs.Columns.{inColumns}
 use Rattle.rowset.specs.Integers.{integerIn}
 use Rattle.slice.specs.Slices.{component}
 use Rattle.table.specs.Tables.{width}
-use Rattle.districts.proofs.forests_of.Statement.{statement}
-use Rattle.districts.proofs.forests_of.Tie as tie
+use Rattle.forests.proofs.forests_of.Statement.{statement}
+use Rattle.forests.proofs.forests_of.Tie as tie
 
 abbrev Inv-loop : tie.InvT-loop
 Inv-loop left l right r weight w rows n ends all₀ p₀ j₀ all p j =
