@@ -2,18 +2,17 @@
 -- Main statements: branch-path; each vertex but r hangs on a row of the tree at r (branch-row); the rows at r on the path of a row that is not at r are those on which its ends hang, where these differ (path-at);
 -- the branches with one row more (hung-hangs) and after an exchange (moved-hangs). Assumes nothing.
 use Prim.Native.Nat.{ℕ, _≤_}
-use borrow.Author.Tests.{eqb-true, eqb-false, eq-eqb, ne-eqb}
+use borrow.Author.Tests.{eqb-true, eq-eqb, ne-eqb}
 use lib.Dec.{eqb}
-use mathlib.Core.Bool.{Bool, true, false, not, cond, xor, _&&_, _||_, and-eq-true-iff, and-false}
+use mathlib.Core.Bool.{Bool, true, false, not, xor, _&&_, _||_, and-false}
 use mathlib.Core.Logic.{_≢_, _⊎_, ⊎-elim}
-use mathlib.Core.Path.{_≡_, refl, sym, _∙_, ap, fun-ext}
+use mathlib.Core.Path.{_≡_, refl, sym, _∙_, ap}
 use native.Mathlib.Decide.{ℕ-discrete}
-use native.Mathlib.Omega.{arith}
 use Rattle.degree.specs.Degree.{touches, pathAt}
 use Rattle.graph.proofs.Path.{changes-alike, path-inside, path-self, path-row, path-crossed, path-columns}
 use Rattle.graph.specs.Graph.{Graph, Sound, crosses}
 use Rattle.graph.specs.Tree.{SpanningTree, onPath, exchange}
-use Rattle.rowset.proofs.Laws.{clash, refuted, put-cases, put-other, put-same, takeOut-in, xor-self, xor-false, false-xor}
+use Rattle.rowset.proofs.Laws.{clash, put-cases, takeOut-in, xor-self, xor-false, false-xor}
 use Rattle.rowset.specs.Sets.{both, oneOf, put, takeOut}
 use Rattle.branches.specs.steps.Branches.{Hangs, hungOn, hung, moved}
 

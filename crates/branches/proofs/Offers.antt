@@ -2,13 +2,13 @@
 -- Main statements: the row that would go out is the heavier of the two on which the ends hang (row-out); the best offer of all rows is that of the row that comes in (best-row);
 -- an exchange made by it is the one of the definition, and the branches follow it (exchange-made, exchange-none). Assumes nothing.
 use Prim.Native.Nat.{ℕ, zero, suc, _+_, _-_, _≤_, _<_}
-use borrow.Author.Tests.{eqb-true, eqb-false, eq-eqb, ne-eqb, ltb-true, ltb-false, lt-ltb, le-ltb}
+use borrow.Author.Tests.{eq-eqb, ne-eqb, ltb-true, ltb-false}
 use lib.Dec.{eqb, ltb}
 use lib.IntN.{ℤ, _-ℤ_}
 use lib.Signed.{ltZ, _≤ℤ_, _<ℤ_}
-use mathlib.Core.Bool.{Bool, true, false, not, cond, xor, _&&_, _||_, and-eq-true-iff, and-false}
+use mathlib.Core.Bool.{Bool, true, false, not, cond, xor, _&&_, _||_, and-eq-true-iff}
 use mathlib.Core.Logic.{_≢_, _⊎_, inl, inr, ⊎-elim}
-use mathlib.Core.Option.{Option, none, some}
+use mathlib.Core.Option.{none, some}
 use mathlib.Core.Path.{_≡_, refl, sym, _∙_, ap, fun-ext}
 use native.Mathlib.Decide.{ℕ-discrete}
 use native.Mathlib.Omega.{arith}
@@ -17,7 +17,7 @@ use Rattle.graph.proofs.Exchange.{exchange-spanning}
 use Rattle.graph.proofs.Path.{path-inside}
 use Rattle.graph.specs.Graph.{Graph, Sound}
 use Rattle.graph.specs.Tree.{SpanningTree, onPath, exchange}
-use Rattle.rowset.proofs.Integers.{integers, up, down, plus, minus, lt-ltZ, le-ltZ}
+use Rattle.rowset.proofs.Integers.{integers, up, down, minus, lt-ltZ, le-ltZ}
 use Rattle.rowset.proofs.Laws.{clash, refuted, any-some, none-any, uppermost-is, xor-self, xor-comm}
 use Rattle.rowset.proofs.Members.{both-in}
 use Rattle.rowset.proofs.Searches.{largest-in, largest-greatest, in-largest, smallest-next}

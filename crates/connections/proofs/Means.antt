@@ -1,7 +1,7 @@
 -- What the tree with exactly t rows at a vertex means of the table's spanning trees (outlets-theorem): the theorem over graphs is cited, for the table's graph and weights.
 -- Assumes nothing.
-use Prim.Native.Nat.{ℕ, _≤_}
-use borrow.Author.Tests.{lt-ltb, le-ltb, ne-eqb}
+use Prim.Native.Nat.{ℕ}
+use borrow.Author.Tests.{le-ltb, ne-eqb}
 use lib.Dec.{eqb, ltb}
 use lib.IntN.{ℤ}
 use mathlib.Core.Bool.{Bool, true, false, _||_}
@@ -10,14 +10,11 @@ use mathlib.Core.Option.{Option, none, some}
 use mathlib.Core.Path.{_≡_, refl, sym, _∙_, ap}
 use native.Mathlib.Omega.{arith}
 use Rattle.degree.proofs.Promise.{degrees}
-use Rattle.degree.specs.Degree.{rowsAt}
 use Rattle.degree.specs.Promise.{DegreeMeans}
 use Rattle.graph.proofs.Builder.{tree-connected, built-least, not-connected}
 use Rattle.graph.specs.Builder.{Fragment, tree}
-use Rattle.graph.specs.Graph.{Graph, Sound, Connected}
-use Rattle.graph.specs.Tree.{SpanningTree}
+use Rattle.graph.specs.Graph.{Graph, Sound}
 use Rattle.refusal.specs.declared.Refusal.{Refusal}
-use Rattle.rowset.proofs.Laws.{clash}
 use Rattle.star.proofs.Accepted.{refusal-append, taken, sound}
 use Rattle.star.specs.Accepted.{Vertex}
 use Rattle.rowset.specs.Integers.{total}

@@ -2,28 +2,27 @@
 -- Main statements: the start over the loaded columns is that over the table (start-loaded); a table that is refused (table-refused), without a tree (tree-refused), and what the exchanges leave (exchanges-refused, exchanges-built).
 -- Assumes nothing.
 use Prim.Native.Nat.{ℕ, _-_, _≤_, _<_}
-use borrow.Author.Tests.{ltb-true, ltb-false}
-use lib.Dec.{eqb, ltb}
+use lib.Dec.{ltb}
 use lib.IntN.{ℤ}
 use lib.ListN.{length}
-use mathlib.Core.Bool.{Bool, true, false, not, cond, _&&_, _||_}
+use mathlib.Core.Bool.{Bool, true, false, not, cond, _&&_}
 use mathlib.Core.List.{List}
 use mathlib.Core.Logic.{_⊎_, inl, inr, ⊎-elim}
 use mathlib.Core.Option.{Option, none, some}
 use mathlib.Core.Path.{_≡_, refl, sym, _∙_, ap, fun-ext}
-use native.Mathlib.Nat.{mod-one, mul-mod-right}
+use native.Mathlib.Nat.{mod-one}
 use native.Mathlib.Omega.{arith}
 use Rattle.branches.proofs.Offers.{Priced}
 use Rattle.branches.specs.steps.Branches.{Hangs, branchIn}
 use Rattle.connections.proofs.Causes.{causes-in-order, vertex-asked}
 use Rattle.connections.specs.Outlets.{treeAt, isMissing, rowsIn, noTreeWith, vertexAsked, outletCauses, outletsOr, outlets, marksOr, outletMarks}
 use Rattle.degree.proofs.Shifted.{shifted}
-use Rattle.degree.proofs.Start.{Low, low, start-built}
+use Rattle.degree.proofs.Start.{low, start-built}
 use Rattle.degree.proofs.Promise.{degrees}
 use Rattle.degree.specs.Degree.{touches, rowsAt, start, swaps, reduced, reducedFrom, treeWith}
 use Rattle.reductions.proofs.Swaps.{Ready, ends-swaps}
 use Rattle.reductions.specs.steps.Columns.{priceIn}
-use Rattle.reductions.specs.steps.Exchanges.{Hung, exchangesTo, isMade, rowsLeft, Ends}
+use Rattle.reductions.specs.steps.Exchanges.{isMade, rowsLeft, Ends}
 use Rattle.graph.proofs.Builder.{built-spanning, not-built}
 use Rattle.graph.specs.Builder.{Fragment, tree}
 use Rattle.graph.specs.Graph.{Graph, Sound}
@@ -36,7 +35,7 @@ use Rattle.refusal.specs.declared.Outcome.{Outcome}
 use Rattle.refusal.specs.declared.Outcome.the-variants.{Done, Refused}
 use Rattle.refusal.specs.declared.Refusal.{Refusal}
 use Rattle.rowset.proofs.Integers.{total-cut}
-use Rattle.rowset.proofs.Laws.{clash, refuted, sum-cut, upTo-in}
+use Rattle.rowset.proofs.Laws.{clash, refuted, sum-cut}
 use Rattle.rowset.proofs.Members.{both-in}
 use Rattle.rowset.proofs.Signed.{signed-parts}
 use Rattle.rowset.specs.Bytes.{inRow}

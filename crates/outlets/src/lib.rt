@@ -1,6 +1,5 @@
 // Connections at a vertex: a least spanning tree with exactly t rows at vertex r. The start prefers rows at r; then exchanges take rows at r out, the cheapest first, until t are left.
 ghost use mathlib.Core.Path.{_≡_};
-ghost use Rattle.branches.specs.steps.Branches.{branchIn};
 ghost use Rattle.connections.specs.Outlets.{vertexAsked, outlets, outletMarks};
 ghost use Rattle.reductions.specs.steps.Columns.{priceIn};
 ghost use Rattle.reductions.specs.steps.Exchanges.{Ends};

@@ -1,13 +1,12 @@
 -- Exchanges one after the other by the calls that the code makes.
 -- Main statements: where no row can come in, no more exchanges are made (exchanges-stuck); one exchange more (exchanges-more); what is left (ends-made, ends-none). Assumes nothing.
-use Prim.Native.Nat.{ℕ, zero, suc, _+_, _≤_, _<_}
+use Prim.Native.Nat.{ℕ, zero, suc, _+_, _<_}
 use lib.ListN.{length}
 use mathlib.Core.Bool.{Bool, true, false}
 use mathlib.Core.List.{List}
 use mathlib.Core.Option.{Option, none, some}
 use mathlib.Core.Path.{_≡_, refl, sym, _∙_, ap}
 use native.Mathlib.Numerals.{add-one}
-use native.Mathlib.Omega.{arith}
 use Rattle.branches.specs.steps.Offers.{Offer}
 use Rattle.rowset.proofs.Laws.{upwards}
 use Rattle.rowset.specs.Sets.{empty}

@@ -5,30 +5,26 @@ use Prim.Native.Nat.{ℕ, zero, suc, _+_, _≤_, _<_}
 use borrow.Author.Tests.{eqb-true, eqb-false, eq-eqb, ne-eqb}
 use lib.Dec.{eqb}
 use lib.IntN.{ℤ}
-use lib.ListN.{length}
-use mathlib.Core.Bool.{Bool, true, false, not, cond, xor, _&&_, _||_, and-eq-true-iff}
-use mathlib.Core.List.{List}
-use mathlib.Core.Logic.{_≢_, _⊎_, inl, inr, ⊎-elim}
+use mathlib.Core.Bool.{Bool, true, false, cond, xor, _&&_, _||_}
+use mathlib.Core.Logic.{_≢_, _⊎_, inl, inr}
 use mathlib.Core.Option.{Option, none, some}
 use mathlib.Core.Path.{_≡_, refl, sym, _∙_, ap, fun-ext}
-use native.Mathlib.Decide.{ℕ-discrete}
 use native.Mathlib.Omega.{arith}
-use Rattle.branches.proofs.Branches.{At, left-at, right-at, none-at, at-of, touches-off, off-touches, hung-hangs}
+use Rattle.branches.proofs.Branches.{At, left-at, right-at, none-at, at-of, touches-off, hung-hangs}
 use Rattle.branches.specs.steps.Branches.{Hangs, hungOn, hung}
 use Rattle.degree.proofs.Shifted.{shifted}
-use Rattle.degree.proofs.Start.{Low, low, preferred-cheapest, startOf-built, start-built}
+use Rattle.degree.proofs.Start.{Low, low, preferred-cheapest, startOf-built}
 use Rattle.degree.specs.Degree.{touches, preferred, startOf, start}
-use Rattle.graph.proofs.Builder.{Invariant, fragment-invariant, built-spanning, cheapest-some, cheapest-none}
+use Rattle.graph.proofs.Builder.{fragment-invariant, built-spanning, cheapest-some, cheapest-none}
 use Rattle.graph.proofs.Path.{path-crossed, path-inside}
 use Rattle.graph.specs.Builder as builder
-use Rattle.graph.specs.Builder.{Fragment, nothing, cheapest, treeOf, tree}
+use Rattle.graph.specs.Builder.{Fragment, cheapest, treeOf, tree}
 use Rattle.graph.specs.Graph.{Graph, Sound, crosses}
 use Rattle.mst1.proofs.Growth.{begin-reached, extend-reached}
-use Rattle.mst1.proofs.Steps.{farBy, first-none, next-none}
+use Rattle.mst1.proofs.Steps.{farBy, next-none}
 use Rattle.mst1.specs.steps.Growth.{graphBy, Reached, touching, meeting}
-use Rattle.rowset.proofs.Laws.{clash, refuted, in-upTo, put-same, put-keeps, uppermost-some}
+use Rattle.rowset.proofs.Laws.{clash, in-upTo, put-same, put-keeps}
 use Rattle.rowset.proofs.Members.{both-in, in-both}
-use Rattle.rowset.proofs.Searches.{smallest-in}
 use Rattle.rowset.specs.Searches.{equalTo, smallest}
 use Rattle.rowset.specs.Sets.{empty, both, either, oneOf, put, firstOf, uppermost}
 use Rattle.slice.specs.Slices.{size, component, written}

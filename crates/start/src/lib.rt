@@ -1,7 +1,6 @@
 // The tree that the exchanges at a vertex r start from: it grows as MST1's does, but rows at r are chosen before all others; so it has as many rows at r as there can be.
 // While it grows, a column of numbers gets for each vertex the row at r on which it hangs.
 ghost use Prim.Native.Nat.{_-_, _≤_, _<_};
-ghost use lib.Dec.{eqb};
 ghost use lib.ListN.{length};
 ghost use mathlib.Core.Bool.{cond};
 ghost use mathlib.Core.Path.{_≡_};
@@ -9,7 +8,7 @@ ghost use Rattle.branches.specs.steps.Branches.{branchIn, hungOn, hung};
 ghost use Rattle.degree.specs.Degree.{touches};
 ghost use Rattle.graph.specs.Graph.{Sound};
 ghost use Rattle.matrix.specs.Matrix.{matrixColumn};
-ghost use Rattle.mst1.specs.steps.Growth.{graphOn, loadedGraph, meeting};
+ghost use Rattle.mst1.specs.steps.Growth.{graphOn, loadedGraph};
 ghost use Rattle.rowset.specs.Integers.{integerIn, signed};
 ghost use Rattle.rowset.specs.Searches.{equalTo, smallest};
 ghost use Rattle.rowset.specs.Sets.{upTo, both, either, firstOf, uppermost};

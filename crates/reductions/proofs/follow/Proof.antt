@@ -1,7 +1,6 @@
 -- `reductions::follow` meets its contract. Assumes nothing.
 use borrow.Author.Needs.{needs}
 use Rattle.reductions.specs.steps.Exchanges.{followed}
-use Rattle.reductions.proofs.Moves.{length-moved}
 use Rattle.reductions.proofs.follow.Statement.{statement}
 use Rattle.reductions.proofs.follow.Tie as tie
 

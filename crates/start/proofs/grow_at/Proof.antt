@@ -1,9 +1,9 @@
 -- `start::grow_at` meets its contract. The loop's invariant: the slices are those of the fragment of k vertices, and the branches its own. The measure is the number of vertices left.
 -- Assumes nothing.
-use Prim.Native.Nat.{ℕ, _≤_, _<_, _-_}
+use Prim.Native.Nat.{ℕ, _≤_, _-_}
 use native.Mathlib.Omega.{arith}
 use lib.ListN.{length}
-use mathlib.Core.Path.{_≡_, sym, ap, _∙_}
+use mathlib.Core.Path.{_≡_, ap, _∙_}
 use borrow.Author.Needs.{needs}
 use Rattle.branches.specs.steps.Branches.{branchIn}
 use Rattle.degree.specs.Degree.{touches}

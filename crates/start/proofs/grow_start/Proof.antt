@@ -1,7 +1,7 @@
 -- `start::grow_start` meets its contract: one vertex needs no row, without a row at r there is no tree, and otherwise the tree grows from the lightest row at r.
 -- Assumes nothing.
 use native.Mathlib.Omega.{arith}
-use mathlib.Core.Path.{sym, _∙_}
+use mathlib.Core.Path.{_∙_}
 use borrow.Author.Needs.{needs}
 use Rattle.branches.specs.steps.Branches.{branchIn}
 use Rattle.start.proofs.Begins.{starts-one, starts-empty, none-at-r, begins}

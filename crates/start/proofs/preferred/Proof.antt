@@ -1,7 +1,7 @@
 -- `start::preferred` meets its contract: FND of MIN over the rows at r, and then over all. Assumes nothing.
 use Prim.Native.Nat.{ℕ, zero, suc}
 use borrow.Author.Needs.{needs}
-use mathlib.Core.Path.{_≡_, refl, sym, _∙_, ap}
+use mathlib.Core.Path.{_≡_, refl, sym}
 use Rattle.rowset.specs.Sets.{firstOf}
 use Rattle.start.proofs.preferred.Statement.{statement}
 use Rattle.start.proofs.preferred.Tie as tie
