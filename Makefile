@@ -83,8 +83,8 @@ $(BUILD)/door_test_faulty: $(ARCHIVE) tests/door_test.c tests/faulty.c tests/pla
 	$(CC) -std=c99 $(CFLAGS) -Iinclude -Itests $(FAULTY) -o $@ tests/door_test.c tests/plain.c $(BUILD)/faulty.o $(ARCHIVE)
 
 # Working tables, in the same two ways.
-WORK := tests/work_test.c tests/work_lent.c tests/work_cases.c tests/plain_work.c tests/plain.c
-WORK_HEADERS := tests/work_lent.h tests/plain_work.h tests/plain.h include/star.h
+WORK := tests/work_test.c tests/work_lent.c tests/work_cases.c tests/shared.c tests/plain_work.c tests/plain.c
+WORK_HEADERS := tests/work_lent.h tests/shared.h tests/plain_work.h tests/plain.h include/star.h
 $(BUILD)/work_test: $(ARCHIVE) $(WORK) $(WORK_HEADERS)
 	@mkdir -p $(BUILD)
 	$(CC) -std=c99 $(CFLAGS) -Iinclude -Itests -o $@ $(WORK) $(ARCHIVE)
@@ -97,7 +97,7 @@ $(BUILD)/work_test_faulty: $(ARCHIVE) $(WORK) $(WORK_HEADERS) tests/faulty_work.
 
 # Questions about a table, in the same two ways, a program each.
 ASKED := quote breaking which digs
-ASKED_PARTS := tests/asked.c tests/plain_asked.c tests/plain_work.c tests/plain.c
+ASKED_PARTS := tests/asked.c tests/shared.c tests/plain_asked.c tests/plain_work.c tests/plain.c
 ASKED_NEEDS := $(ARCHIVE) $(ASKED_PARTS) $(ASKED_PARTS:.c=.h) include/star.h
 $(ASKED:%=$(BUILD)/%_test): $(BUILD)/%_test: tests/%_test.c $(ASKED_NEEDS)
 	@mkdir -p $(BUILD)
@@ -110,8 +110,8 @@ $(ASKED:%=$(BUILD)/%_test_faulty): $(BUILD)/%_test_faulty: tests/%_test.c tests/
 
 # Districts, mends and outlets, in the same two ways: each has its test, its faulty doors, and a plain implementation if it needs one.
 PLANS := districts mend outlets
-PLAN := tests/plan_lent.c tests/plain_work.c tests/plain.c
-PLAN_HEADERS := tests/plan_lent.h tests/plain_work.h tests/plain.h include/star.h
+PLAN := tests/plan_lent.c tests/shared.c tests/plain_work.c tests/plain.c
+PLAN_HEADERS := tests/plan_lent.h tests/shared.h tests/plain_work.h tests/plain.h include/star.h
 PLAIN_mend := tests/plain_mend.c
 PLAIN_outlets := tests/plain_outlets.c
 $(PLANS:%=$(BUILD)/%_test): $(BUILD)/%_test: $(ARCHIVE) tests/%_test.c $(PLAN) $(PLAN_HEADERS) $(wildcard tests/plain_*.[ch])

@@ -7,6 +7,7 @@
 #include <stdint.h>
 
 #include "plain_work.h"
+#include "shared.h"
 #include "star.h"
 
 enum { PLAN_GUARD = 32, PLAN_ROOM = STAR_MAX_ROWS + PLAN_GUARD, PLAN_ENDS = 12, PLAN_RECORDS = 2 * STAR_MAX_ROWS + 8 };
@@ -32,14 +33,6 @@ struct rows {
     unsigned a[STAR_MAX_ROWS], b[STAR_MAX_ROWS];
     int64_t price[STAR_MAX_ROWS];
 };
-
-/* Random numbers with a fixed start: below a number, and of 64 bits. */
-uint32_t plan_any(uint32_t below);
-uint64_t plan_bits(void);
-
-/* Counts a comparison; the first that fail are told. */
-extern unsigned long plan_passed, plan_failed;
-void plan_tell(int ok, const char *what);
 
 /* A table of small or of the largest size, mostly connected, plain or working, with all lengths right; every byte that is no part of it is random. */
 void plan_make(struct lent *t, unsigned long k);
@@ -87,17 +80,12 @@ int parts_join(struct parts *p, unsigned a, unsigned b);
 /* The least weight of a set of rows without a ring that joins what the rows from index `from` to `to` join, and how many rows such a set has. */
 int64_t plan_forest(const struct rows *r, size_t from, size_t to, size_t *count);
 
-/* An empty column is lent as a null pointer. With exact set, each column is lent from memory of its own length, for a memory checker. */
-extern int plan_exact;
-void *plan_lend(const void *from, size_t bytes);
-void plan_back(void *to, void *lent, size_t bytes);
-
 /* The columns of every call, lent and given back. */
 struct columns {
     uint64_t *in_use;
     uint8_t *left, *right, *weight, *mark, *answer;
 };
-void plan_lend_columns(const struct lent *t, struct columns *c);
+void plan_lend_columns(struct lent *t, struct columns *c);
 void plan_back_columns(struct lent *t, struct columns *c);
 
 #define PLAN_COLUMNS(t, c) (c).left, (t)->left_len, (c).right, (t)->right_len, (c).weight, (t)->weight_len

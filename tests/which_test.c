@@ -8,7 +8,7 @@
 
 enum { STACK = 128 << 10 };
 
-static unsigned long named[3], equal, working_pairs, refused[32];
+static unsigned long named[3], equal, working_pairs;
 
 static uint32_t door(struct asked *t) {
     struct lent p = asked_lend(t);
@@ -91,7 +91,7 @@ static void known(void) {
     tell(t.answer[0] == STAR_PASSED && star_read_answer(t.answer).amount == 0, "one junction");
 }
 
-static void *on_small_stack(void *table) {
+static void *ask(void *table) {
     struct asked *t = table;
     t->answer[0] = 99;
     door(t);
@@ -106,29 +106,34 @@ static void small_stack(void) {
         while (t.rows < 1000);
         asked_plan(&t, t.first);
         asked_plan(&t, t.second);
-        tell(asked_on_small_stack(on_small_stack, &t, STACK) && t.answer[0] <= STAR_PASSED, "a thread of 128 KiB");
+        tell(on_small_stack(ask, &t, STACK) && t.answer[0] <= STAR_PASSED, "a thread of 128 KiB");
     }
 }
 
-int main(int count, char **words) {
-    unsigned long pairs = asked_count(count, words, 20000), k;
-    static struct asked t;
+static void cases(void) {
     known();
     small_stack();
-    for (k = 0; k < pairs; k++) {
-        asked_make(&t, k, STAR_ANSWER_BYTES);
-        asked_plan(&t, t.first);
-        asked_plan(&t, t.second);
-        if (any(6) == 0) asked_damage(&t);
-        if (any(30) == 0) asked_damage(&t);
-        one(&t);
-    }
+}
+
+static void table(unsigned long k) {
+    static struct asked t;
+    asked_make(&t, k, STAR_ANSWER_BYTES);
+    asked_plan(&t, t.first);
+    asked_plan(&t, t.second);
+    if (any(6) == 0) asked_damage(&t);
+    if (any(30) == 0) asked_damage(&t);
+    one(&t);
+}
+
+int main(int count, char **words) {
+    static const unsigned numbers[] = {1, 2, 3, 4, 15, 6, 9, 10, 0};
+    unsigned long pairs = run(count, words, 20000, cases, table), k;
     for (k = 1; k <= 2; k++) share(named[k], 8, pairs, "the share of a plan that is named");
     share(equal, 20, pairs, "the share of plans that cost the same");
     share(working_pairs, 8, pairs, "the share of working tables");
-    for (k = 1; k <= 15; k++)
-        if (k <= 4 || k == 6 || k == 9 || k == 10 || k == 15) share(refused[k], 1500, pairs, "the share of a refusal");
-    printf("%lu pairs of plans: the first %lu times, the second %lu, %lu of equal totals, %lu of working tables; refused 1 %lu times, 2 %lu, 3 %lu, 4 %lu, 15 %lu, 6 %lu, 9 %lu, 10 %lu\n", pairs, named[1], named[2],
-           equal, working_pairs, refused[1], refused[2], refused[3], refused[4], refused[15], refused[6], refused[9], refused[10]);
+    share_refused(numbers, 1500, pairs);
+    printf("%lu pairs of plans: the first %lu times, the second %lu, %lu of equal totals, %lu of working tables; ", pairs, named[1], named[2], equal, working_pairs);
+    print_refused(numbers);
+    printf("\n");
     return told();
 }
