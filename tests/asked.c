@@ -2,6 +2,8 @@
 
 #include <string.h>
 
+enum { STACK = 128 << 10 };
+
 struct lent asked_lend(struct asked *t) {
     struct lent p = {lend(t->in_use, 8 * t->words), lend(t->left, t->left_len), lend(t->right, t->right_len), lend(t->weight, t->weight_len),
                      lend(t->first, t->first_len),  lend(t->second, t->second_len), lend(t->text, t->text_len), lend(t->answer, t->answer_len)};
@@ -97,7 +99,7 @@ void asked_make(struct asked *t, unsigned long k, size_t answer_len) {
     lengths(t, t->working ? STAR_MAX_ROWS : t->rows, answer_len);
 }
 
-void asked_damage(struct asked *t) {
+static void damage(struct asked *t) {
     size_t *len[] = {&t->left_len, &t->right_len, &t->weight_len, &t->answer_len, &t->first_len, &t->second_len, &t->text_len, &t->words};
     size_t *of = len[any(t->working ? 8 : 7)], i = any(STAR_MAX_ROWS);
     switch (any(5)) {
@@ -108,6 +110,11 @@ void asked_damage(struct asked *t) {
         *of = any(8) == 0 ? 0 : any(2) ? *of + 1 : *of ? *of - 1 : 1;
         if (!t->working && any(5) == 0) t->left_len = t->right_len = t->first_len = t->second_len = STAR_MAX_ROWS + 1 + any(7), t->weight_len = 4 * t->left_len;
     }
+}
+
+void asked_damage(struct asked *t, uint32_t one_of, uint32_t again_of) {
+    if (any(one_of) == 0) damage(t);
+    if (any(again_of) == 0) damage(t);
 }
 
 uint32_t asked_row(const struct asked *t) {
@@ -172,4 +179,34 @@ const struct in_use *asked_in_use(struct asked *t) {
     u.words = t->in_use;
     u.count = t->words;
     return t->working ? &u : NULL;
+}
+
+void asked_make_large(struct asked *t, int working, size_t answer_len) {
+    do asked_make(t, (unsigned long)working, answer_len);
+    while (t->rows < 1000);
+}
+
+void asked_use_row_1(struct asked *t) { t->in_use[0] |= 1; }
+
+struct question {
+    uint32_t (*ask)(struct asked *);
+    struct asked *t;
+};
+
+static void *in_thread(void *own) {
+    struct question *q = own;
+    q->t->answer[0] = 99;
+    q->ask(q->t);
+    return NULL;
+}
+
+void asked_small_stack(size_t answer_len, void (*ready)(struct asked *), uint32_t (*ask)(struct asked *), uint8_t most) {
+    static struct asked t;
+    struct question q = {ask, &t};
+    int working;
+    for (working = 0; working < 2; working++) {
+        asked_make_large(&t, working, answer_len);
+        if (ready) ready(&t);
+        tell(on_small_stack(in_thread, &q, STACK) && t.answer[0] <= most, "a thread of 128 KiB");
+    }
 }

@@ -36,8 +36,16 @@ void asked_back(struct asked *t, struct lent p);
    repeated rows; with prices of both signs and at their limits. The lengths are right, but the answer's is given. */
 void asked_make(struct asked *t, unsigned long k, size_t answer_len);
 
-/* One length wrong, or more; a bad end; a bad number of junctions; a row struck. */
-void asked_damage(struct asked *t);
+/* One of so many tables damaged, and one of so many once more: a length wrong, or more; a bad end; a bad number of junctions. */
+void asked_damage(struct asked *t, uint32_t one_of, uint32_t again_of);
+
+/* A table with 1,000 rows or more. */
+void asked_make_large(struct asked *t, int working, size_t answer_len);
+
+/* Asks about a large table of each kind in a thread with the stack that the header names; an answer's first byte is at most `most`. Before that the
+   table is made ready: asked_use_row_1 puts row 1 in use; NULL leaves the table as it is. */
+void asked_use_row_1(struct asked *t);
+void asked_small_stack(size_t answer_len, void (*ready)(struct asked *), uint32_t (*ask)(struct asked *), uint8_t most);
 
 /* A row to ask about: mostly one in use. */
 uint32_t asked_row(const struct asked *t);

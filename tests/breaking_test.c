@@ -7,8 +7,6 @@
 
 #include "asked.h"
 
-enum { STACK = 128 << 10 };
-
 static unsigned long priced[2], never[2], unwritten;
 
 static uint32_t door(struct asked *t, uint32_t row) {
@@ -95,34 +93,17 @@ static void known(void) {
     }
 }
 
-static void *ask(void *table) {
-    struct asked *t = table;
-    t->answer[0] = 99;
-    door(t, 1);
-    return NULL;
-}
-
-static void small_stack(void) {
-    static struct asked t;
-    int working;
-    for (working = 0; working < 2; working++) {
-        do asked_make(&t, (unsigned long)working, STAR_ANSWER_BYTES);
-        while (t.rows < 1000);
-        t.in_use[0] |= 1;
-        tell(on_small_stack(ask, &t, STACK) && t.answer[0] <= STAR_NEVER, "a thread of 128 KiB");
-    }
-}
+static uint32_t row_1(struct asked *t) { return door(t, 1); }
 
 static void cases(void) {
     known();
-    small_stack();
+    asked_small_stack(STAR_ANSWER_BYTES, asked_use_row_1, row_1, STAR_NEVER);
 }
 
 static void table(unsigned long k) {
     static struct asked t;
     asked_make(&t, k, STAR_ANSWER_BYTES);
-    if (any(5) == 0) asked_damage(&t);
-    if (any(20) == 0) asked_damage(&t);
+    asked_damage(&t, 5, 20);
     one(&t, asked_row(&t));
 }
 

@@ -7,7 +7,7 @@
 
 #include "asked.h"
 
-enum { STACK = 128 << 10, TEXT_STACK = 1 << 20 };
+enum { TEXT_STACK = 1 << 20 };
 
 static unsigned long done[3], unwritten;
 
@@ -107,41 +107,23 @@ static void known(void) {
     tell(t.answer[0] == STAR_PASSED && star_read_answer(t.answer).amount <= STAR_MAX_LIST && star_read_answer(t.answer).amount > 5900, "the longest list");
 }
 
-static void *ask(void *table) {
-    struct asked *t = table;
-    t->answer[0] = 99;
-    door(t);
-    return NULL;
-}
-
 static void *ask_text(void *table) {
     from_text(table);
     return NULL;
 }
 
-static void small_stack(void) {
-    static struct asked t;
-    int working;
-    for (working = 0; working < 2; working++) {
-        do asked_make(&t, (unsigned long)working, STAR_ANSWER_BYTES);
-        while (t.rows < 1000);
-        tell(on_small_stack(ask, &t, STACK) && t.answer[0] <= STAR_PASSED, "a thread of 128 KiB");
-    }
-    do asked_make(&t, 0, STAR_ANSWER_BYTES);
-    while (t.rows < 1000);
-    tell(on_small_stack(ask_text, &t, TEXT_STACK), "a thread of 1 MiB");
-}
-
 static void cases(void) {
+    static struct asked t;
     known();
-    small_stack();
+    asked_small_stack(STAR_ANSWER_BYTES, NULL, door, STAR_PASSED);
+    asked_make_large(&t, 0, STAR_ANSWER_BYTES);
+    tell(on_small_stack(ask_text, &t, TEXT_STACK), "a thread of 1 MiB");
 }
 
 static void table(unsigned long k) {
     static struct asked t;
     asked_make(&t, k, STAR_ANSWER_BYTES);
-    if (any(5) == 0) asked_damage(&t);
-    if (any(20) == 0) asked_damage(&t);
+    asked_damage(&t, 5, 20);
     one(&t);
     if (k % 8 != 0) return;
     asked_make(&t, k, STAR_ANSWER_BYTES);

@@ -6,8 +6,6 @@
 
 #include "asked.h"
 
-enum { STACK = 128 << 10 };
-
 static unsigned long done[2], moved, kept, unwritten;
 
 static uint32_t door(struct asked *t, uint32_t row, int32_t price) {
@@ -82,35 +80,18 @@ static void known(void) {
     tell(t.answer[1] == STAR_BAD_SOURCE, "one junction has no row");
 }
 
-static void *ask(void *table) {
-    struct asked *t = table;
-    t->answer[0] = 99;
-    door(t, 1, 7);
-    return NULL;
-}
-
-static void small_stack(void) {
-    static struct asked t;
-    int working;
-    for (working = 0; working < 2; working++) {
-        do asked_make(&t, (unsigned long)working, STAR_QUOTE_BYTES);
-        while (t.rows < 1000);
-        t.in_use[0] |= 1;
-        tell(on_small_stack(ask, &t, STACK) && t.answer[0] <= STAR_PASSED, "a thread of 128 KiB");
-    }
-}
+static uint32_t row_1(struct asked *t) { return door(t, 1, 7); }
 
 static void cases(void) {
     known();
-    small_stack();
+    asked_small_stack(STAR_QUOTE_BYTES, asked_use_row_1, row_1, STAR_PASSED);
 }
 
 static void table(unsigned long k) {
     static struct asked t;
     int32_t price;
     asked_make(&t, k, STAR_QUOTE_BYTES);
-    if (any(5) == 0) asked_damage(&t);
-    if (any(20) == 0) asked_damage(&t);
+    asked_damage(&t, 5, 20);
     price = asked_price(&t);
     one(&t, asked_row(&t), price);
 }

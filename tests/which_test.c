@@ -6,8 +6,6 @@
 
 #include "asked.h"
 
-enum { STACK = 128 << 10 };
-
 static unsigned long named[3], equal, working_pairs;
 
 static uint32_t door(struct asked *t) {
@@ -91,37 +89,21 @@ static void known(void) {
     tell(t.answer[0] == STAR_PASSED && star_read_answer(t.answer).amount == 0, "one junction");
 }
 
-static void *ask(void *table) {
-    struct asked *t = table;
-    t->answer[0] = 99;
-    door(t);
-    return NULL;
-}
-
-static void small_stack(void) {
-    static struct asked t;
-    int working;
-    for (working = 0; working < 2; working++) {
-        do asked_make(&t, (unsigned long)working, STAR_ANSWER_BYTES);
-        while (t.rows < 1000);
-        asked_plan(&t, t.first);
-        asked_plan(&t, t.second);
-        tell(on_small_stack(ask, &t, STACK) && t.answer[0] <= STAR_PASSED, "a thread of 128 KiB");
-    }
+static void put_plans(struct asked *t) {
+    asked_plan(t, t->first);
+    asked_plan(t, t->second);
 }
 
 static void cases(void) {
     known();
-    small_stack();
+    asked_small_stack(STAR_ANSWER_BYTES, put_plans, door, STAR_PASSED);
 }
 
 static void table(unsigned long k) {
     static struct asked t;
     asked_make(&t, k, STAR_ANSWER_BYTES);
-    asked_plan(&t, t.first);
-    asked_plan(&t, t.second);
-    if (any(6) == 0) asked_damage(&t);
-    if (any(30) == 0) asked_damage(&t);
+    put_plans(&t);
+    asked_damage(&t, 6, 30);
     one(&t);
 }
 
