@@ -69,16 +69,7 @@ static void held(struct lent *t) {
     a = expected(t, &r);
     memcpy(&before, t, sizeof before);
     said = ask(t);
-    if (t->answer_len != STAR_ANSWER_BYTES) {
-        tell(said == 0 && !memcmp(t, &before, sizeof before), "an answer of another length");
-        return;
-    }
-    if (a.kind == STAR_REFUSED) {
-        refused[a.number]++;
-        plan_put(before.answer, STAR_REFUSED, a.number, a.out, 0);
-        tell(said == 1 && !memcmp(t, &before, sizeof before), "a refusal");
-        return;
-    }
+    if (plan_refused(t, &before, said, a)) return;
     done++;
     tell(said == 1 && plan_does(t->answer, a.amount), "the least total with exactly t rows");
     tell(tree_holds(t, &r, a.amount), "the network with exactly t rows");
@@ -187,24 +178,9 @@ static void cases(void) {
     }
 }
 
-/* Every length one too small, one too large, and 0 with a null pointer. */
-static void lengths(void) {
-    static struct lent t;
-    int working, k;
-    for (working = 0; working < 2; working++)
-        for (k = 0; k < 18; k++) {
-            size_t *len[] = {&t.left_len, &t.right_len, &t.weight_len, &t.mark_len, &t.words, &t.answer_len};
-            plan_yard(&t, working ? "1234" : NULL);
-            t.r = t.t = 1;
-            *len[k / 3] = k % 3 == 2 ? 0 : *len[k / 3] + 2 * (size_t)(k % 3) - 1;
-            held(&t);
-            if (k < 12 || (working && k < 15)) tell(plan_refuses(t.answer, STAR_BAD_LENGTHS, 0), "the refusal of a length");
-        }
-}
-
 static void known_ones(void) {
     cases();
-    lengths();
+    plan_lengths(held);
 }
 
 static void table(unsigned long k) {

@@ -94,6 +94,24 @@ void plan_yard(struct lent *t, const char *in_use) {
     for (in_use = in_use ? in_use : "12345"; *in_use; in_use++) star_set_in_use(t->in_use, (size_t)(*in_use - '0'), 1);
     lengths(t, 5);
     memset(t->mark, 0, 5);
+    t->r = t->t = 1;
+}
+
+void plan_yard_length(struct lent *t, size_t *len, int k) {
+    plan_yard(t, k < 3 ? NULL : "1234");
+    *len = k % 3 == 2 ? 0 : *len + 2 * (size_t)(k % 3) - 1;
+}
+
+void plan_lengths(void (*held)(struct lent *)) {
+    static struct lent t;
+    size_t *len[] = {&t.left_len, &t.right_len, &t.weight_len, &t.mark_len, &t.words, &t.answer_len};
+    int i, k;
+    for (i = 0; i < 6; i++)
+        for (k = 0; k < 6; k++) {
+            plan_yard_length(&t, len[i], k);
+            held(&t);
+            if (i < 4 || (i == 4 && t.working)) tell(plan_refuses(t.answer, STAR_BAD_LENGTHS, 0), "the refusal of a length");
+        }
 }
 
 size_t plan_m(const struct lent *t) { return t->working ? STAR_MAX_ROWS : t->left_len; }
@@ -195,6 +213,16 @@ int plan_does(const uint8_t *answer, int64_t amount) {
     uint8_t own[STAR_ANSWER_BYTES];
     plan_put(own, STAR_PASSED, 0, 0, amount);
     return !memcmp(answer, own, sizeof own);
+}
+
+int plan_refused(const struct lent *t, struct lent *before, uint32_t said, struct star_answer expected) {
+    int unwritten = t->answer_len != STAR_ANSWER_BYTES;
+    if (unwritten) tell(said == 0 && !memcmp(t, before, sizeof *before), "an answer of another length");
+    if (unwritten || expected.kind != STAR_REFUSED) return unwritten;
+    refused[expected.number]++;
+    plan_put(before->answer, STAR_REFUSED, expected.number, expected.out, 0);
+    tell(said == 1 && !memcmp(t, before, sizeof *before), "a refusal");
+    return 1;
 }
 
 struct star_answer plan_judged(const struct lent *t) {

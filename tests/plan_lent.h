@@ -46,6 +46,11 @@ void plan_claim(struct lent *t);
 /* The yard, with rows in use given as digits, or a plain one for NULL. */
 void plan_yard(struct lent *t, const char *in_use);
 
+/* The yard with a length of t wrong: k from 0 to 5 is one too small, one too large, or 0, of a plain and of a working one. And every length of every
+   call in these ways, with a null pointer for 0: those that are refused are refused 3. */
+void plan_yard_length(struct lent *t, size_t *len, int k);
+void plan_lengths(void (*held)(struct lent *));
+
 /* Puts one to three things wrong: n, a length, an end, a row, a mark. */
 void plan_damage(struct lent *t);
 
@@ -60,6 +65,10 @@ struct star_answer plan_least(const struct lent *t);
 
 /* The same, with a second column that has to be as long as left. */
 struct star_answer plan_least_with(const struct lent *t, size_t other_len);
+
+/* Compares and counts what is said where an answer has another length, so that nothing is written, or where a refusal is expected; whether it was one of
+   these. Before: the table as it was lent. */
+int plan_refused(const struct lent *t, struct lent *before, uint32_t said, struct star_answer expected);
 
 /* Whether sixteen bytes are those of a refusal; whether they say that a call is done, with an amount. */
 int plan_refuses(const uint8_t *answer, unsigned number, unsigned place);
