@@ -77,7 +77,7 @@ $(BUILD)/door_test: $(ARCHIVE) tests/door_test.c tests/plain.c tests/plain.h inc
 
 # The same over doors with a fault each, which it has to find.
 FAULTY := $(foreach door,cst other mst1 paths,-Dstar_$(door)=faulty_$(door))
-$(BUILD)/door_test_faulty: $(ARCHIVE) tests/door_test.c tests/faulty.c tests/plain.c tests/plain.h include/star.h
+$(BUILD)/door_test_faulty: $(ARCHIVE) tests/door_test.c tests/faulty.c tests/faulty.h tests/plain.c tests/plain.h include/star.h
 	@mkdir -p $(BUILD)
 	$(CC) -std=c99 $(CFLAGS) -Iinclude -c -o $(BUILD)/faulty.o tests/faulty.c
 	$(CC) -std=c99 $(CFLAGS) -Iinclude -Itests $(FAULTY) -o $@ tests/door_test.c tests/plain.c $(BUILD)/faulty.o $(ARCHIVE)
@@ -90,7 +90,7 @@ $(BUILD)/work_test: $(ARCHIVE) $(WORK) $(WORK_HEADERS)
 	$(CC) -std=c99 $(CFLAGS) -Iinclude -Itests -o $@ $(WORK) $(ARCHIVE)
 
 FAULTY_WORK := $(foreach door,strike add merge work_cst work_other work_mst1 work_paths,-Dstar_$(door)=faulty_$(door))
-$(BUILD)/work_test_faulty: $(ARCHIVE) $(WORK) $(WORK_HEADERS) tests/faulty_work.c
+$(BUILD)/work_test_faulty: $(ARCHIVE) $(WORK) $(WORK_HEADERS) tests/faulty_work.c tests/faulty.h
 	@mkdir -p $(BUILD)
 	$(CC) -std=c99 $(CFLAGS) -Iinclude -c -o $(BUILD)/faulty_work.o tests/faulty_work.c
 	$(CC) -std=c99 $(CFLAGS) -Iinclude -Itests $(FAULTY_WORK) -o $@ $(WORK) $(BUILD)/faulty_work.o $(ARCHIVE)
@@ -103,7 +103,7 @@ $(ASKED:%=$(BUILD)/%_test): $(BUILD)/%_test: tests/%_test.c $(ASKED_NEEDS)
 	@mkdir -p $(BUILD)
 	$(CC) -std=c99 $(CFLAGS) -Iinclude -Itests -o $@ $< $(ASKED_PARTS) $(ARCHIVE) -pthread
 
-$(ASKED:%=$(BUILD)/%_test_faulty): $(BUILD)/%_test_faulty: tests/%_test.c tests/faulty_%.c $(ASKED_NEEDS)
+$(ASKED:%=$(BUILD)/%_test_faulty): $(BUILD)/%_test_faulty: tests/%_test.c tests/faulty_%.c tests/faulty.h $(ASKED_NEEDS)
 	@mkdir -p $(BUILD)
 	$(CC) -std=c99 $(CFLAGS) -Iinclude -c -o $(BUILD)/faulty_$*.o tests/faulty_$*.c
 	$(CC) -std=c99 $(CFLAGS) -Iinclude -Itests -Dstar_$*=faulty_$* -Dstar_work_$*=faulty_work_$* -Dstar_$*_text=faulty_$*_text -o $@ $< $(ASKED_PARTS) $(BUILD)/faulty_$*.o $(ARCHIVE) -pthread
@@ -118,7 +118,7 @@ $(PLANS:%=$(BUILD)/%_test): $(BUILD)/%_test: $(ARCHIVE) tests/%_test.c $(PLAN) $
 	@mkdir -p $(BUILD)
 	$(CC) -std=c99 $(CFLAGS) -Iinclude -Itests -o $@ tests/$*_test.c $(PLAIN_$*) $(PLAN) $(ARCHIVE)
 
-$(PLANS:%=$(BUILD)/%_test_faulty): $(BUILD)/%_test_faulty: $(BUILD)/%_test tests/faulty_%.c tests/faulty_plan.h
+$(PLANS:%=$(BUILD)/%_test_faulty): $(BUILD)/%_test_faulty: $(BUILD)/%_test tests/faulty_%.c tests/faulty.h
 	$(CC) -std=c99 $(CFLAGS) -Iinclude -Itests -c -o $(BUILD)/faulty_$*.o tests/faulty_$*.c
 	$(CC) -std=c99 $(CFLAGS) -Iinclude -Itests -Dstar_$*=faulty_$* -Dstar_work_$*=faulty_work_$* -o $@ tests/$*_test.c $(PLAIN_$*) $(PLAN) $(BUILD)/faulty_$*.o $(ARCHIVE)
 

@@ -3,7 +3,6 @@
  * in their order, and nothing else is written.
  * usage: mend_test [CLAIMS [exact]]   prints one line 'N passed, M failed' at its end; exact: columns in memory of their own length */
 #include <stdio.h>
-#include <stdlib.h>
 #include <string.h>
 
 #include "plain_mend.h"

@@ -3,7 +3,6 @@
  * network is listed; on all of them the total is found by sorted rows with a number added to the prices at r.
  * usage: outlets_test [TABLES [exact]]   prints one line 'N passed, M failed' at its end; exact: columns in memory of their own length */
 #include <stdio.h>
-#include <stdlib.h>
 #include <string.h>
 
 #include "plain_outlets.h"
