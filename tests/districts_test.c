@@ -163,6 +163,17 @@ static void known(const char *in_use, const char *ends, unsigned number, const c
     tell(ok && plan_does(t.answer, total), "the yard's known forests");
 }
 
+/* The length of the forests, as every other. */
+static void forests_length(void) {
+    static struct lent t;
+    int k;
+    for (k = 0; k < 6; k++) {
+        plan_yard_length(&t, &t.forests_len, k);
+        held(&t);
+        tell(plan_refuses(t.answer, STAR_BAD_LENGTHS, 0), "the refusal of a length");
+    }
+}
+
 static void cases(void) {
     static struct lent t;
     size_t k;
@@ -206,21 +217,6 @@ static void cases(void) {
     plan_table(&t, 255, STAR_MAX_ROWS, 1, 0);
     runs(&t);
     tell(plan_small_stack(ask, &t, PLAN_STACK), "a thread of 128 KiB");
-}
-
-/* The length of the forests, as every other. */
-static void forests_length(void) {
-    static struct lent t;
-    int k;
-    for (k = 0; k < 6; k++) {
-        plan_yard_length(&t, &t.forests_len, k);
-        held(&t);
-        tell(plan_refuses(t.answer, STAR_BAD_LENGTHS, 0), "the refusal of a length");
-    }
-}
-
-static void known_ones(void) {
-    cases();
     plan_lengths(held);
     forests_length();
 }
@@ -235,7 +231,7 @@ static void table(unsigned long k) {
 
 int main(int count, char **words) {
     static const unsigned numbers[] = {3, 4, 11, 14, 15, 0};
-    unsigned long tables = run(count, words, 50000, known_ones, table);
+    unsigned long tables = run(count, words, 50000, cases, table);
     tell(2 * done >= tables && 4 * ringed >= tables && 4 * grouped >= tables && 4 * left_out >= tables, "the share of tables that are not refused, of runs with a ring, and of rows left out");
     tell(50 * refused[3] >= tables && 50 * refused[14] >= tables && 50 * refused[11] >= tables && 200 * refused[4] >= tables, "the share of the refusals");
     printf("districts: %lu tables, %lu not refused, %lu runs with a ring, %lu of more than one group; ", tables, done, ringed, grouped);

@@ -175,10 +175,6 @@ static void cases(void) {
         tell(plan_small_stack(ask, &t, PLAN_STACK) && t.answer[0] == STAR_PASSED, "a thread of 128 KiB");
         held(&t);
     }
-}
-
-static void known_ones(void) {
-    cases();
     plan_lengths(held);
 }
 
@@ -192,7 +188,7 @@ static void table(unsigned long k) {
 
 int main(int count, char **words) {
     static const unsigned numbers[] = {3, 4, 7, 11, 15, 19, 0};
-    unsigned long tables = run(count, words, 20000, known_ones, table);
+    unsigned long tables = run(count, words, 20000, cases, table);
     tell(2 * done >= tables && 5 * dearer >= tables && 4 * listed >= tables, "the share of tables that are not refused, and cost more than the least");
     tell(50 * refused[3] >= tables && 50 * refused[19] >= tables && 50 * refused[11] >= tables && 100 * refused[7] >= tables, "the share of the refusals");
     printf("outlets: %lu tables, %lu not refused, %lu of them dearer than a least network, %lu listed; ", tables, done, dearer, listed);
