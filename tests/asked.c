@@ -2,8 +2,6 @@
 
 #include <string.h>
 
-enum { STACK = 128 << 10 };
-
 struct lent asked_lend(struct asked *t) {
     struct lent p = {lend(t->in_use, 8 * t->words), lend(t->left, t->left_len), lend(t->right, t->right_len), lend(t->weight, t->weight_len),
                      lend(t->first, t->first_len),  lend(t->second, t->second_len), lend(t->text, t->text_len), lend(t->answer, t->answer_len)};
@@ -32,9 +30,9 @@ static int32_t price_of_kind(uint32_t kind) {
     }
 }
 
-static void use_row(struct asked *t, size_t i, unsigned a, unsigned b, int32_t price) {
+static void use_row(struct asked *t, size_t i, struct pair p, int32_t price) {
     int turned = any(2) == 0;
-    put_row(t->left, t->right, t->weight, i, turned ? b : a, turned ? a : b, price);
+    put_row(t->left, t->right, t->weight, i, turned ? p.b : p.a, turned ? p.a : p.b, price);
     star_set_in_use(t->in_use, i, 1);
     t->rows++;
 }
@@ -44,11 +42,9 @@ static void fill(struct asked *t, size_t m, size_t from, size_t gap, int apart, 
     uint32_t n = t->n, kind = any(5);
     size_t i = from, k;
     for (k = 0; k < m && i <= STAR_MAX_ROWS; k++, i += 1 + any((uint32_t)gap + 1)) {
-        int link = k + 1 < n && !apart;
-        unsigned a = link ? (unsigned)k + 2 : 1 + any(n), b = link ? 1 + any((uint32_t)k + 1) : 1 + any(n), tries = 0;
-        while (n > 1 && (a == b || (!first_met(a, b) && !repeats)) && ++tries < 200) a = 1 + any(n), b = 1 + any(n);
-        if (n > 1 && a == b) a = b % n + 1;
-        use_row(t, i, a, b, price_of_kind(kind));
+        struct pair p = any_pair(n, k + 1 < n && !apart ? k + 1 : 0, repeats, 200);
+        if (n > 1 && p.a == p.b) p.a = p.b % n + 1;
+        use_row(t, i, p, price_of_kind(kind));
     }
 }
 
@@ -65,7 +61,7 @@ static void blank(struct asked *t, int working) {
     memset(t->in_use, 0, 8 * STAR_COLUMN_WORDS);
     t->working = working;
     t->rows = 0;
-    no_pair_met();
+    no_pair_given();
 }
 
 /* Exchanges rows of a plain table, so that those that join all junctions stand anywhere. */

@@ -57,18 +57,17 @@ void plan_table(struct lent *t, uint32_t n, size_t m, int connected, int working
     size_t position[STAR_MAX_ROWS], k, i = 0;
     uint32_t prices = any(5), gap = working && m > 0 ? STAR_MAX_ROWS / (uint32_t)m : 1;
     fill(t);
-    no_pair_met();
+    no_pair_given();
     t->n = n;
     t->working = working;
     lengths(t, m);
     if (m > STAR_MAX_ROWS) return;
     if (working && any(2)) i = any((uint32_t)(STAR_MAX_ROWS + 1 - m)), gap = 1;
     for (k = 0; k < m; k++) {
-        unsigned a = connected && k + 1 < n ? (unsigned)k + 2 : 1 + any(n), b = connected && k + 1 < n ? 1 + any((uint32_t)k + 1) : 1 + any(n), tries = 0;
-        while ((a == b || !first_met(a, b)) && ++tries < 400) a = 1 + any(n), b = 1 + any(n);
+        struct pair p = any_pair(n, connected && k + 1 < n ? k + 1 : 0, 0, 400);
         position[k] = i += 1 + any(gap);
-        if (any(2)) use_row(t, i, a, b, any_price(prices));
-        else use_row(t, i, b, a, any_price(prices));
+        if (any(2)) use_row(t, i, p.a, p.b, any_price(prices));
+        else use_row(t, i, p.b, p.a, any_price(prices));
     }
     shuffle(t, position, m);
     for (k = 0; k < t->mark_len; k++)
@@ -143,12 +142,6 @@ void plan_claim(struct lent *t) {
     }
     for (k = 0; k < r.m; k++) t->mark[r.row[k] - 1] = mark[r.row[k] - 1];
     while (flips-- && r.m > 0) t->mark[r.row[any((uint32_t)r.m)] - 1] ^= 1;
-}
-
-/* A length one too small or too large, or 0. */
-static void wrong_length(size_t *len, size_t most) {
-    *len = any(6) == 0 ? 0 : *len + (any(2) ? 1 : (size_t)-1);
-    if (*len > most) *len = 0;
 }
 
 void plan_damage(struct lent *t) {

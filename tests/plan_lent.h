@@ -99,8 +99,8 @@ void plan_back_columns(struct lent *t, struct columns *c);
 
 #define PLAN_COLUMNS(t, c) (c).left, (t)->left_len, (c).right, (t)->right_len, (c).weight, (t)->weight_len
 
-/* Runs a function in a thread of the stack that the header names; whether it returns 1. */
-enum { PLAN_STACK = 128 << 10, PLAN_STACK_MEND = 256 << 10 };
-int plan_small_stack(uint32_t (*run)(struct lent *), struct lent *t, size_t stack);
+/* Runs a function in a thread with a stack of so many bytes; whether it returns 1. What the header asks for a mend is more than STACK. */
+enum { PLAN_STACK_MEND = 256 << 10 };
+int plan_small_stack(uint32_t (*call)(struct lent *), struct lent *t, size_t stack);
 
 #endif

@@ -33,15 +33,30 @@ int32_t limit_price(void) {
     return limits[any(sizeof limits / sizeof limits[0])];
 }
 
-static uint32_t met[256][256], met_round;
+/* The round in which a pair was last given. */
+static uint32_t given[256][256], this_round;
 
-void no_pair_met(void) { met_round++; }
+void no_pair_given(void) { this_round++; }
 
-int first_met(unsigned a, unsigned b) {
-    uint32_t *of = a < b ? &met[a][b] : &met[b][a];
-    if (*of == met_round) return 0;
-    *of = met_round;
+static int first_given(struct pair p) {
+    uint32_t *of = p.a < p.b ? &given[p.a][p.b] : &given[p.b][p.a];
+    if (*of == this_round) return 0;
+    *of = this_round;
     return 1;
+}
+
+struct pair any_pair(uint32_t n, size_t joined, int repeats, unsigned most) {
+    struct pair p;
+    unsigned tries = 0;
+    p.a = joined ? (unsigned)joined + 1 : 1 + any(n);
+    p.b = 1 + any(joined ? (uint32_t)joined : n);
+    while (n > 1 && (p.a == p.b || (!first_given(p) && !repeats)) && ++tries < most) p.a = 1 + any(n), p.b = 1 + any(n);
+    return p;
+}
+
+void wrong_length(size_t *len, size_t most) {
+    *len = any(6) == 0 ? 0 : *len + (any(2) ? 1 : (size_t)-1);
+    if (*len > most) *len = 0;
 }
 
 void put_row(uint8_t *left, uint8_t *right, uint8_t *weight, size_t i, unsigned a, unsigned b, int32_t price) {

@@ -13,9 +13,16 @@ void random_bytes(void *to, size_t count);
 /* A price at a limit or at 0, or next to one of these. */
 int32_t limit_price(void);
 
-/* Whether a pair of junctions, in either direction, is met for the first time since no_pair_met was called. */
-void no_pair_met(void);
-int first_met(unsigned a, unsigned b);
+/* A pair of junctions for a row: the next junction and one of the `joined` that are joined already, or any two where joined is 0. It is drawn anew, fewer
+   than `most` times, while it is no pair, or was given since no_pair_given was called, in either direction; with repeats such a pair is taken. */
+struct pair {
+    unsigned a, b;
+};
+void no_pair_given(void);
+struct pair any_pair(uint32_t n, size_t joined, int repeats, unsigned most);
+
+/* A length one too small or too large, or 0; 0 if it were more than `most`. */
+void wrong_length(size_t *len, size_t most);
 
 /* Puts row i, counted from 1. And the rows of the yard: 1-2 5, 2-3 3, 3-4 5, 1-4 4, 1-3 6. */
 void put_row(uint8_t *left, uint8_t *right, uint8_t *weight, size_t i, unsigned a, unsigned b, int32_t price);
@@ -38,7 +45,8 @@ extern int exact_lengths;
 void *lend(void *from, size_t bytes);
 void back(void *to, void *lent, size_t bytes);
 
-/* Runs a function in a thread with a stack of so many bytes; 0 if that cannot be. */
+/* Runs a function in a thread with a stack of so many bytes; 0 if that cannot be. STACK: what the header asks of most doors. */
+enum { STACK = 128 << 10 };
 int on_small_stack(void *(*called)(void *), void *with, size_t stack);
 
 /* Runs the cases whose answers are known, and one table after the other; gives the number of tables. That is the first word of the command line, or

@@ -3,8 +3,6 @@
 
 #include "work_lent.h"
 
-enum { STACK = 128 << 10 };
-
 static struct lent t;
 
 /* The yard with rows in use, a digit each; every other byte is 7. */

@@ -43,10 +43,9 @@ static int32_t any_price(void) {
 static void fill(uint32_t n, size_t m, size_t from, size_t gap) {
     size_t i = from, k;
     for (k = 0; k < m && i <= STAR_MAX_ROWS; k++, i += 1 + any((uint32_t)gap + 1)) {
-        unsigned a = k + 1 < n ? (unsigned)k + 2 : 1 + any(n), b = k + 1 < n ? 1 + any((uint32_t)k + 1) : 1 + any(n), tries = 0;
-        while (n > 1 && (a == b || !first_met(a, b)) && ++tries < 200) a = 1 + any(n), b = 1 + any(n);
-        if (any(2)) put_row(t.left, t.right, t.weight, i, a, b, any_price());
-        else put_row(t.left, t.right, t.weight, i, b, a, any_price());
+        struct pair p = any_pair(n, k + 1 < n ? k + 1 : 0, 0, 200);
+        if (any(2)) put_row(t.left, t.right, t.weight, i, p.a, p.b, any_price());
+        else put_row(t.left, t.right, t.weight, i, p.b, p.a, any_price());
         star_set_in_use(t.in_use, i, 1);
     }
 }
@@ -58,7 +57,7 @@ static uint32_t fresh(unsigned long k) {
     random_bytes(&t, sizeof t);
     memset(t.in_use, 0, 8 * STAR_COLUMN_WORDS);
     lent_lengths(&t);
-    no_pair_met();
+    no_pair_given();
     if (k % 400 == 0) fill(n = 255 - any(200), m = STAR_MAX_ROWS, 1, 0);
     else if (k % 400 == 200) fill(n = 255 - any(200), m = STAR_MAX_ROWS / 2, 1, 2);
     else if (k % 4 == 0) fill(n, m, 1, 0);
@@ -74,11 +73,8 @@ static uint32_t fresh(unsigned long k) {
 /* Lends one column, or more, with a wrong length; the lengths are put right after the call. */
 static void damage(void) {
     size_t *len[] = {&t.words, &t.left_len, &t.right_len, &t.weight_len, &t.mark_len, &t.count, &t.answer_len};
-    do {
-        size_t *of = len[any(7)];
-        *of = any(6) == 0 ? 0 : *of + (any(2) ? 1 : (size_t)-1);
-        if (*of > 4 * STAR_MAX_ROWS + 1) *of = 0;
-    } while (any(4) == 0);
+    do wrong_length(len[any(7)], 4 * STAR_MAX_ROWS + 1);
+    while (any(4) == 0);
 }
 
 /* The claim that star_work_mst1 builds, mostly with a random byte at each row not in use; or one with a mark changed; or as it was. */
