@@ -127,7 +127,7 @@ int32_t asked_price(const struct asked *t) {
     int32_t near;
     if (any(3)) return price_of_kind(any(5));
     near = star_get_price(t->weight, t->working ? asked_row(t) % STAR_MAX_ROWS : any((uint32_t)t->rows));
-    return near == STAR_MIN_PRICE || near == STAR_MAX_PRICE ? near : near + (int32_t)any(3) - 1;
+    return near == STAR_MIN_PRICE || near == STAR_MAX_PRICE ? near : near - 1 + (int32_t)any(3);
 }
 
 void asked_plan(const struct asked *t, uint8_t *mark) {
