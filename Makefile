@@ -77,48 +77,48 @@ $(BUILD)/door_test: $(ARCHIVE) tests/door_test.c tests/plain.c tests/plain.h inc
 
 # The same over doors with a fault each, which it has to find.
 FAULTY := $(foreach door,cst other mst1 paths,-Dstar_$(door)=faulty_$(door))
-$(BUILD)/door_test_faulty: $(ARCHIVE) tests/door_test.c tests/faulty.c tests/plain.c tests/plain.h include/star.h
+$(BUILD)/door_test_faulty: $(ARCHIVE) tests/door_test.c tests/faulty.c tests/faulty.h tests/plain.c tests/plain.h include/star.h
 	@mkdir -p $(BUILD)
 	$(CC) -std=c99 $(CFLAGS) -Iinclude -c -o $(BUILD)/faulty.o tests/faulty.c
 	$(CC) -std=c99 $(CFLAGS) -Iinclude -Itests $(FAULTY) -o $@ tests/door_test.c tests/plain.c $(BUILD)/faulty.o $(ARCHIVE)
 
 # Working tables, in the same two ways.
-WORK := tests/work_test.c tests/work_lent.c tests/work_cases.c tests/plain_work.c tests/plain.c
-WORK_HEADERS := tests/work_lent.h tests/plain_work.h tests/plain.h include/star.h
+WORK := tests/work_test.c tests/work_lent.c tests/work_cases.c tests/shared.c tests/plain_work.c tests/plain.c
+WORK_HEADERS := tests/work_lent.h tests/shared.h tests/plain_work.h tests/plain.h include/star.h
 $(BUILD)/work_test: $(ARCHIVE) $(WORK) $(WORK_HEADERS)
 	@mkdir -p $(BUILD)
 	$(CC) -std=c99 $(CFLAGS) -Iinclude -Itests -o $@ $(WORK) $(ARCHIVE)
 
 FAULTY_WORK := $(foreach door,strike add merge work_cst work_other work_mst1 work_paths,-Dstar_$(door)=faulty_$(door))
-$(BUILD)/work_test_faulty: $(ARCHIVE) $(WORK) $(WORK_HEADERS) tests/faulty_work.c
+$(BUILD)/work_test_faulty: $(ARCHIVE) $(WORK) $(WORK_HEADERS) tests/faulty_work.c tests/faulty.h
 	@mkdir -p $(BUILD)
 	$(CC) -std=c99 $(CFLAGS) -Iinclude -c -o $(BUILD)/faulty_work.o tests/faulty_work.c
 	$(CC) -std=c99 $(CFLAGS) -Iinclude -Itests $(FAULTY_WORK) -o $@ $(WORK) $(BUILD)/faulty_work.o $(ARCHIVE)
 
 # Questions about a table, in the same two ways, a program each.
 ASKED := quote breaking which digs
-ASKED_PARTS := tests/asked.c tests/plain_asked.c tests/plain_work.c tests/plain.c
+ASKED_PARTS := tests/asked.c tests/shared.c tests/plain_asked.c tests/plain_work.c tests/plain.c
 ASKED_NEEDS := $(ARCHIVE) $(ASKED_PARTS) $(ASKED_PARTS:.c=.h) include/star.h
 $(ASKED:%=$(BUILD)/%_test): $(BUILD)/%_test: tests/%_test.c $(ASKED_NEEDS)
 	@mkdir -p $(BUILD)
 	$(CC) -std=c99 $(CFLAGS) -Iinclude -Itests -o $@ $< $(ASKED_PARTS) $(ARCHIVE) -pthread
 
-$(ASKED:%=$(BUILD)/%_test_faulty): $(BUILD)/%_test_faulty: tests/%_test.c tests/faulty_%.c $(ASKED_NEEDS)
+$(ASKED:%=$(BUILD)/%_test_faulty): $(BUILD)/%_test_faulty: tests/%_test.c tests/faulty_%.c tests/faulty.h $(ASKED_NEEDS)
 	@mkdir -p $(BUILD)
 	$(CC) -std=c99 $(CFLAGS) -Iinclude -c -o $(BUILD)/faulty_$*.o tests/faulty_$*.c
 	$(CC) -std=c99 $(CFLAGS) -Iinclude -Itests -Dstar_$*=faulty_$* -Dstar_work_$*=faulty_work_$* -Dstar_$*_text=faulty_$*_text -o $@ $< $(ASKED_PARTS) $(BUILD)/faulty_$*.o $(ARCHIVE) -pthread
 
 # Districts, mends and outlets, in the same two ways: each has its test, its faulty doors, and a plain implementation if it needs one.
 PLANS := districts mend outlets
-PLAN := tests/plan_lent.c tests/plain_work.c tests/plain.c
-PLAN_HEADERS := tests/plan_lent.h tests/plain_work.h tests/plain.h include/star.h
+PLAN := tests/plan_lent.c tests/shared.c tests/plain_work.c tests/plain.c
+PLAN_HEADERS := tests/plan_lent.h tests/shared.h tests/plain_work.h tests/plain.h include/star.h
 PLAIN_mend := tests/plain_mend.c
 PLAIN_outlets := tests/plain_outlets.c
 $(PLANS:%=$(BUILD)/%_test): $(BUILD)/%_test: $(ARCHIVE) tests/%_test.c $(PLAN) $(PLAN_HEADERS) $(wildcard tests/plain_*.[ch])
 	@mkdir -p $(BUILD)
 	$(CC) -std=c99 $(CFLAGS) -Iinclude -Itests -o $@ tests/$*_test.c $(PLAIN_$*) $(PLAN) $(ARCHIVE)
 
-$(PLANS:%=$(BUILD)/%_test_faulty): $(BUILD)/%_test_faulty: $(BUILD)/%_test tests/faulty_%.c tests/faulty_plan.h
+$(PLANS:%=$(BUILD)/%_test_faulty): $(BUILD)/%_test_faulty: $(BUILD)/%_test tests/faulty_%.c tests/faulty.h
 	$(CC) -std=c99 $(CFLAGS) -Iinclude -Itests -c -o $(BUILD)/faulty_$*.o tests/faulty_$*.c
 	$(CC) -std=c99 $(CFLAGS) -Iinclude -Itests -Dstar_$*=faulty_$* -Dstar_work_$*=faulty_work_$* -o $@ tests/$*_test.c $(PLAIN_$*) $(PLAN) $(BUILD)/faulty_$*.o $(ARCHIVE)
 

@@ -1,55 +1,6 @@
-#define _POSIX_C_SOURCE 200809L
 #include "asked.h"
 
-#include <pthread.h>
-#include <stdio.h>
-#include <stdlib.h>
 #include <string.h>
-
-int asked_exact;
-
-static unsigned long passed, failed;
-static uint64_t state = 88172645463325252u;
-
-uint64_t bits(void) {
-    state ^= state << 13;
-    state ^= state >> 7;
-    state ^= state << 17;
-    return state * 2685821657736338717u;
-}
-
-uint32_t any(uint32_t below) { return below ? (uint32_t)((bits() >> 20) % below) : 0; }
-
-void tell(int ok, const char *what) {
-    if (ok) passed++;
-    else if (failed++ < 10) fprintf(stderr, "%s differs, seed state %llx\n", what, (unsigned long long)state);
-}
-
-void share(unsigned long part, unsigned long one_of, unsigned long calls, const char *what) { tell(calls < 2000 || one_of * part >= calls, what); }
-
-int told(void) {
-    printf("%lu passed, %lu failed\n", passed, failed);
-    return failed != 0;
-}
-
-unsigned long asked_count(int count, char **words, unsigned long otherwise) {
-    asked_exact = count > 2 && strcmp(words[2], "exact") == 0;
-    return count > 1 ? strtoul(words[1], NULL, 10) : otherwise;
-}
-
-static void *lend(void *from, size_t bytes) {
-    void *copy = from;
-    if (bytes == 0) return NULL;
-    if (asked_exact && (copy = malloc(bytes)) == NULL) exit(3);
-    if (asked_exact) memcpy(copy, from, bytes);
-    return copy;
-}
-
-static void back(void *to, void *lent, size_t bytes) {
-    if (!asked_exact || bytes == 0) return;
-    memcpy(to, lent, bytes);
-    free(lent);
-}
 
 struct lent asked_lend(struct asked *t) {
     struct lent p = {lend(t->in_use, 8 * t->words), lend(t->left, t->left_len), lend(t->right, t->right_len), lend(t->weight, t->weight_len),
@@ -68,33 +19,20 @@ void asked_back(struct asked *t, struct lent p) {
     back(t->answer, p.answer, t->answer_len);
 }
 
-/* Whether a pair, in either direction, is met for the first time in this table. */
-static uint32_t met[256][256], round_of;
-
-static int first_met(unsigned a, unsigned b) {
-    uint32_t *of = a < b ? &met[a][b] : &met[b][a];
-    if (*of == round_of) return 0;
-    *of = round_of;
-    return 1;
-}
-
 /* Prices of one table are of one kind, so that ties occur in some. */
 static int32_t price_of_kind(uint32_t kind) {
-    static const int32_t limits[] = {STAR_MIN_PRICE, STAR_MIN_PRICE + 1, -1, 0, 1, STAR_MAX_PRICE - 1, STAR_MAX_PRICE};
     switch (kind) {
     case 0: return (int32_t)any(3);
     case 1: return (int32_t)any(41) - 20;
-    case 2: return limits[any(sizeof limits / sizeof limits[0])];
+    case 2: return limit_price();
     case 3: return 1000 + (int32_t)any(1000);
     default: return (int32_t)(bits() >> 32);
     }
 }
 
-static void put_row(struct asked *t, size_t i, unsigned a, unsigned b, int32_t price) {
+static void use_row(struct asked *t, size_t i, struct pair p, int32_t price) {
     int turned = any(2) == 0;
-    t->left[i - 1] = (uint8_t)(turned ? b : a);
-    t->right[i - 1] = (uint8_t)(turned ? a : b);
-    star_put_price(t->weight, i - 1, price);
+    put_row(t->left, t->right, t->weight, i, turned ? p.b : p.a, turned ? p.a : p.b, price);
     star_set_in_use(t->in_use, i, 1);
     t->rows++;
 }
@@ -104,11 +42,9 @@ static void fill(struct asked *t, size_t m, size_t from, size_t gap, int apart, 
     uint32_t n = t->n, kind = any(5);
     size_t i = from, k;
     for (k = 0; k < m && i <= STAR_MAX_ROWS; k++, i += 1 + any((uint32_t)gap + 1)) {
-        int link = k + 1 < n && !apart;
-        unsigned a = link ? (unsigned)k + 2 : 1 + any(n), b = link ? 1 + any((uint32_t)k + 1) : 1 + any(n), tries = 0;
-        while (n > 1 && (a == b || (!first_met(a, b) && !repeats)) && ++tries < 200) a = 1 + any(n), b = 1 + any(n);
-        if (n > 1 && a == b) a = b % n + 1;
-        put_row(t, i, a, b, price_of_kind(kind));
+        struct pair p = any_pair(n, k + 1 < n && !apart ? k + 1 : 0, repeats, 200);
+        if (n > 1 && p.a == p.b) p.a = p.b % n + 1;
+        use_row(t, i, p, price_of_kind(kind));
     }
 }
 
@@ -121,12 +57,11 @@ static void lengths(struct asked *t, size_t m, size_t answer_len) {
 }
 
 static void blank(struct asked *t, int working) {
-    size_t i;
-    for (i = 0; i < sizeof *t; i++) ((uint8_t *)t)[i] = (uint8_t)bits();
+    random_bytes(t, sizeof *t);
     memset(t->in_use, 0, 8 * STAR_COLUMN_WORDS);
     t->working = working;
     t->rows = 0;
-    round_of++;
+    no_pair_given();
 }
 
 /* Exchanges rows of a plain table, so that those that join all junctions stand anywhere. */
@@ -160,7 +95,7 @@ void asked_make(struct asked *t, unsigned long k, size_t answer_len) {
     lengths(t, t->working ? STAR_MAX_ROWS : t->rows, answer_len);
 }
 
-void asked_damage(struct asked *t) {
+static void damage(struct asked *t) {
     size_t *len[] = {&t->left_len, &t->right_len, &t->weight_len, &t->answer_len, &t->first_len, &t->second_len, &t->text_len, &t->words};
     size_t *of = len[any(t->working ? 8 : 7)], i = any(STAR_MAX_ROWS);
     switch (any(5)) {
@@ -171,6 +106,11 @@ void asked_damage(struct asked *t) {
         *of = any(8) == 0 ? 0 : any(2) ? *of + 1 : *of ? *of - 1 : 1;
         if (!t->working && any(5) == 0) t->left_len = t->right_len = t->first_len = t->second_len = STAR_MAX_ROWS + 1 + any(7), t->weight_len = 4 * t->left_len;
     }
+}
+
+void asked_damage(struct asked *t, uint32_t one_of, uint32_t again_of) {
+    if (any(one_of) == 0) damage(t);
+    if (any(again_of) == 0) damage(t);
 }
 
 uint32_t asked_row(const struct asked *t) {
@@ -187,7 +127,7 @@ int32_t asked_price(const struct asked *t) {
     int32_t near;
     if (any(3)) return price_of_kind(any(5));
     near = star_get_price(t->weight, t->working ? asked_row(t) % STAR_MAX_ROWS : any((uint32_t)t->rows));
-    return near == STAR_MIN_PRICE || near == STAR_MAX_PRICE ? near : near + (int32_t)any(3) - 1;
+    return near == STAR_MIN_PRICE || near == STAR_MAX_PRICE ? near : near - 1 + (int32_t)any(3);
 }
 
 void asked_plan(const struct asked *t, uint8_t *mark) {
@@ -216,16 +156,11 @@ void asked_plan(const struct asked *t, uint8_t *mark) {
 }
 
 void asked_yard(struct asked *t, int working, size_t answer_len) {
-    static const uint8_t end[5][2] = {{1, 2}, {2, 3}, {3, 4}, {1, 4}, {1, 3}};
-    static const int32_t price[5] = {5, 3, 5, 4, 6};
     size_t i;
     blank(t, working);
     t->n = 4;
-    for (i = 0; i < 5; i++) {
-        t->left[i] = end[i][0], t->right[i] = end[i][1];
-        star_put_price(t->weight, i, price[i]);
-        star_set_in_use(t->in_use, i + 1, 1);
-    }
+    put_yard(t->left, t->right, t->weight);
+    for (i = 1; i <= 5; i++) star_set_in_use(t->in_use, i, 1);
     t->rows = 5;
     lengths(t, working ? STAR_MAX_ROWS : 5, answer_len);
 }
@@ -242,8 +177,32 @@ const struct in_use *asked_in_use(struct asked *t) {
     return t->working ? &u : NULL;
 }
 
-int asked_on_small_stack(void *(*run)(void *), void *with, size_t stack) {
-    pthread_attr_t attr;
-    pthread_t thread;
-    return !pthread_attr_init(&attr) && !pthread_attr_setstacksize(&attr, stack) && !pthread_create(&thread, &attr, run, with) && !pthread_join(thread, NULL);
+void asked_make_large(struct asked *t, int working, size_t answer_len) {
+    do asked_make(t, (unsigned long)working, answer_len);
+    while (t->rows < 1000);
+}
+
+void asked_use_row_1(struct asked *t) { t->in_use[0] |= 1; }
+
+struct question {
+    uint32_t (*ask)(struct asked *);
+    struct asked *t;
+};
+
+static void *in_thread(void *own) {
+    struct question *q = own;
+    q->t->answer[0] = 99;
+    q->ask(q->t);
+    return NULL;
+}
+
+void asked_small_stack(size_t answer_len, void (*ready)(struct asked *), uint32_t (*ask)(struct asked *), uint8_t most) {
+    static struct asked t;
+    struct question q = {ask, &t};
+    int working;
+    for (working = 0; working < 2; working++) {
+        asked_make_large(&t, working, answer_len);
+        if (ready) ready(&t);
+        tell(on_small_stack(in_thread, &q, STACK) && t.answer[0] <= most, "a thread of 128 KiB");
+    }
 }

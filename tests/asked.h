@@ -6,6 +6,7 @@
 #include <stdint.h>
 
 #include "plain_asked.h"
+#include "shared.h"
 #include "star.h"
 
 enum { ASKED_GUARD = 32, ASKED_ROWS = STAR_MAX_ROWS + 8, ASKED_TEXT = STAR_MAX_LIST + 30 };
@@ -22,13 +23,12 @@ struct asked {
     size_t words, left_len, right_len, weight_len, first_len, second_len, text_len, answer_len;
 };
 
-/* The pointers that are handed to a door: null for an empty column. With asked_exact set, each is memory of the column's own length. */
+/* The pointers that are handed to a door: null for an empty column. */
 struct lent {
     uint64_t *in_use;
     uint8_t *left, *right, *weight, *first, *second, *text, *answer;
 };
 
-extern int asked_exact;
 struct lent asked_lend(struct asked *t);
 void asked_back(struct asked *t, struct lent p);
 
@@ -36,8 +36,16 @@ void asked_back(struct asked *t, struct lent p);
    repeated rows; with prices of both signs and at their limits. The lengths are right, but the answer's is given. */
 void asked_make(struct asked *t, unsigned long k, size_t answer_len);
 
-/* One length wrong, or more; a bad end; a bad number of junctions; a row struck. */
-void asked_damage(struct asked *t);
+/* One of so many tables damaged, and one of so many once more: a length wrong, or more; a bad end; a bad number of junctions. */
+void asked_damage(struct asked *t, uint32_t one_of, uint32_t again_of);
+
+/* A table with 1,000 rows or more. */
+void asked_make_large(struct asked *t, int working, size_t answer_len);
+
+/* Asks about a large table of each kind in a thread with the stack that the header names; an answer's first byte is at most `most`. Before that the
+   table is made ready: asked_use_row_1 puts row 1 in use; NULL leaves the table as it is. */
+void asked_use_row_1(struct asked *t);
+void asked_small_stack(size_t answer_len, void (*ready)(struct asked *), uint32_t (*ask)(struct asked *), uint8_t most);
 
 /* A row to ask about: mostly one in use. */
 uint32_t asked_row(const struct asked *t);
@@ -54,22 +62,5 @@ void asked_yard(struct asked *t, int working, size_t answer_len);
 /* For the plain implementation: the call and its rows in use, a null pointer for a plain table. */
 struct call asked_call(struct asked *t);
 const struct in_use *asked_in_use(struct asked *t);
-
-/* Runs a test in a thread with the stack that the header names; 0 if that cannot be. */
-int asked_on_small_stack(void *(*run)(void *), void *with, size_t stack);
-
-/* Random numbers with a fixed start: below a number, and of 64 bits. */
-uint32_t any(uint32_t below);
-uint64_t bits(void);
-
-/* Counts a comparison; the first that fail are told. And the last line of a test: 'N passed, M failed'; what it gives is the exit status. */
-void tell(int ok, const char *what);
-int told(void);
-
-/* Counts whether one of so many calls was of a kind; of fewer than 2,000 calls nothing is expected. */
-void share(unsigned long part, unsigned long one_of, unsigned long calls, const char *what);
-
-/* The number of tables asked for on the command line, and whether memory of exact length is. */
-unsigned long asked_count(int count, char **words, unsigned long otherwise);
 
 #endif

@@ -7,9 +7,7 @@
 
 #include "asked.h"
 
-enum { STACK = 128 << 10 };
-
-static unsigned long priced[2], never[2], refused[32], unwritten;
+static unsigned long priced[2], never[2], unwritten;
 
 static uint32_t door(struct asked *t, uint32_t row) {
     struct lent p = asked_lend(t);
@@ -95,39 +93,27 @@ static void known(void) {
     }
 }
 
-static void *on_small_stack(void *table) {
-    struct asked *t = table;
-    t->answer[0] = 99;
-    door(t, 1);
-    return NULL;
+static uint32_t row_1(struct asked *t) { return door(t, 1); }
+
+static void cases(void) {
+    known();
+    asked_small_stack(STAR_ANSWER_BYTES, asked_use_row_1, row_1, STAR_NEVER);
 }
 
-static void small_stack(void) {
+static void table(unsigned long k) {
     static struct asked t;
-    int working;
-    for (working = 0; working < 2; working++) {
-        do asked_make(&t, (unsigned long)working, STAR_ANSWER_BYTES);
-        while (t.rows < 1000);
-        t.in_use[0] |= 1;
-        tell(asked_on_small_stack(on_small_stack, &t, STACK) && t.answer[0] <= STAR_NEVER, "a thread of 128 KiB");
-    }
+    asked_make(&t, k, STAR_ANSWER_BYTES);
+    asked_damage(&t, 5, 20);
+    one(&t, asked_row(&t));
 }
 
 int main(int count, char **words) {
-    unsigned long tables = asked_count(count, words, 20000), k;
-    static struct asked t;
-    known();
-    small_stack();
-    for (k = 0; k < tables; k++) {
-        asked_make(&t, k, STAR_ANSWER_BYTES);
-        if (any(5) == 0) asked_damage(&t);
-        if (any(20) == 0) asked_damage(&t);
-        one(&t, asked_row(&t));
-    }
+    static const unsigned numbers[] = {1, 2, 3, 4, 15, 7, 11, 0};
+    unsigned long tables = run(count, words, 20000, cases, table), k;
     for (k = 0; k < 2; k++) share(priced[k], 5, tables, "the share of breaking prices that are given"), share(never[k], 50, tables, "the share of none");
-    for (k = 1; k <= 15; k++)
-        if (k <= 4 || k == 7 || k == 11 || k == 15) share(refused[k], 1500, tables, "the share of a refusal");
-    printf("%lu breaking prices: %lu of plain tables and %lu of working tables, none %lu and %lu times; refused 1 %lu times, 2 %lu, 3 %lu, 4 %lu, 15 %lu, 7 %lu, 11 %lu; %lu without an answer\n", tables, priced[0],
-           priced[1], never[0], never[1], refused[1], refused[2], refused[3], refused[4], refused[15], refused[7], refused[11], unwritten);
+    share_refused(numbers, 1500, tables);
+    printf("%lu breaking prices: %lu of plain tables and %lu of working tables, none %lu and %lu times; ", tables, priced[0], priced[1], never[0], never[1]);
+    print_refused(numbers);
+    printf("; %lu without an answer\n", unwritten);
     return told();
 }

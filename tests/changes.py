@@ -1,22 +1,11 @@
 """Tests of strike, add and merge: on random files, what they write against a list of the trenches changed in the same way, what they tell of the
 numbers, and that every other command says of a file with struck trenches what it says of the file without them, the numbers apart.
 usage: changes.py STAR"""
-import random, re, subprocess, sys
+import random, re, sys
 
-STAR = sys.argv[1:]
+from calls import fault, faults, star
+
 random.seed(17)
-faults = 0
-
-
-def star(text, *words):
-    done = subprocess.run(STAR + [words[0], "-", *words[1:]], input=text, capture_output=True, text=True)
-    return done.stdout, done.stderr, done.returncode
-
-
-def fault(*what):
-    global faults
-    faults += 1
-    print(*what)
 
 
 def read(text):
@@ -103,4 +92,4 @@ for number in range(150):
                 fault(words, text, said, without)
         elif without_places(said[0]) != with_old_numbers(without_places(without[0]), rows) or said[2] != without[2]:
             fault(words, text, said, without)
-sys.exit(faults != 0)
+sys.exit(len(faults) != 0)

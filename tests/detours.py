@@ -1,14 +1,15 @@
 """Tests of explain: on random plans, the detours, their sums and dearest trenches, rings, and junctions cut off, against a search of its own.
 usage: detours.py STAR"""
-import random, re, subprocess, sys
+import random, re, sys
 
-STAR = sys.argv[1:]
+from calls import star
+
 random.seed(11)
 
 
 def explain(rows, n, *words):
     text = "junctions %d\n" % n + "".join("%d %d %d %d\n" % row for row in rows)
-    return subprocess.run(STAR + ["explain", "-", *words], input=text, capture_output=True, text=True).stdout
+    return star(text, "explain", *words)[0]
 
 
 def way(rows, a, b, without=None):

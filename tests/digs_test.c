@@ -7,9 +7,9 @@
 
 #include "asked.h"
 
-enum { STACK = 128 << 10, TEXT_STACK = 1 << 20 };
+enum { TEXT_STACK = 1 << 20 };
 
-static unsigned long done[3], refused[32], unwritten;
+static unsigned long done[3], unwritten;
 
 static uint32_t door(struct asked *t) {
     struct lent p = asked_lend(t);
@@ -107,51 +107,38 @@ static void known(void) {
     tell(t.answer[0] == STAR_PASSED && star_read_answer(t.answer).amount <= STAR_MAX_LIST && star_read_answer(t.answer).amount > 5900, "the longest list");
 }
 
-static void *on_small_stack(void *table) {
-    struct asked *t = table;
-    t->answer[0] = 99;
-    door(t);
-    return NULL;
-}
-
-static void *text_on_small_stack(void *table) {
+static void *ask_text(void *table) {
     from_text(table);
     return NULL;
 }
 
-static void small_stack(void) {
+static void cases(void) {
     static struct asked t;
-    int working;
-    for (working = 0; working < 2; working++) {
-        do asked_make(&t, (unsigned long)working, STAR_ANSWER_BYTES);
-        while (t.rows < 1000);
-        tell(asked_on_small_stack(on_small_stack, &t, STACK) && t.answer[0] <= STAR_PASSED, "a thread of 128 KiB");
-    }
-    do asked_make(&t, 0, STAR_ANSWER_BYTES);
-    while (t.rows < 1000);
-    tell(asked_on_small_stack(text_on_small_stack, &t, TEXT_STACK), "a thread of 1 MiB");
+    known();
+    asked_small_stack(STAR_ANSWER_BYTES, NULL, door, STAR_PASSED);
+    asked_make_large(&t, 0, STAR_ANSWER_BYTES);
+    tell(on_small_stack(ask_text, &t, TEXT_STACK), "a thread of 1 MiB");
+}
+
+static void table(unsigned long k) {
+    static struct asked t;
+    asked_make(&t, k, STAR_ANSWER_BYTES);
+    asked_damage(&t, 5, 20);
+    one(&t);
+    if (k % 8 != 0) return;
+    asked_make(&t, k, STAR_ANSWER_BYTES);
+    if (any(20) == 0) t.text_len = any(STAR_MAX_LIST);
+    if (any(20) == 0) t.answer_len = any(30) % STAR_QUOTE_BYTES;
+    from_text(&t);
 }
 
 int main(int count, char **words) {
-    unsigned long lists = asked_count(count, words, 20000), k;
-    static struct asked t;
-    known();
-    small_stack();
-    for (k = 0; k < lists; k++) {
-        asked_make(&t, k, STAR_ANSWER_BYTES);
-        if (any(5) == 0) asked_damage(&t);
-        if (any(20) == 0) asked_damage(&t);
-        one(&t);
-        if (k % 8 != 0) continue;
-        asked_make(&t, k, STAR_ANSWER_BYTES);
-        if (any(20) == 0) t.text_len = any(STAR_MAX_LIST);
-        if (any(20) == 0) t.answer_len = any(30) % STAR_QUOTE_BYTES;
-        from_text(&t);
-    }
+    static const unsigned numbers[] = {1, 2, 3, 4, 15, 11, 12, 13, 0};
+    unsigned long lists = run(count, words, 20000, cases, table), k;
     for (k = 0; k < 3; k++) share(done[k], k == 2 ? 20 : 4, lists, "the share of lists that are written");
-    for (k = 1; k <= 15; k++)
-        if (k <= 4 || k == 11 || k == 12 || k == 13 || k == 15) share(refused[k], 1500, lists, "the share of a refusal");
-    printf("%lu lists: %lu of plain tables, %lu of working tables, %lu of texts; refused 1 %lu times, 2 %lu, 3 %lu, 4 %lu, 15 %lu, 11 %lu, 12 %lu, 13 %lu; %lu without an answer\n", lists, done[0], done[1], done[2],
-           refused[1], refused[2], refused[3], refused[4], refused[15], refused[11], refused[12], refused[13], unwritten);
+    share_refused(numbers, 1500, lists);
+    printf("%lu lists: %lu of plain tables, %lu of working tables, %lu of texts; ", lists, done[0], done[1], done[2]);
+    print_refused(numbers);
+    printf("; %lu without an answer\n", unwritten);
     return told();
 }

@@ -8,19 +8,19 @@
 #include "plan_lent.h"
 
 /* What the tables came to: runs with a ring, forests of more than one group, rows of forests that the tree leaves out. */
-static unsigned long done, ringed, grouped, left_out, refused[32];
+static unsigned long done, ringed, grouped, left_out;
 
 static uint32_t ask(struct lent *t) {
     struct columns c;
-    uint32_t *ends = plan_lend(t->ends, 4 * t->ends_count), said;
-    uint8_t *forests = plan_lend(t->forests, t->forests_len);
+    uint32_t *ends = lend(t->ends, 4 * t->ends_count), said;
+    uint8_t *forests = lend(t->forests, t->forests_len);
     plan_lend_columns(t, &c);
     if (t->working)
         said = star_work_districts(t->n, c.in_use, t->words, PLAN_COLUMNS(t, c), ends, t->ends_count, forests, t->forests_len, c.mark, t->mark_len, c.answer, t->answer_len);
     else said = star_districts(t->n, PLAN_COLUMNS(t, c), ends, t->ends_count, forests, t->forests_len, c.mark, t->mark_len, c.answer, t->answer_len);
     plan_back_columns(t, &c);
-    plan_back(t->forests, forests, t->forests_len);
-    plan_back(t->ends, ends, 4 * t->ends_count);
+    back(t->forests, forests, t->forests_len);
+    back(t->ends, ends, 4 * t->ends_count);
     return said;
 }
 
@@ -32,6 +32,13 @@ static int bad_runs(const struct lent *t) {
     for (i = 0; i < t->ends_count; i++)
         if (t->ends[i] <= (i ? t->ends[i - 1] : 0)) return 1;
     return t->ends[t->ends_count - 1] != m;
+}
+
+/* The refusal, or a pass with the least total: 14 stands between those of the table and 11. */
+static struct star_answer expected(const struct lent *t) {
+    struct star_answer a = plan_least_with(t, t->forests_len);
+    if ((a.kind == STAR_PASSED || a.number == STAR_NO_NETWORK) && bad_runs(t)) return (struct star_answer){STAR_REFUSED, STAR_BAD_RUNS, 0, 0, 0, 0};
+    return a;
 }
 
 /* Whether a column has 1 at rows of the table alone, and 0 at all its others. */
@@ -92,55 +99,44 @@ static int tree_holds(const struct lent *t, const struct rows *r, int64_t amount
 static void held(struct lent *t) {
     static struct lent before;
     static struct rows r;
-    struct star_answer least = plan_least_with(t, t->forests_len), judged;
+    struct star_answer least = expected(t), judged;
     uint32_t said;
     memcpy(&before, t, sizeof before);
     said = ask(t);
-    if (t->answer_len != STAR_ANSWER_BYTES) {
-        plan_tell(said == 0 && !memcmp(t, &before, sizeof before), "an answer of another length");
-        return;
-    }
-    if (least.kind == STAR_PASSED || least.number == STAR_NO_NETWORK)
-        if (bad_runs(t)) least = (struct star_answer){STAR_REFUSED, STAR_BAD_RUNS, 0, 0, 0, 0};
-    if (least.kind == STAR_REFUSED) {
-        refused[least.number]++;
-        plan_put(before.answer, STAR_REFUSED, least.number, least.out, 0);
-        plan_tell(said == 1 && !memcmp(t, &before, sizeof before), "a refusal");
-        return;
-    }
+    if (plan_refused(t, &before, said, least)) return;
     done++;
-    plan_tell(said == 1 && plan_does(t->answer, least.amount), "the least total");
+    tell(said == 1 && plan_does(t->answer, least.amount), "the least total");
     plan_rows(t, &r);
-    plan_tell(is_column(t, t->forests) && is_column(t, t->mark), "bytes of a column");
-    plan_tell(forests_hold(t, &r), "a run's forest");
-    plan_tell(tree_holds(t, &r, least.amount), "the tree from the forests");
+    tell(is_column(t, t->forests) && is_column(t, t->mark), "bytes of a column");
+    tell(forests_hold(t, &r), "a run's forest");
+    tell(tree_holds(t, &r, least.amount), "the tree from the forests");
     judged = plan_judged(t);
-    plan_tell(judged.kind == STAR_PASSED && judged.amount == least.amount, "the check of the tree");
+    tell(judged.kind == STAR_PASSED && judged.amount == least.amount, "the check of the tree");
     memcpy(before.answer, t->answer, STAR_ANSWER_BYTES);
     memcpy(before.forests, t->forests, t->forests_len);
     memcpy(before.mark, t->mark, t->mark_len);
-    plan_tell(!memcmp(t, &before, sizeof before), "what is not written");
+    tell(!memcmp(t, &before, sizeof before), "what is not written");
 }
 
 static int by_size(const void *x, const void *y) { return *(const uint32_t *)x < *(const uint32_t *)y ? -1 : *(const uint32_t *)x > *(const uint32_t *)y; }
 
 /* Random runs: their ends rise to m; in a small share they do not. */
 static void runs(struct lent *t) {
-    size_t m = plan_m(t), want = plan_any(8), used = t->working ? 0 : m, i, count = 0;
+    size_t m = plan_m(t), want = any(8), used = t->working ? 0 : m, i, count = 0;
     uint32_t drawn[PLAN_ENDS];
     for (i = 1; t->working && i <= STAR_MAX_ROWS; i++)
         if (star_in_use(t->in_use, i)) used = i;
-    for (i = 0; i < want && used > 0; i++) drawn[i] = 1 + plan_any((uint32_t)used);
+    for (i = 0; i < want && used > 0; i++) drawn[i] = 1 + any((uint32_t)used);
     qsort(drawn, used ? want : 0, sizeof drawn[0], by_size);
     for (i = 0; i < want && used > 0; i++)
         if (drawn[i] < m && (count == 0 || drawn[i] > t->ends[count - 1])) t->ends[count++] = drawn[i];
     if (m > 0) t->ends[count++] = (uint32_t)m;
     t->ends_count = count;
-    if (plan_any(20)) return;
-    switch (plan_any(6)) {
+    if (any(20)) return;
+    switch (any(6)) {
     case 0: t->ends_count = 0; break;
-    case 1: t->ends_count = plan_any(PLAN_ENDS + 1); break; /* the ends after the last one are random */
-    case 2: if (count) t->ends[count - 1] += plan_any(2) ? 1 : (uint32_t)-1; break;
+    case 1: t->ends_count = any(PLAN_ENDS + 1); break; /* the ends after the last one are random */
+    case 2: if (count) t->ends[count - 1] += any(2) ? 1 : (uint32_t)-1; break;
     case 3: if (count > 1) t->ends[count - 2] = t->ends[count - 1]; break;
     case 4: t->ends[0] = 0; t->ends_count += count == 0; break;
     default: for (i = 0; i < PLAN_ENDS; i++) t->ends[i] = (uint32_t)(i + 1 < 9 ? i + 1 : m); t->ends_count = 9; break;
@@ -160,11 +156,22 @@ static void known(const char *in_use, const char *ends, unsigned number, const c
     put_ends(&t, ends);
     held(&t);
     if (number) {
-        plan_tell(plan_refuses(t.answer, number, 0) && t.forests[0] == 7, "a known refusal");
+        tell(plan_refuses(t.answer, number, 0) && t.forests[0] == 7, "a known refusal");
         return;
     }
     for (i = 0; i < 5; i++) ok = ok && t.forests[i] == (uint8_t)(forests[i] - '0');
-    plan_tell(ok && plan_does(t.answer, total), "the yard's known forests");
+    tell(ok && plan_does(t.answer, total), "the yard's known forests");
+}
+
+/* The length of the forests, as every other. */
+static void forests_length(void) {
+    static struct lent t;
+    int k;
+    for (k = 0; k < 6; k++) {
+        plan_yard_length(&t, &t.forests_len, k);
+        held(&t);
+        tell(plan_refuses(t.answer, STAR_BAD_LENGTHS, 0), "the refusal of a length");
+    }
 }
 
 static void cases(void) {
@@ -187,11 +194,11 @@ static void cases(void) {
     t.n = 1;
     t.left_len = t.right_len = t.weight_len = t.mark_len = t.forests_len = t.ends_count = 0;
     held(&t);
-    plan_tell(plan_does(t.answer, 0), "one junction");
+    tell(plan_does(t.answer, 0), "one junction");
     t.ends_count = 1;
     t.ends[0] = 0;
     held(&t);
-    plan_tell(plan_refuses(t.answer, STAR_BAD_RUNS, 0), "the end 0 of no rows");
+    tell(plan_refuses(t.answer, STAR_BAD_RUNS, 0), "the end 0 of no rows");
     plan_yard(&t, NULL); /* an end whose low bytes are 5 */
     put_ends(&t, "5");
     t.ends[0] += 256;
@@ -205,43 +212,30 @@ static void cases(void) {
         for (i = 0; i < k; i++) t.ends[i] = (uint32_t)(i + 1 < k ? i + 1 : 9);
         t.ends_count = k;
         held(&t);
-        plan_tell(t.answer[0] == (k < 9 ? STAR_PASSED : STAR_REFUSED), "seven, eight and nine runs");
+        tell(t.answer[0] == (k < 9 ? STAR_PASSED : STAR_REFUSED), "seven, eight and nine runs");
     }
     plan_table(&t, 255, STAR_MAX_ROWS, 1, 0);
     runs(&t);
-    plan_tell(plan_small_stack(ask, &t, PLAN_STACK), "a thread of 128 KiB");
+    tell(plan_small_stack(ask, &t, STACK), "a thread of 128 KiB");
+    plan_lengths(held);
+    forests_length();
 }
 
-/* Every length one too small, one too large, and 0 with a null pointer. */
-static void lengths(void) {
+static void table(unsigned long k) {
     static struct lent t;
-    int working, k;
-    for (working = 0; working < 2; working++)
-        for (k = 0; k < 21; k++) {
-            size_t *len[] = {&t.left_len, &t.right_len, &t.weight_len, &t.mark_len, &t.forests_len, &t.answer_len, &t.words};
-            plan_yard(&t, working ? "1234" : NULL);
-            *len[k / 3] = k % 3 == 2 ? 0 : *len[k / 3] + 2 * (size_t)(k % 3) - 1;
-            held(&t);
-            if (t.answer_len == STAR_ANSWER_BYTES && (working || k < 18)) plan_tell(plan_refuses(t.answer, STAR_BAD_LENGTHS, 0), "the refusal of a length");
-        }
+    plan_make(&t, k);
+    runs(&t);
+    if (any(5) == 0) plan_damage(&t);
+    held(&t);
 }
 
 int main(int count, char **words) {
-    static struct lent t;
-    unsigned long tables = count > 1 ? strtoul(words[1], NULL, 10) : 50000, k;
-    plan_exact = count > 2 && strcmp(words[2], "exact") == 0;
-    cases();
-    lengths();
-    for (k = 0; k < tables; k++) {
-        plan_make(&t, k);
-        runs(&t);
-        if (plan_any(5) == 0) plan_damage(&t);
-        held(&t);
-    }
-    plan_tell(2 * done >= tables && 4 * ringed >= tables && 4 * grouped >= tables && 4 * left_out >= tables, "the share of tables that are not refused, of runs with a ring, and of rows left out");
-    plan_tell(50 * refused[3] >= tables && 50 * refused[14] >= tables && 50 * refused[11] >= tables && 200 * refused[4] >= tables, "the share of the refusals");
-    printf("districts: %lu tables, %lu not refused, %lu runs with a ring, %lu of more than one group; refused 3 %lu times, 4 %lu, 11 %lu, 14 %lu, 15 %lu\n", tables, done, ringed, grouped, refused[3], refused[4], refused[11],
-           refused[14], refused[15]);
-    printf("%lu passed, %lu failed\n", plan_passed, plan_failed);
-    return plan_failed != 0;
+    static const unsigned numbers[] = {3, 4, 11, 14, 15, 0};
+    unsigned long tables = run(count, words, 50000, cases, table);
+    tell(2 * done >= tables && 4 * ringed >= tables && 4 * grouped >= tables && 4 * left_out >= tables, "the share of tables that are not refused, of runs with a ring, and of rows left out");
+    tell(50 * refused[3] >= tables && 50 * refused[14] >= tables && 50 * refused[11] >= tables && 200 * refused[4] >= tables, "the share of the refusals");
+    printf("districts: %lu tables, %lu not refused, %lu runs with a ring, %lu of more than one group; ", tables, done, ringed, grouped);
+    print_refused(numbers);
+    printf("\n");
+    return told();
 }

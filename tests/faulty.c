@@ -1,17 +1,6 @@
 /* The doors with a fault each: a control of door_test, which has to fail over every one of them and to pass over the fault 'none'. door_test is
  * compiled with the doors' names replaced by those below; the environment's FAULT names the fault. */
-#include <stdlib.h>
-#include <string.h>
-
-#include "star.h"
-
-#define COLUMNS const uint8_t *left, size_t left_len, const uint8_t *right, size_t right_len, const uint8_t *weight, size_t weight_len
-#define LENT left, left_len, right, right_len, weight, weight_len
-
-static int fault(const char *name) {
-    const char *chosen = getenv("FAULT");
-    return chosen && strcmp(chosen, name) == 0;
-}
+#include "faulty.h"
 
 /* Spoils an answer of star_cst or star_other that is written. */
 static void spoil(uint8_t *answer) {
@@ -25,18 +14,18 @@ static void spoil(uint8_t *answer) {
     if (fault("repeat-above") && answer[1] == STAR_REPEATED_ROW) answer[2]--;
 }
 
-uint32_t faulty_cst(uint32_t n, COLUMNS, const uint8_t *mark, size_t mark_len, uint8_t *answer, size_t answer_len);
-uint32_t faulty_other(uint32_t n, COLUMNS, const uint8_t *mark, size_t mark_len, uint8_t *answer, size_t answer_len);
-uint32_t faulty_mst1(uint32_t n, COLUMNS, uint8_t *mark, size_t mark_len, uint8_t *answer, size_t answer_len);
-uint32_t faulty_paths(uint32_t n, COLUMNS, const uint8_t *mark, size_t mark_len, uint32_t s, uint64_t *matrix, size_t words, uint8_t *answer, size_t answer_len);
+uint32_t faulty_cst(uint32_t n, COLUMNS, CLAIM, ANSWER);
+uint32_t faulty_other(uint32_t n, COLUMNS, CLAIM, ANSWER);
+uint32_t faulty_mst1(uint32_t n, COLUMNS, MARK, ANSWER);
+uint32_t faulty_paths(uint32_t n, COLUMNS, CLAIM, uint32_t s, uint64_t *matrix, size_t words, ANSWER);
 
-uint32_t faulty_cst(uint32_t n, COLUMNS, const uint8_t *mark, size_t mark_len, uint8_t *answer, size_t answer_len) {
+uint32_t faulty_cst(uint32_t n, COLUMNS, CLAIM, ANSWER) {
     uint32_t said = star_cst(n, LENT, mark, mark_len, answer, answer_len);
     if (said) spoil(answer);
     return said;
 }
 
-uint32_t faulty_other(uint32_t n, COLUMNS, const uint8_t *mark, size_t mark_len, uint8_t *answer, size_t answer_len) {
+uint32_t faulty_other(uint32_t n, COLUMNS, CLAIM, ANSWER) {
     uint32_t said = star_other(n, LENT, mark, mark_len, answer, answer_len);
     uint8_t out;
     if (!said) return said;
@@ -48,13 +37,13 @@ uint32_t faulty_other(uint32_t n, COLUMNS, const uint8_t *mark, size_t mark_len,
     return said;
 }
 
-uint32_t faulty_mst1(uint32_t n, COLUMNS, uint8_t *mark, size_t mark_len, uint8_t *answer, size_t answer_len) {
+uint32_t faulty_mst1(uint32_t n, COLUMNS, MARK, ANSWER) {
     uint32_t said = star_mst1(n, LENT, mark, mark_len, answer, answer_len);
     if (said && answer[0] == STAR_PASSED && fault("only-and-built")) answer[6] = 1;
     return said;
 }
 
-uint32_t faulty_paths(uint32_t n, COLUMNS, const uint8_t *mark, size_t mark_len, uint32_t s, uint64_t *matrix, size_t words, uint8_t *answer, size_t answer_len) {
+uint32_t faulty_paths(uint32_t n, COLUMNS, CLAIM, uint32_t s, uint64_t *matrix, size_t words, ANSWER) {
     uint32_t said = star_paths(n, LENT, mark, mark_len, fault("paths-from-one") && s > 1 && s <= n ? 1 : s, matrix, words, answer, answer_len);
     size_t used = STAR_COLUMN_WORDS * (size_t)n;
     if (said && answer[0] == STAR_PASSED && fault("paths-last-column")) matrix[used - STAR_COLUMN_WORDS] ^= 1;

@@ -1,32 +1,16 @@
 /* The doors of breaking prices with a fault each: a control of breaking_test, which has to fail over every one of them and to pass over the fault
  * 'none'. breaking_test is compiled with the doors' names replaced by those below; the environment's FAULT names the fault. */
-#include <stdlib.h>
-#include <string.h>
+#include "faulty.h"
 
-#include "star.h"
-
-#define COLUMNS const uint8_t *left, size_t left_len, const uint8_t *right, size_t right_len, const uint8_t *weight, size_t weight_len
-#define LENT left, left_len, right, right_len, weight, weight_len
-#define ASKED uint32_t row, uint8_t *answer, size_t answer_len
-
-static int fault(const char *name) {
-    static const char *chosen;
-    if (!chosen) chosen = getenv("FAULT") ? getenv("FAULT") : "none";
-    return strcmp(chosen, name) == 0;
-}
+#define ASKED uint32_t row, ANSWER
 
 uint32_t faulty_breaking(uint32_t n, COLUMNS, ASKED);
-uint32_t faulty_work_breaking(uint32_t n, const uint64_t *in_use, size_t in_use_words, COLUMNS, ASKED);
+uint32_t faulty_work_breaking(uint32_t n, IN_USE, COLUMNS, ASKED);
 
 static uint32_t other_row(uint32_t row, size_t last) {
     if (fault("row-counted-from-0")) return row + 1;
     if (fault("last-row-taken") && row == last + 1) return row - 1;
     return row;
-}
-
-static void put_amount(uint8_t *answer, int64_t amount) {
-    int k;
-    for (k = 0; k < 8; k++) answer[8 + k] = (uint8_t)((uint64_t)amount >> (8 * k));
 }
 
 static void spoil(uint8_t *answer, uint32_t n, const uint8_t *weight, uint32_t row) {
@@ -54,12 +38,10 @@ uint32_t faulty_breaking(uint32_t n, COLUMNS, ASKED) {
     return fault("zero-returned") && said && answer[0] == STAR_REFUSED ? 0 : said;
 }
 
-uint32_t faulty_work_breaking(uint32_t n, const uint64_t *in_use, size_t in_use_words, COLUMNS, ASKED) {
-    uint64_t all[STAR_COLUMN_WORDS];
+uint32_t faulty_work_breaking(uint32_t n, IN_USE, COLUMNS, ASKED) {
     uint32_t said;
-    memset(all, 255, sizeof all);
-    if (fault("struck-row-taken") && in_use_words == STAR_COLUMN_WORDS && row >= 1 && row <= STAR_MAX_ROWS) memcpy(all, in_use, sizeof all), star_set_in_use(all, row, 1), in_use = all;
-    if (fault("all-rows-in-use") && in_use_words == STAR_COLUMN_WORDS) in_use = all;
+    if (fault("struck-row-taken")) in_use = one_row_more(in_use, in_use_words, row);
+    if (fault("all-rows-in-use")) in_use = all_rows(in_use, in_use_words);
     said = star_work_breaking(n, in_use, in_use_words, LENT, other_row(row, STAR_MAX_ROWS), answer, answer_len);
     if (said) spoil(answer, n, weight, row);
     return said;

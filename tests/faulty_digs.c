@@ -1,22 +1,11 @@
 /* The doors of dig lists with a fault each: a control of digs_test, which has to fail over every one of them and to pass over the fault 'none'.
  * digs_test is compiled with the doors' names replaced by those below; the environment's FAULT names the fault. */
-#include <stdlib.h>
-#include <string.h>
+#include "faulty.h"
 
-#include "star.h"
-
-#define COLUMNS const uint8_t *left, size_t left_len, const uint8_t *right, size_t right_len, const uint8_t *weight, size_t weight_len
-#define LENT left, left_len, right, right_len, weight, weight_len
-#define LIST uint8_t *text, size_t text_len, uint8_t *answer, size_t answer_len
-
-static int fault(const char *name) {
-    static const char *chosen;
-    if (!chosen) chosen = getenv("FAULT") ? getenv("FAULT") : "none";
-    return strcmp(chosen, name) == 0;
-}
+#define LIST uint8_t *text, size_t text_len, ANSWER
 
 uint32_t faulty_digs(uint32_t n, COLUMNS, LIST);
-uint32_t faulty_work_digs(uint32_t n, const uint64_t *in_use, size_t in_use_words, COLUMNS, LIST);
+uint32_t faulty_work_digs(uint32_t n, IN_USE, COLUMNS, LIST);
 uint32_t faulty_digs_text(const uint8_t *stp, size_t stp_len, LIST);
 
 static uint32_t spoil(uint32_t said, LIST) {
@@ -42,10 +31,8 @@ uint32_t faulty_digs(uint32_t n, COLUMNS, LIST) {
     return spoil(star_digs(n, LENT, text, text_len, answer, answer_len), text, text_len, answer, answer_len);
 }
 
-uint32_t faulty_work_digs(uint32_t n, const uint64_t *in_use, size_t in_use_words, COLUMNS, LIST) {
-    uint64_t all[STAR_COLUMN_WORDS];
-    memset(all, 255, sizeof all);
-    if (fault("all-rows-in-use") && in_use_words == STAR_COLUMN_WORDS) in_use = all;
+uint32_t faulty_work_digs(uint32_t n, IN_USE, COLUMNS, LIST) {
+    if (fault("all-rows-in-use")) in_use = all_rows(in_use, in_use_words);
     return spoil(star_work_digs(n, in_use, in_use_words, LENT, text, text_len, answer, answer_len), text, text_len, answer, answer_len);
 }
 

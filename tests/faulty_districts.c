@@ -1,6 +1,6 @@
 /* star_districts and star_work_districts with a fault each: a control of districts_test, which has to fail over every one of them and to pass over the fault
  * 'none'. The test is compiled with the doors' names replaced by those below; the environment's FAULT names the fault. */
-#include "faulty_plan.h"
+#include "faulty.h"
 
 #define RUNS const uint32_t *ends, size_t count, uint8_t *forests, size_t forests_len
 

@@ -1,6 +1,6 @@
 /* star_mend and star_work_mend with a fault each: a control of mend_test, which has to fail over every one of them and to pass over the fault
  * 'none'. The test is compiled with the doors' names replaced by those below; the environment's FAULT names the fault. */
-#include "faulty_plan.h"
+#include "faulty.h"
 
 #define RECORDS uint32_t *list, size_t count
 

@@ -1,6 +1,6 @@
 /* star_outlets and star_work_outlets with a fault each: a control of outlets_test, which has to fail over every one of them and to pass over the fault
  * 'none'. The test is compiled with the doors' names replaced by those below; the environment's FAULT names the fault. */
-#include "faulty_plan.h"
+#include "faulty.h"
 
 uint32_t faulty_outlets(uint32_t n, COLUMNS, MARK, uint32_t r, uint32_t t, ANSWER);
 uint32_t faulty_work_outlets(uint32_t n, IN_USE, COLUMNS, MARK, uint32_t r, uint32_t t, ANSWER);

@@ -1,22 +1,11 @@
 /* The doors of quotes with a fault each: a control of quote_test, which has to fail over every one of them and to pass over the fault 'none'.
  * quote_test is compiled with the doors' names replaced by those below; the environment's FAULT names the fault. */
-#include <stdlib.h>
-#include <string.h>
+#include "faulty.h"
 
-#include "star.h"
-
-#define COLUMNS const uint8_t *left, size_t left_len, const uint8_t *right, size_t right_len, const uint8_t *weight, size_t weight_len
-#define LENT left, left_len, right, right_len, weight, weight_len
-#define ASKED uint32_t row, int32_t price, uint8_t *answer, size_t answer_len
-
-static int fault(const char *name) {
-    static const char *chosen;
-    if (!chosen) chosen = getenv("FAULT") ? getenv("FAULT") : "none";
-    return strcmp(chosen, name) == 0;
-}
+#define ASKED uint32_t row, int32_t price, ANSWER
 
 uint32_t faulty_quote(uint32_t n, COLUMNS, ASKED);
-uint32_t faulty_work_quote(uint32_t n, const uint64_t *in_use, size_t in_use_words, COLUMNS, ASKED);
+uint32_t faulty_work_quote(uint32_t n, IN_USE, COLUMNS, ASKED);
 
 /* The row and the price that a faulty door asks about. */
 static uint32_t other_row(uint32_t row, size_t last) {
@@ -62,12 +51,10 @@ uint32_t faulty_quote(uint32_t n, COLUMNS, ASKED) {
     return fault("zero-returned") && said && answer[0] == STAR_REFUSED ? 0 : said;
 }
 
-uint32_t faulty_work_quote(uint32_t n, const uint64_t *in_use, size_t in_use_words, COLUMNS, ASKED) {
-    uint64_t all[STAR_COLUMN_WORDS];
+uint32_t faulty_work_quote(uint32_t n, IN_USE, COLUMNS, ASKED) {
     uint32_t said;
-    memset(all, 255, sizeof all);
-    if (fault("struck-row-taken") && in_use_words == STAR_COLUMN_WORDS && row >= 1 && row <= STAR_MAX_ROWS) memcpy(all, in_use, sizeof all), star_set_in_use(all, row, 1), in_use = all;
-    if (fault("all-rows-in-use") && in_use_words == STAR_COLUMN_WORDS) in_use = all;
+    if (fault("struck-row-taken")) in_use = one_row_more(in_use, in_use_words, row);
+    if (fault("all-rows-in-use")) in_use = all_rows(in_use, in_use_words);
     said = star_work_quote(n, in_use, in_use_words, LENT, other_row(row, STAR_MAX_ROWS), other_price(added(weight, weight_len, row, price)), answer, answer_len);
     if (said) spoil(answer, n);
     return said;

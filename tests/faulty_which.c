@@ -1,22 +1,11 @@
 /* The doors that say which plan stands, with a fault each: a control of which_test, which has to fail over every one of them and to pass over the
  * fault 'none'. which_test is compiled with the doors' names replaced by those below; the environment's FAULT names the fault. */
-#include <stdlib.h>
-#include <string.h>
+#include "faulty.h"
 
-#include "star.h"
-
-#define COLUMNS const uint8_t *left, size_t left_len, const uint8_t *right, size_t right_len, const uint8_t *weight, size_t weight_len
-#define LENT left, left_len, right, right_len, weight, weight_len
-#define PLANS const uint8_t *first, size_t first_len, const uint8_t *second, size_t second_len, uint8_t *answer, size_t answer_len
-
-static int fault(const char *name) {
-    static const char *chosen;
-    if (!chosen) chosen = getenv("FAULT") ? getenv("FAULT") : "none";
-    return strcmp(chosen, name) == 0;
-}
+#define PLANS const uint8_t *first, size_t first_len, const uint8_t *second, size_t second_len, ANSWER
 
 uint32_t faulty_which(uint32_t n, COLUMNS, PLANS);
-uint32_t faulty_work_which(uint32_t n, const uint64_t *in_use, size_t in_use_words, COLUMNS, PLANS);
+uint32_t faulty_work_which(uint32_t n, IN_USE, COLUMNS, PLANS);
 
 /* What a faulty door makes of an answer and of what is returned. */
 static uint32_t spoil(uint32_t said, uint8_t *answer, size_t answer_len) {
@@ -52,9 +41,7 @@ uint32_t faulty_which(uint32_t n, COLUMNS, PLANS) {
     return spoil(said, answer, answer_len);
 }
 
-uint32_t faulty_work_which(uint32_t n, const uint64_t *in_use, size_t in_use_words, COLUMNS, PLANS) {
-    uint64_t all[STAR_COLUMN_WORDS];
-    memset(all, 255, sizeof all);
-    if (fault("all-rows-in-use") && in_use_words == STAR_COLUMN_WORDS) in_use = all;
+uint32_t faulty_work_which(uint32_t n, IN_USE, COLUMNS, PLANS) {
+    if (fault("all-rows-in-use")) in_use = all_rows(in_use, in_use_words);
     return spoil(star_work_which(n, in_use, in_use_words, LENT, first, first_len, second, second_len, answer, answer_len), answer, answer_len);
 }

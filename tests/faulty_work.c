@@ -1,30 +1,17 @@
 /* The doors of working tables with a fault each: a control of work_test, which has to fail over every one of them and to pass over the fault 'none'.
  * work_test is compiled with the doors' names replaced by those below; the environment's FAULT names the fault. */
-#include <stdlib.h>
-#include <string.h>
+#include "faulty.h"
 
-#include "star.h"
-
-#define IN_USE const uint64_t *in_use, size_t in_use_words
-#define COLUMNS const uint8_t *left, size_t left_len, const uint8_t *right, size_t right_len, const uint8_t *weight, size_t weight_len
-#define LENT in_use, in_use_words, left, left_len, right, right_len, weight, weight_len
+#define WORKING_LENT in_use, in_use_words, LENT
 #define WORKING uint64_t *in_use, size_t in_use_words, uint8_t *left, size_t left_len, uint8_t *right, size_t right_len, uint8_t *weight, size_t weight_len
-#define MARK const uint8_t *mark, size_t mark_len
-#define ANSWER uint8_t *answer, size_t answer_len
-
-static int fault(const char *name) {
-    static const char *chosen;
-    if (!chosen) chosen = getenv("FAULT") ? getenv("FAULT") : "none";
-    return strcmp(chosen, name) == 0;
-}
 
 uint32_t faulty_strike(uint64_t *in_use, size_t in_use_words, uint32_t row, ANSWER);
 uint32_t faulty_add(WORKING, uint32_t *numbers, size_t count, uint8_t a, uint8_t b, int32_t price, ANSWER);
 uint32_t faulty_merge(WORKING, uint32_t *numbers, size_t count, ANSWER);
-uint32_t faulty_work_cst(uint32_t n, IN_USE, COLUMNS, MARK, ANSWER);
-uint32_t faulty_work_other(uint32_t n, IN_USE, COLUMNS, MARK, ANSWER);
-uint32_t faulty_work_mst1(uint32_t n, IN_USE, COLUMNS, uint8_t *mark, size_t mark_len, ANSWER);
-uint32_t faulty_work_paths(uint32_t n, IN_USE, COLUMNS, MARK, uint32_t s, uint64_t *matrix, size_t words, ANSWER);
+uint32_t faulty_work_cst(uint32_t n, IN_USE, COLUMNS, CLAIM, ANSWER);
+uint32_t faulty_work_other(uint32_t n, IN_USE, COLUMNS, CLAIM, ANSWER);
+uint32_t faulty_work_mst1(uint32_t n, IN_USE, COLUMNS, MARK, ANSWER);
+uint32_t faulty_work_paths(uint32_t n, IN_USE, COLUMNS, CLAIM, uint32_t s, uint64_t *matrix, size_t words, ANSWER);
 
 static int sound(IN_USE, size_t left_len, size_t right_len, size_t weight_len) {
     return in_use && in_use_words == STAR_COLUMN_WORDS && left_len == STAR_MAX_ROWS && right_len == STAR_MAX_ROWS && weight_len == 4 * STAR_MAX_ROWS;
@@ -53,8 +40,8 @@ uint32_t faulty_add(WORKING, uint32_t *numbers, size_t count, uint8_t a, uint8_t
     size_t position, row = 1;
     uint32_t said;
     if (fault("add-without-packing") && whole && star_in_use(in_use, STAR_MAX_ROWS)) star_set_in_use(in_use, STAR_MAX_ROWS, 0);
-    if (fault("add-always-packs") && whole) star_merge(LENT, numbers, count, answer, answer_len);
-    said = star_add(LENT, numbers, count, a, b, price, answer, answer_len);
+    if (fault("add-always-packs") && whole) star_merge(WORKING_LENT, numbers, count, answer, answer_len);
+    said = star_add(WORKING_LENT, numbers, count, a, b, price, answer, answer_len);
     if (!said) return said;
     if (fault("add-lengths-first") && answer[1] == STAR_TABLE_FULL && !whole) answer[1] = STAR_BAD_LENGTHS;
     if (fault("add-refusal-as-done") && answer[1] == STAR_TABLE_FULL) answer[0] = STAR_PASSED, answer[1] = 0;
@@ -96,7 +83,7 @@ uint32_t faulty_merge(WORKING, uint32_t *numbers, size_t count, ANSWER) {
     if (in_use && in_use_words >= STAR_COLUMN_WORDS) memcpy(before, in_use, sizeof before);
     if (fault("merge-without-an-answer") && answer_len != STAR_ANSWER_BYTES && count == STAR_MAX_ROWS) numbers[0] ^= 1;
     if (fault("merge-writes-and-refuses") && sound(in_use, in_use_words, left_len, right_len, weight_len) && count != STAR_MAX_ROWS) left[0] ^= 1;
-    said = star_merge(LENT, numbers, count, answer, answer_len);
+    said = star_merge(WORKING_LENT, numbers, count, answer, answer_len);
     if (said && answer[0] == STAR_PASSED) spoil(last_in_use(in_use), in_use, left, right, numbers, before);
     return said;
 }
@@ -112,7 +99,7 @@ static const uint64_t *regarded(IN_USE, uint64_t *other) {
 }
 
 /* A claim with the marks at rows not in use looked at as those in use are. */
-static uint32_t judge(int other_too, uint32_t n, IN_USE, COLUMNS, MARK, ANSWER) {
+static uint32_t judge(int other_too, uint32_t n, IN_USE, COLUMNS, CLAIM, ANSWER) {
     uint64_t other[STAR_COLUMN_WORDS];
     size_t row;
     in_use = regarded(in_use, in_use_words, other);
@@ -123,22 +110,22 @@ static uint32_t judge(int other_too, uint32_t n, IN_USE, COLUMNS, MARK, ANSWER) 
                 answer[1] = STAR_BAD_MARK, answer[2] = (uint8_t)row, answer[3] = (uint8_t)(row >> 8);
                 return 1;
             }
-    return (other_too ? star_work_other : star_work_cst)(n, LENT, mark, mark_len, answer, answer_len);
+    return (other_too ? star_work_other : star_work_cst)(n, WORKING_LENT, mark, mark_len, answer, answer_len);
 }
 
-uint32_t faulty_work_cst(uint32_t n, IN_USE, COLUMNS, MARK, ANSWER) {
-    uint32_t said = judge(0, n, LENT, mark, mark_len, answer, answer_len);
+uint32_t faulty_work_cst(uint32_t n, IN_USE, COLUMNS, CLAIM, ANSWER) {
+    uint32_t said = judge(0, n, WORKING_LENT, mark, mark_len, answer, answer_len);
     if (said && answer[0] == STAR_PASSED && fault("work-always-only")) answer[6] = 1;
     return said;
 }
 
-uint32_t faulty_work_other(uint32_t n, IN_USE, COLUMNS, MARK, ANSWER) {
-    uint32_t said = judge(1, n, LENT, mark, mark_len, answer, answer_len);
+uint32_t faulty_work_other(uint32_t n, IN_USE, COLUMNS, CLAIM, ANSWER) {
+    uint32_t said = judge(1, n, WORKING_LENT, mark, mark_len, answer, answer_len);
     if (said && answer[0] == STAR_PASSED && !answer[6] && fault("work-other-lacking")) memset(answer + 2, 0, 4);
     return said;
 }
 
-uint32_t faulty_work_mst1(uint32_t n, IN_USE, COLUMNS, uint8_t *mark, size_t mark_len, ANSWER) {
+uint32_t faulty_work_mst1(uint32_t n, IN_USE, COLUMNS, MARK, ANSWER) {
     uint64_t other[STAR_COLUMN_WORDS];
     uint8_t before[STAR_MAX_ROWS];
     const uint64_t *rows = regarded(in_use, in_use_words, other);
@@ -153,11 +140,11 @@ uint32_t faulty_work_mst1(uint32_t n, IN_USE, COLUMNS, uint8_t *mark, size_t mar
     return said;
 }
 
-uint32_t faulty_work_paths(uint32_t n, IN_USE, COLUMNS, MARK, uint32_t s, uint64_t *matrix, size_t words, ANSWER) {
+uint32_t faulty_work_paths(uint32_t n, IN_USE, COLUMNS, CLAIM, uint32_t s, uint64_t *matrix, size_t words, ANSWER) {
     uint64_t other[STAR_COLUMN_WORDS];
     uint32_t said;
     in_use = regarded(in_use, in_use_words, other);
-    said = star_work_paths(n, LENT, mark, mark_len, s, matrix, words, answer, answer_len);
+    said = star_work_paths(n, WORKING_LENT, mark, mark_len, s, matrix, words, answer, answer_len);
     if (said && answer[0] == STAR_PASSED && fault("work-paths-first-column")) matrix[0] ^= 1;
     return said;
 }

@@ -3,22 +3,21 @@
  * in their order, and nothing else is written.
  * usage: mend_test [CLAIMS [exact]]   prints one line 'N passed, M failed' at its end; exact: columns in memory of their own length */
 #include <stdio.h>
-#include <stdlib.h>
 #include <string.h>
 
 #include "plain_mend.h"
 
 /* What the claims came to; the steps by their kind. */
-static unsigned long done, steps[4], none, refused[32];
+static unsigned long done, steps[4], none;
 
 static uint32_t ask(struct lent *t) {
     struct columns c;
-    uint32_t *list = plan_lend(t->list, 4 * t->list_count), said;
+    uint32_t *list = lend(t->list, 4 * t->list_count), said;
     plan_lend_columns(t, &c);
     if (t->working) said = star_work_mend(t->n, c.in_use, t->words, PLAN_COLUMNS(t, c), c.mark, t->mark_len, list, t->list_count, c.answer, t->answer_len);
     else said = star_mend(t->n, PLAN_COLUMNS(t, c), c.mark, t->mark_len, list, t->list_count, c.answer, t->answer_len);
     plan_back_columns(t, &c);
-    plan_back(t->list, list, 4 * t->list_count);
+    back(t->list, list, 4 * t->list_count);
     return said;
 }
 
@@ -58,24 +57,15 @@ static void held(struct lent *t) {
     memcpy(&before, t, sizeof before);
     memcpy(&plain, t, sizeof plain);
     said = ask(t);
-    if (t->answer_len != STAR_ANSWER_BYTES) {
-        plan_tell(said == 0 && !memcmp(t, &before, sizeof before), "an answer of another length");
-        return;
-    }
-    if (a.kind == STAR_REFUSED) {
-        refused[a.number]++;
-        plan_put(before.answer, STAR_REFUSED, a.number, a.out, 0);
-        plan_tell(said == 1 && !memcmp(t, &before, sizeof before), "a refusal");
-        return;
-    }
+    if (plan_refused(t, &before, said, a)) return;
     plan_rows(t, &r);
     count = plain_mend(t->n, &r, plain.mark, plain.list);
     plan_put(plain.answer, STAR_PASSED, 0, 0, (int64_t)count);
-    plan_tell(said == 1 && !memcmp(t, &plain, sizeof plain), "the marks, the records and all else");
+    tell(said == 1 && !memcmp(t, &plain, sizeof plain), "the marks, the records and all else");
     judged = plan_judged(t);
-    plan_tell(judged.kind == STAR_PASSED && judged.amount == a.amount, "the check of the mended marks");
+    tell(judged.kind == STAR_PASSED && judged.amount == a.amount, "the check of the mended marks");
     count = (size_t)star_read_answer(t->answer).amount;
-    plan_tell(count <= 2 * plan_m(t) && apply(before.mark, plan_m(t), t->list, count) && !memcmp(before.mark, t->mark, sizeof before.mark), "the records applied to the old marks");
+    tell(count <= 2 * plan_m(t) && apply(before.mark, plan_m(t), t->list, count) && !memcmp(before.mark, t->mark, sizeof before.mark), "the records applied to the old marks");
     done++;
     none += count == 0;
     for (i = 0; i < count && count <= 2 * STAR_MAX_ROWS; i++) steps[star_get_record(t->list, i).kind % 4]++;
@@ -92,7 +82,18 @@ static void known(const char *in_use, const char *marked, const char *records, c
     ok = plan_does(t.answer, (int64_t)count);
     for (i = 0; i < 3 * count; i++) ok = ok && t.list[i] == (uint32_t)(records[i] - '0');
     for (i = 0; i < 5; i++) ok = ok && t.mark[i] == (strchr(mended, (int)('1' + i)) != NULL);
-    plan_tell(ok && t.list[3 * count] == 0x07070707, "the yard's known records");
+    tell(ok && t.list[3 * count] == 0x07070707, "the yard's known records");
+}
+
+/* A list may be longer than it has to be. */
+static void list_length(void) {
+    static struct lent t;
+    int k;
+    for (k = 0; k < 6; k++) {
+        plan_yard_length(&t, &t.list_count, k);
+        held(&t);
+        tell(k % 3 == 1 ? t.answer[0] == STAR_PASSED : plan_refuses(t.answer, STAR_SHORT_RECORDS, 0), "the length of the list");
+    }
 }
 
 static void cases(void) {
@@ -108,66 +109,52 @@ static void cases(void) {
     plan_yard(&t, "135"); /* a mark of 9 at a row not in use is neither read nor written */
     t.mark[1] = t.mark[3] = 9;
     held(&t);
-    plan_tell(plan_does(t.answer, 3) && t.mark[1] == 9 && t.mark[3] == 9, "marks at rows not in use");
+    tell(plan_does(t.answer, 3) && t.mark[1] == 9 && t.mark[3] == 9, "marks at rows not in use");
     plan_yard(&t, NULL); /* one record too few goes before 11, and after a bad mark */
     t.n = 5;
     t.list_count = 29;
     held(&t);
-    plan_tell(plan_refuses(t.answer, STAR_SHORT_RECORDS, 0), "16 before 11");
+    tell(plan_refuses(t.answer, STAR_SHORT_RECORDS, 0), "16 before 11");
     t.list_count = 30;
     held(&t);
-    plan_tell(plan_refuses(t.answer, STAR_NO_NETWORK, 0), "11");
+    tell(plan_refuses(t.answer, STAR_NO_NETWORK, 0), "11");
     t.list_count = 0;
     t.mark[4] = 2;
     held(&t);
-    plan_tell(plan_refuses(t.answer, STAR_BAD_MARK, 5), "6 before 16");
+    tell(plan_refuses(t.answer, STAR_BAD_MARK, 5), "6 before 16");
     plan_yard(&t, "123");
     t.list_count = 6 * STAR_MAX_ROWS - 1;
     held(&t);
-    plan_tell(plan_refuses(t.answer, STAR_SHORT_RECORDS, 0), "6,143 numbers of a working table");
+    tell(plan_refuses(t.answer, STAR_SHORT_RECORDS, 0), "6,143 numbers of a working table");
     plan_yard(&t, NULL); /* one junction, no row, no record */
     t.n = 1;
     t.left_len = t.right_len = t.weight_len = t.mark_len = t.list_count = 0;
     held(&t);
-    plan_tell(plan_does(t.answer, 0), "one junction");
+    tell(plan_does(t.answer, 0), "one junction");
     for (k = 0; k < 2; k++) {
         plan_table(&t, 255, STAR_MAX_ROWS, 1, (int)k);
-        plan_tell(plan_small_stack(ask, &t, PLAN_STACK_MEND) && t.answer[0] == STAR_PASSED, "a thread of 256 KiB");
+        tell(plan_small_stack(ask, &t, PLAN_STACK_MEND) && t.answer[0] == STAR_PASSED, "a thread of 256 KiB");
     }
+    plan_lengths(held);
+    list_length();
 }
 
-/* Every length one too small, one too large, and 0 with a null pointer. */
-static void lengths(void) {
+static void table(unsigned long k) {
     static struct lent t;
-    int working, k;
-    for (working = 0; working < 2; working++)
-        for (k = 0; k < 21; k++) {
-            size_t *len[] = {&t.left_len, &t.right_len, &t.weight_len, &t.mark_len, &t.words, &t.answer_len, &t.list_count};
-            plan_yard(&t, working ? "1234" : NULL);
-            *len[k / 3] = k % 3 == 2 ? 0 : *len[k / 3] + 2 * (size_t)(k % 3) - 1;
-            held(&t);
-            if (k < 12 || (working && k < 15)) plan_tell(plan_refuses(t.answer, STAR_BAD_LENGTHS, 0), "the refusal of a length");
-            if (k >= 18) plan_tell(k % 3 == 1 ? t.answer[0] == STAR_PASSED : plan_refuses(t.answer, STAR_SHORT_RECORDS, 0), "the length of the list");
-        }
+    plan_make(&t, k);
+    plan_claim(&t);
+    if (any(20) == 0) t.list_count = any(2) ? t.list_count + any(24) : any((uint32_t)t.list_count + 1);
+    if (any(5) == 0) plan_damage(&t);
+    held(&t);
 }
 
 int main(int count, char **words) {
-    static struct lent t;
-    unsigned long claims = count > 1 ? strtoul(words[1], NULL, 10) : 50000, k;
-    plan_exact = count > 2 && strcmp(words[2], "exact") == 0;
-    cases();
-    lengths();
-    for (k = 0; k < claims; k++) {
-        plan_make(&t, k);
-        plan_claim(&t);
-        if (plan_any(20) == 0) t.list_count = plan_any(2) ? t.list_count + plan_any(24) : plan_any((uint32_t)t.list_count + 1);
-        if (plan_any(5) == 0) plan_damage(&t);
-        held(&t);
-    }
-    plan_tell(2 * done >= claims && 100 * none >= claims && 4 * steps[1] >= claims && 4 * steps[2] >= claims && 4 * steps[3] >= claims, "the share of claims that are not refused, and of steps");
-    plan_tell(50 * refused[3] >= claims && 100 * refused[16] >= claims && 100 * refused[11] >= claims && 200 * refused[6] >= claims, "the share of the refusals");
-    printf("mend: %lu claims, %lu not refused, %lu of them without a step; %lu drops, %lu additions, %lu exchanges; refused 3 %lu times, 4 %lu, 6 %lu, 11 %lu, 15 %lu, 16 %lu\n", claims, done, none,
-           steps[1], steps[2], steps[3], refused[3], refused[4], refused[6], refused[11], refused[15], refused[16]);
-    printf("%lu passed, %lu failed\n", plan_passed, plan_failed);
-    return plan_failed != 0;
+    static const unsigned numbers[] = {3, 4, 6, 11, 15, 16, 0};
+    unsigned long claims = run(count, words, 50000, cases, table);
+    tell(2 * done >= claims && 100 * none >= claims && 4 * steps[1] >= claims && 4 * steps[2] >= claims && 4 * steps[3] >= claims, "the share of claims that are not refused, and of steps");
+    tell(50 * refused[3] >= claims && 100 * refused[16] >= claims && 100 * refused[11] >= claims && 200 * refused[6] >= claims, "the share of the refusals");
+    printf("mend: %lu claims, %lu not refused, %lu of them without a step; %lu drops, %lu additions, %lu exchanges; ", claims, done, none, steps[1], steps[2], steps[3]);
+    print_refused(numbers);
+    printf("\n");
+    return told();
 }

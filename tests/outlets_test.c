@@ -3,13 +3,12 @@
  * network is listed; on all of them the total is found by sorted rows with a number added to the prices at r.
  * usage: outlets_test [TABLES [exact]]   prints one line 'N passed, M failed' at its end; exact: columns in memory of their own length */
 #include <stdio.h>
-#include <stdlib.h>
 #include <string.h>
 
 #include "plain_outlets.h"
 
 /* What the tables came to: dearer ones cost more than a least network. */
-static unsigned long done, dearer, listed, refused[32];
+static unsigned long done, dearer, listed;
 
 static uint32_t ask(struct lent *t) {
     struct columns c;
@@ -51,7 +50,7 @@ static struct star_answer expected(const struct lent *t, const struct rows *r) {
     o = outlets_shifted(t->n, r, t->r, t->t);
     if (t->n <= 6 && r->m <= 12) {
         all = outlets_listed(t->n, r, t->r, t->t);
-        plan_tell(o.exists == all.exists && o.total == all.total, "the two plain ways");
+        tell(o.exists == all.exists && o.total == all.total, "the two plain ways");
         listed++;
     }
     if (!o.exists) return (struct star_answer){STAR_REFUSED, STAR_NO_OUTLETS, 0, 0, 0, 0};
@@ -69,24 +68,15 @@ static void held(struct lent *t) {
     a = expected(t, &r);
     memcpy(&before, t, sizeof before);
     said = ask(t);
-    if (t->answer_len != STAR_ANSWER_BYTES) {
-        plan_tell(said == 0 && !memcmp(t, &before, sizeof before), "an answer of another length");
-        return;
-    }
-    if (a.kind == STAR_REFUSED) {
-        refused[a.number]++;
-        plan_put(before.answer, STAR_REFUSED, a.number, a.out, 0);
-        plan_tell(said == 1 && !memcmp(t, &before, sizeof before), "a refusal");
-        return;
-    }
+    if (plan_refused(t, &before, said, a)) return;
     done++;
-    plan_tell(said == 1 && plan_does(t->answer, a.amount), "the least total with exactly t rows");
-    plan_tell(tree_holds(t, &r, a.amount), "the network with exactly t rows");
+    tell(said == 1 && plan_does(t->answer, a.amount), "the least total with exactly t rows");
+    tell(tree_holds(t, &r, a.amount), "the network with exactly t rows");
     judged = plan_judged(t);
-    plan_tell(judged.kind == (a.amount == plan_least(t).amount ? STAR_PASSED : STAR_LIGHTER), "the check of the network");
+    tell(judged.kind == (a.amount == plan_least(t).amount ? STAR_PASSED : STAR_LIGHTER), "the check of the network");
     memcpy(before.answer, t->answer, STAR_ANSWER_BYTES);
     memcpy(before.mark, t->mark, t->mark_len);
-    plan_tell(!memcmp(t, &before, sizeof before), "what is not written");
+    tell(!memcmp(t, &before, sizeof before), "what is not written");
 }
 
 /* A count at r that is mostly possible. */
@@ -94,10 +84,10 @@ static void question(struct lent *t) {
     static struct rows r;
     uint32_t here = 0;
     size_t k;
-    t->r = plan_any(40) ? 1 + plan_any(t->n) : plan_any(2) ? 0 : t->n + 1 + plan_any(300);
+    t->r = any(40) ? 1 + any(t->n) : any(2) ? 0 : t->n + 1 + any(300);
     plan_rows(t, &r);
     for (k = 0; k < r.m; k++) here += r.a[k] == t->r || r.b[k] == t->r;
-    t->t = plan_any(10) ? 1 + plan_any(here) : plan_any(4) ? plan_any(here + 3) : plan_any(2) ? 256 + plan_any(here + 1) : (uint32_t)plan_bits();
+    t->t = any(10) ? 1 + any(here) : any(4) ? any(here + 3) : any(2) ? 256 + any(here + 1) : (uint32_t)bits();
 }
 
 /* The yard, or its rows in use: the total, 0 for the refusal. */
@@ -110,11 +100,11 @@ static void known(const char *in_use, uint32_t r, uint32_t count, unsigned numbe
     t.t = count;
     held(&t);
     if (number) {
-        plan_tell(plan_refuses(t.answer, number, 0), "a known refusal");
+        tell(plan_refuses(t.answer, number, 0), "a known refusal");
         return;
     }
     for (i = 0; i < 5 && *marked; i++) ok = ok && t.mark[i] == (strchr(marked, (int)('1' + i)) != NULL);
-    plan_tell(ok && plan_does(t.answer, total), "the yard's known total");
+    tell(ok && plan_does(t.answer, total), "the yard's known total");
 }
 
 /* Rows 1-2 5, 1-3 5, 2-3 -10: with the greatest price at 1 added to all others, row 3 would still come first. */
@@ -134,7 +124,7 @@ static void below_0(void) {
         t.r = 1;
         t.t = count;
         held(&t);
-        plan_tell(plan_does(t.answer, count == 1 ? -5 : 10), "a price below 0");
+        tell(plan_does(t.answer, count == 1 ? -5 : 10), "a price below 0");
     }
 }
 
@@ -164,10 +154,10 @@ static void cases(void) {
     t.n = t.r = 1;
     t.left_len = t.right_len = t.weight_len = t.mark_len = t.t = 0;
     held(&t);
-    plan_tell(plan_does(t.answer, 0), "one junction");
+    tell(plan_does(t.answer, 0), "one junction");
     t.t = 1;
     held(&t);
-    plan_tell(plan_refuses(t.answer, STAR_NO_OUTLETS, 0), "one junction and a row");
+    tell(plan_refuses(t.answer, STAR_NO_OUTLETS, 0), "one junction and a row");
     for (k = 0; k < 2; k++) { /* 254 rows at junction 1, of which all but one go out */
         size_t i;
         plan_table(&t, 255, STAR_MAX_ROWS, 1, (int)k);
@@ -182,42 +172,27 @@ static void cases(void) {
             t.right[i] = (uint8_t)b;
         }
         t.r = t.t = 1;
-        plan_tell(plan_small_stack(ask, &t, PLAN_STACK) && t.answer[0] == STAR_PASSED, "a thread of 128 KiB");
+        tell(plan_small_stack(ask, &t, STACK) && t.answer[0] == STAR_PASSED, "a thread of 128 KiB");
         held(&t);
     }
+    plan_lengths(held);
 }
 
-/* Every length one too small, one too large, and 0 with a null pointer. */
-static void lengths(void) {
+static void table(unsigned long k) {
     static struct lent t;
-    int working, k;
-    for (working = 0; working < 2; working++)
-        for (k = 0; k < 18; k++) {
-            size_t *len[] = {&t.left_len, &t.right_len, &t.weight_len, &t.mark_len, &t.words, &t.answer_len};
-            plan_yard(&t, working ? "1234" : NULL);
-            t.r = t.t = 1;
-            *len[k / 3] = k % 3 == 2 ? 0 : *len[k / 3] + 2 * (size_t)(k % 3) - 1;
-            held(&t);
-            if (k < 12 || (working && k < 15)) plan_tell(plan_refuses(t.answer, STAR_BAD_LENGTHS, 0), "the refusal of a length");
-        }
+    plan_make(&t, k);
+    question(&t);
+    if (any(6) == 0) plan_damage(&t);
+    held(&t);
 }
 
 int main(int count, char **words) {
-    static struct lent t;
-    unsigned long tables = count > 1 ? strtoul(words[1], NULL, 10) : 20000, k;
-    plan_exact = count > 2 && strcmp(words[2], "exact") == 0;
-    cases();
-    lengths();
-    for (k = 0; k < tables; k++) {
-        plan_make(&t, k);
-        question(&t);
-        if (plan_any(6) == 0) plan_damage(&t);
-        held(&t);
-    }
-    plan_tell(2 * done >= tables && 5 * dearer >= tables && 4 * listed >= tables, "the share of tables that are not refused, and cost more than the least");
-    plan_tell(50 * refused[3] >= tables && 50 * refused[19] >= tables && 50 * refused[11] >= tables && 100 * refused[7] >= tables, "the share of the refusals");
-    printf("outlets: %lu tables, %lu not refused, %lu of them dearer than a least network, %lu listed; refused 3 %lu times, 4 %lu, 7 %lu, 11 %lu, 15 %lu, 19 %lu\n", tables, done, dearer, listed,
-           refused[3], refused[4], refused[7], refused[11], refused[15], refused[19]);
-    printf("%lu passed, %lu failed\n", plan_passed, plan_failed);
-    return plan_failed != 0;
+    static const unsigned numbers[] = {3, 4, 7, 11, 15, 19, 0};
+    unsigned long tables = run(count, words, 20000, cases, table);
+    tell(2 * done >= tables && 5 * dearer >= tables && 4 * listed >= tables, "the share of tables that are not refused, and cost more than the least");
+    tell(50 * refused[3] >= tables && 50 * refused[19] >= tables && 50 * refused[11] >= tables && 100 * refused[7] >= tables, "the share of the refusals");
+    printf("outlets: %lu tables, %lu not refused, %lu of them dearer than a least network, %lu listed; ", tables, done, dearer, listed);
+    print_refused(numbers);
+    printf("\n");
+    return told();
 }

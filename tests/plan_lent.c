@@ -1,29 +1,7 @@
-#define _POSIX_C_SOURCE 200809L
 #include "plan_lent.h"
 
-#include <pthread.h>
-#include <stdio.h>
 #include <stdlib.h>
 #include <string.h>
-
-int plan_exact;
-unsigned long plan_passed, plan_failed;
-
-static uint64_t state = 88172645463325252u;
-
-uint64_t plan_bits(void) {
-    state ^= state << 13;
-    state ^= state >> 7;
-    state ^= state << 17;
-    return state * 2685821657736338717u;
-}
-
-uint32_t plan_any(uint32_t below) { return below ? (uint32_t)((plan_bits() >> 20) % below) : 0; }
-
-void plan_tell(int ok, const char *what) {
-    if (ok) plan_passed++;
-    else if (plan_failed++ < 10) fprintf(stderr, "%s differs, seed state %llx\n", what, (unsigned long long)state);
-}
 
 static void lengths(struct lent *t, size_t m) {
     if (t->working) m = STAR_MAX_ROWS;
@@ -36,39 +14,27 @@ static void lengths(struct lent *t, size_t m) {
     t->ends[0] = (uint32_t)m;
 }
 
-static void put_row(struct lent *t, size_t i, unsigned a, unsigned b, int32_t price) {
-    t->left[i - 1] = (uint8_t)a;
-    t->right[i - 1] = (uint8_t)b;
-    star_put_price(t->weight, i - 1, price);
+static void use_row(struct lent *t, size_t i, unsigned a, unsigned b, int32_t price) {
+    put_row(t->left, t->right, t->weight, i, a, b, price);
     star_set_in_use(t->in_use, i, 1);
 }
 
 /* Prices of a kind that is chosen for each table: equal ones, few, small ones of both signs, any, or those at the limits. */
 static int32_t any_price(uint32_t kind) {
-    static const int32_t limits[] = {STAR_MIN_PRICE, STAR_MIN_PRICE + 1, -1, 0, 1, STAR_MAX_PRICE - 1, STAR_MAX_PRICE};
     switch (kind) {
-    case 0: return (int32_t)plan_any(3);
-    case 1: return (int32_t)plan_any(41) - 20;
-    case 2: return limits[plan_any(7)];
-    case 3: return (int32_t)plan_any(1u << 31) - (1 << 30);
+    case 0: return (int32_t)any(3);
+    case 1: return (int32_t)any(41) - 20;
+    case 2: return limit_price();
+    case 3: return (int32_t)any(1u << 31) - (1 << 30);
     default: return -4;
     }
-}
-
-static uint32_t met[256][256], met_round;
-
-static int first_met(unsigned a, unsigned b) {
-    uint32_t *of = a < b ? &met[a][b] : &met[b][a];
-    if (*of == met_round) return 0;
-    *of = met_round;
-    return 1;
 }
 
 static void fill(struct lent *t) {
     uint8_t *bytes = (uint8_t *)t;
     size_t i;
     for (i = 0; i + 8 <= sizeof *t; i += 8) {
-        uint64_t x = plan_bits();
+        uint64_t x = bits();
         memcpy(bytes + i, &x, 8);
     }
     memset(t->in_use, 0, 8 * STAR_COLUMN_WORDS);
@@ -78,7 +44,7 @@ static void fill(struct lent *t) {
 static void shuffle(struct lent *t, const size_t *position, size_t m) {
     size_t i;
     for (i = m; i > 1; i--) {
-        size_t x = position[i - 1] - 1, y = position[plan_any((uint32_t)i)] - 1;
+        size_t x = position[i - 1] - 1, y = position[any((uint32_t)i)] - 1;
         uint8_t a = t->left[x], b = t->right[x];
         t->left[x] = t->left[y];
         t->right[x] = t->right[y];
@@ -89,48 +55,62 @@ static void shuffle(struct lent *t, const size_t *position, size_t m) {
 
 void plan_table(struct lent *t, uint32_t n, size_t m, int connected, int working) {
     size_t position[STAR_MAX_ROWS], k, i = 0;
-    uint32_t prices = plan_any(5), gap = working && m > 0 ? STAR_MAX_ROWS / (uint32_t)m : 1;
+    uint32_t prices = any(5), gap = working && m > 0 ? STAR_MAX_ROWS / (uint32_t)m : 1;
     fill(t);
-    met_round++;
+    no_pair_given();
     t->n = n;
     t->working = working;
     lengths(t, m);
     if (m > STAR_MAX_ROWS) return;
-    if (working && plan_any(2)) i = plan_any((uint32_t)(STAR_MAX_ROWS + 1 - m)), gap = 1;
+    if (working && any(2)) i = any((uint32_t)(STAR_MAX_ROWS + 1 - m)), gap = 1;
     for (k = 0; k < m; k++) {
-        unsigned a = connected && k + 1 < n ? (unsigned)k + 2 : 1 + plan_any(n), b = connected && k + 1 < n ? 1 + plan_any((uint32_t)k + 1) : 1 + plan_any(n), tries = 0;
-        while ((a == b || !first_met(a, b)) && ++tries < 400) a = 1 + plan_any(n), b = 1 + plan_any(n);
-        position[k] = i += 1 + plan_any(gap);
-        if (plan_any(2)) put_row(t, i, a, b, any_price(prices));
-        else put_row(t, i, b, a, any_price(prices));
+        struct pair p = any_pair(n, connected && k + 1 < n ? k + 1 : 0, 0, 400);
+        position[k] = i += 1 + any(gap);
+        if (any(2)) use_row(t, i, p.a, p.b, any_price(prices));
+        else use_row(t, i, p.b, p.a, any_price(prices));
     }
     shuffle(t, position, m);
     for (k = 0; k < t->mark_len; k++)
-        if (!working || star_in_use(t->in_use, k + 1)) t->mark[k] = (uint8_t)plan_any(2);
+        if (!working || star_in_use(t->in_use, k + 1)) t->mark[k] = (uint8_t)any(2);
 }
 
 void plan_make(struct lent *t, unsigned long k) {
-    uint32_t n = 1 + plan_any(9);
-    size_t pairs = (size_t)n * (n - 1) / 2, m = n == 1 ? 0 : plan_any(5) ? n - 1 + plan_any(12) : plan_any(20);
-    int working = plan_any(3) == 0;
-    if (k % 500 == 0) n = 255 - plan_any(2), m = STAR_MAX_ROWS - plan_any(2);
-    else if (k % 100 == 7) n = 20 + plan_any(100), m = n - 1 + plan_any(150);
+    uint32_t n = 1 + any(9);
+    size_t pairs = (size_t)n * (n - 1) / 2, m = n == 1 ? 0 : any(5) ? n - 1 + any(12) : any(20);
+    int working = any(3) == 0;
+    if (k % 500 == 0) n = 255 - any(2), m = STAR_MAX_ROWS - any(2);
+    else if (k % 100 == 7) n = 20 + any(100), m = n - 1 + any(150);
     else if (m > pairs) m = pairs;
-    plan_table(t, n, m, plan_any(12) != 0, working);
+    plan_table(t, n, m, any(12) != 0, working);
 }
 
 void plan_yard(struct lent *t, const char *in_use) {
-    static const uint8_t left[] = {1, 2, 3, 1, 1}, right[] = {2, 3, 4, 4, 3}, price[] = {5, 3, 5, 4, 6};
-    size_t i;
     memset(t, 7, sizeof *t);
     memset(t->in_use, 0, sizeof t->in_use);
     t->n = 4;
     t->working = in_use != NULL;
-    for (i = 0; i < 5; i++) put_row(t, i + 1, left[i], right[i], price[i]);
-    if (in_use) memset(t->in_use, 0, sizeof t->in_use);
-    for (; in_use && *in_use; in_use++) star_set_in_use(t->in_use, (size_t)(*in_use - '0'), 1);
+    put_yard(t->left, t->right, t->weight);
+    for (in_use = in_use ? in_use : "12345"; *in_use; in_use++) star_set_in_use(t->in_use, (size_t)(*in_use - '0'), 1);
     lengths(t, 5);
     memset(t->mark, 0, 5);
+    t->r = t->t = 1;
+}
+
+void plan_yard_length(struct lent *t, size_t *len, int k) {
+    plan_yard(t, k < 3 ? NULL : "1234");
+    *len = k % 3 == 2 ? 0 : *len + 2 * (size_t)(k % 3) - 1;
+}
+
+void plan_lengths(void (*held)(struct lent *)) {
+    static struct lent t;
+    size_t *len[] = {&t.left_len, &t.right_len, &t.weight_len, &t.mark_len, &t.words, &t.answer_len};
+    int i, k;
+    for (i = 0; i < 6; i++)
+        for (k = 0; k < 6; k++) {
+            plan_yard_length(&t, len[i], k);
+            held(&t);
+            if (i < 4 || (i == 4 && t.working)) tell(plan_refuses(t.answer, STAR_BAD_LENGTHS, 0), "the refusal of a length");
+        }
 }
 
 size_t plan_m(const struct lent *t) { return t->working ? STAR_MAX_ROWS : t->left_len; }
@@ -152,39 +132,33 @@ void plan_claim(struct lent *t) {
     struct parts p;
     uint8_t mark[STAR_MAX_ROWS] = {0};
     size_t k, i;
-    uint32_t how = plan_any(6), flips = how == 0 ? 0 : plan_any(7);
+    uint32_t how = any(6), flips = how == 0 ? 0 : any(7);
     if (how == 5) return;
     plan_rows(t, &r);
     parts_start(&p);
     for (k = 0; k < (how % 2 ? 3 * r.m : r.m); k++) {
-        i = how % 2 && k < 2 * r.m ? plan_any((uint32_t)r.m) : k % r.m; /* rows as they come, or from the top */
+        i = how % 2 && k < 2 * r.m ? any((uint32_t)r.m) : k % r.m; /* rows as they come, or from the top */
         if (parts_join(&p, r.a[i] % 256, r.b[i] % 256)) mark[r.row[i] - 1] = 1;
     }
     for (k = 0; k < r.m; k++) t->mark[r.row[k] - 1] = mark[r.row[k] - 1];
-    while (flips-- && r.m > 0) t->mark[r.row[plan_any((uint32_t)r.m)] - 1] ^= 1;
-}
-
-/* A length one too small or too large, or 0. */
-static void wrong_length(size_t *len, size_t most) {
-    *len = plan_any(6) == 0 ? 0 : *len + (plan_any(2) ? 1 : (size_t)-1);
-    if (*len > most) *len = 0;
+    while (flips-- && r.m > 0) t->mark[r.row[any((uint32_t)r.m)] - 1] ^= 1;
 }
 
 void plan_damage(struct lent *t) {
     size_t *len[] = {&t->left_len, &t->right_len, &t->weight_len, &t->mark_len, &t->forests_len, &t->answer_len, &t->words};
     do {
-        size_t m = plan_m(t), i = m && m <= STAR_MAX_ROWS ? plan_any((uint32_t)m) : 0;
-        switch (plan_any(10)) {
-        case 0: t->n = plan_any(2) ? 0 : 256 + plan_any(1000); break;
-        case 1: case 2: case 3: wrong_length(len[plan_any(t->working ? 7 : 6)], 4 * PLAN_ROOM); break;
-        case 4: t->left[i] = (uint8_t)(plan_any(2) ? 0 : 255); break;
+        size_t m = plan_m(t), i = m && m <= STAR_MAX_ROWS ? any((uint32_t)m) : 0;
+        switch (any(10)) {
+        case 0: t->n = any(2) ? 0 : 256 + any(1000); break;
+        case 1: case 2: case 3: wrong_length(len[any(t->working ? 7 : 6)], 4 * PLAN_ROOM); break;
+        case 4: t->left[i] = (uint8_t)(any(2) ? 0 : 255); break;
         case 5: t->right[i] = t->left[i]; break;
         case 6: t->left[i] = t->left[0], t->right[i] = t->right[0]; break;
-        case 7: t->mark[i] = (uint8_t)(2 + plan_any(254)); break;
+        case 7: t->mark[i] = (uint8_t)(2 + any(254)); break;
         case 8: if (!t->working) t->left_len += STAR_MAX_ROWS < t->left_len + 4 ? 3 : 0; break;
-        default: star_set_in_use(t->in_use, 1 + plan_any(STAR_MAX_ROWS), plan_any(2) == 0); break;
+        default: star_set_in_use(t->in_use, 1 + any(STAR_MAX_ROWS), any(2) == 0); break;
         }
-    } while (plan_any(3) == 0);
+    } while (any(3) == 0);
     if (t->left_len > PLAN_ROOM) t->left_len = PLAN_ROOM;
     if (t->right_len > PLAN_ROOM) t->right_len = PLAN_ROOM;
     if (t->mark_len > PLAN_ROOM) t->mark_len = PLAN_ROOM;
@@ -234,6 +208,16 @@ int plan_does(const uint8_t *answer, int64_t amount) {
     return !memcmp(answer, own, sizeof own);
 }
 
+int plan_refused(const struct lent *t, struct lent *before, uint32_t said, struct star_answer expected) {
+    int unwritten = t->answer_len != STAR_ANSWER_BYTES;
+    if (unwritten) tell(said == 0 && !memcmp(t, before, sizeof *before), "an answer of another length");
+    if (unwritten || expected.kind != STAR_REFUSED) return unwritten;
+    refused[expected.number]++;
+    plan_put(before->answer, STAR_REFUSED, expected.number, expected.out, 0);
+    tell(said == 1 && !memcmp(t, before, sizeof *before), "a refusal");
+    return 1;
+}
+
 struct star_answer plan_judged(const struct lent *t) {
     uint8_t answer[STAR_ANSWER_BYTES];
     if (t->working)
@@ -280,37 +264,22 @@ int64_t plan_forest(const struct rows *r, size_t from, size_t to, size_t *count)
     return sum;
 }
 
-void *plan_lend(const void *from, size_t bytes) {
-    void *copy;
-    if (bytes == 0) return NULL;
-    if (!plan_exact) return (void *)(uintptr_t)from;
-    if ((copy = malloc(bytes)) == NULL) exit(3);
-    memcpy(copy, from, bytes);
-    return copy;
-}
-
-void plan_back(void *to, void *lent, size_t bytes) {
-    if (!plan_exact || bytes == 0) return;
-    memcpy(to, lent, bytes);
-    free(lent);
-}
-
-void plan_lend_columns(const struct lent *t, struct columns *c) {
-    c->in_use = plan_lend(t->in_use, 8 * t->words);
-    c->left = plan_lend(t->left, t->left_len);
-    c->right = plan_lend(t->right, t->right_len);
-    c->weight = plan_lend(t->weight, t->weight_len);
-    c->mark = plan_lend(t->mark, t->mark_len);
-    c->answer = plan_lend(t->answer, t->answer_len);
+void plan_lend_columns(struct lent *t, struct columns *c) {
+    c->in_use = lend(t->in_use, 8 * t->words);
+    c->left = lend(t->left, t->left_len);
+    c->right = lend(t->right, t->right_len);
+    c->weight = lend(t->weight, t->weight_len);
+    c->mark = lend(t->mark, t->mark_len);
+    c->answer = lend(t->answer, t->answer_len);
 }
 
 void plan_back_columns(struct lent *t, struct columns *c) {
-    plan_back(t->in_use, c->in_use, 8 * t->words);
-    plan_back(t->left, c->left, t->left_len);
-    plan_back(t->right, c->right, t->right_len);
-    plan_back(t->weight, c->weight, t->weight_len);
-    plan_back(t->mark, c->mark, t->mark_len);
-    plan_back(t->answer, c->answer, t->answer_len);
+    back(t->in_use, c->in_use, 8 * t->words);
+    back(t->left, c->left, t->left_len);
+    back(t->right, c->right, t->right_len);
+    back(t->weight, c->weight, t->weight_len);
+    back(t->mark, c->mark, t->mark_len);
+    back(t->answer, c->answer, t->answer_len);
 }
 
 struct run {
@@ -327,7 +296,5 @@ static void *in_thread(void *own) {
 
 int plan_small_stack(uint32_t (*call)(struct lent *), struct lent *t, size_t stack) {
     struct run r = {call, t, 0};
-    pthread_attr_t attr;
-    pthread_t thread;
-    return !pthread_attr_init(&attr) && !pthread_attr_setstacksize(&attr, stack) && !pthread_create(&thread, &attr, in_thread, &r) && !pthread_join(thread, NULL) && r.said == 1;
+    return on_small_stack(in_thread, &r, stack) && r.said == 1;
 }

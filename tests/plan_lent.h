@@ -7,6 +7,7 @@
 #include <stdint.h>
 
 #include "plain_work.h"
+#include "shared.h"
 #include "star.h"
 
 enum { PLAN_GUARD = 32, PLAN_ROOM = STAR_MAX_ROWS + PLAN_GUARD, PLAN_ENDS = 12, PLAN_RECORDS = 2 * STAR_MAX_ROWS + 8 };
@@ -33,14 +34,6 @@ struct rows {
     int64_t price[STAR_MAX_ROWS];
 };
 
-/* Random numbers with a fixed start: below a number, and of 64 bits. */
-uint32_t plan_any(uint32_t below);
-uint64_t plan_bits(void);
-
-/* Counts a comparison; the first that fail are told. */
-extern unsigned long plan_passed, plan_failed;
-void plan_tell(int ok, const char *what);
-
 /* A table of small or of the largest size, mostly connected, plain or working, with all lengths right; every byte that is no part of it is random. */
 void plan_make(struct lent *t, unsigned long k);
 
@@ -52,6 +45,11 @@ void plan_claim(struct lent *t);
 
 /* The yard, with rows in use given as digits, or a plain one for NULL. */
 void plan_yard(struct lent *t, const char *in_use);
+
+/* The yard with a length of t wrong: k from 0 to 5 is one too small, one too large, or 0, of a plain and of a working one. And every length of every
+   call in these ways, with a null pointer for 0: those that are refused are refused 3. */
+void plan_yard_length(struct lent *t, size_t *len, int k);
+void plan_lengths(void (*held)(struct lent *));
 
 /* Puts one to three things wrong: n, a length, an end, a row, a mark. */
 void plan_damage(struct lent *t);
@@ -67,6 +65,10 @@ struct star_answer plan_least(const struct lent *t);
 
 /* The same, with a second column that has to be as long as left. */
 struct star_answer plan_least_with(const struct lent *t, size_t other_len);
+
+/* Compares and counts what is said where an answer has another length, so that nothing is written, or where a refusal is expected; whether it was one of
+   these. Before: the table as it was lent. */
+int plan_refused(const struct lent *t, struct lent *before, uint32_t said, struct star_answer expected);
 
 /* Whether sixteen bytes are those of a refusal; whether they say that a call is done, with an amount. */
 int plan_refuses(const uint8_t *answer, unsigned number, unsigned place);
@@ -87,23 +89,18 @@ int parts_join(struct parts *p, unsigned a, unsigned b);
 /* The least weight of a set of rows without a ring that joins what the rows from index `from` to `to` join, and how many rows such a set has. */
 int64_t plan_forest(const struct rows *r, size_t from, size_t to, size_t *count);
 
-/* An empty column is lent as a null pointer. With exact set, each column is lent from memory of its own length, for a memory checker. */
-extern int plan_exact;
-void *plan_lend(const void *from, size_t bytes);
-void plan_back(void *to, void *lent, size_t bytes);
-
 /* The columns of every call, lent and given back. */
 struct columns {
     uint64_t *in_use;
     uint8_t *left, *right, *weight, *mark, *answer;
 };
-void plan_lend_columns(const struct lent *t, struct columns *c);
+void plan_lend_columns(struct lent *t, struct columns *c);
 void plan_back_columns(struct lent *t, struct columns *c);
 
 #define PLAN_COLUMNS(t, c) (c).left, (t)->left_len, (c).right, (t)->right_len, (c).weight, (t)->weight_len
 
-/* Runs a function in a thread of the stack that the header names; whether it returns 1. */
-enum { PLAN_STACK = 128 << 10, PLAN_STACK_MEND = 256 << 10 };
-int plan_small_stack(uint32_t (*run)(struct lent *), struct lent *t, size_t stack);
+/* Runs a function in a thread with a stack of so many bytes; whether it returns 1. What the header asks for a mend is more than STACK. */
+enum { PLAN_STACK_MEND = 256 << 10 };
+int plan_small_stack(uint32_t (*call)(struct lent *), struct lent *t, size_t stack);
 
 #endif

@@ -1,22 +1,11 @@
 """Tests of districts, mend and outlets: on random files, with struck trenches in some, what they write and tell against plain searches in Python, and
 what check says of the plans that they write.
 usage: plans.py STAR.."""
-import itertools, random, re, subprocess, sys
+import itertools, random, re, sys
 
-STAR = sys.argv[1:]
+from calls import fault, faults, star
+
 random.seed(29)
-faults = 0
-
-
-def star(text, *words):
-    done = subprocess.run(STAR + list(words), input=text, capture_output=True, text=True)
-    return done.stdout, done.stderr, done.returncode
-
-
-def fault(*what):
-    global faults
-    faults += 1
-    print(*what)
 
 
 def random_file(n):
@@ -62,7 +51,7 @@ def listed(block):
 
 
 def passes(text, total):
-    said = star(text, "check", "-")
+    said = star(text, "check")
     return said[2] == 0 and "Total %d." % total in said[0]
 
 
@@ -70,7 +59,7 @@ def districts(n):
     text, rows, m = random_file(n)
     ends = sorted(random.sample(range(1, m + 1), random.randrange(1, min(m, 8) + 1)))
     ends[-1] = m
-    out, err, status = star(text, "districts", "-", *map(str, ends))
+    out, err, status = star(text, "districts", *map(str, ends))
     best = least(rows, rows)
     if len(best) < n - 1:
         if status != 2 or not out.startswith("Refused (11): "):
@@ -84,7 +73,7 @@ def districts(n):
             fault("a district", first, last, text, out)
     city, total = listed(blocks[-1])
     forests = {i for block in blocks[:-1] for i in listed(block)[0]}
-    if status != 0 or len(blocks) != len(ends) + 1 or total != cost(rows, best) or not set(city) <= forests or not passes(star(text, "districts", "--table", "-", *map(str, ends))[0], total):
+    if status != 0 or len(blocks) != len(ends) + 1 or total != cost(rows, best) or not set(city) <= forests or not passes(star(text, "districts", "--table", *map(str, ends))[0], total):
         fault("the city", ends, text, out, err)
 
 
@@ -126,7 +115,7 @@ def without_marks(text):
 
 def mend(n):
     text, rows, _ = random_file(n)
-    out, err, status = star(text, "mend", "-")
+    out, err, status = star(text, "mend")
     marked, told = mended(rows, n)
     if marked is None:
         if status != 2 or out or not err.startswith("Refused (11): "):
@@ -136,7 +125,7 @@ def mend(n):
     written = {i for i, line in enumerate(lines, 1) if not line.startswith("struck") and line.split("#")[0].split()[3:] == ["1"]}
     if status != 0 or err.split("\n")[:-2] != told or written != marked or without_marks(out) != without_marks(text) or not passes(out, cost(rows, marked)):
         fault("a mend", text, out, err, told)
-    again = star(out, "mend", "-")
+    again = star(out, "mend")
     if again[0] != out or "nothing to mend" not in again[1]:
         fault("a mend of what is mended", text, out, again)
 
@@ -150,7 +139,7 @@ def outlets(n):
         count = sum(r in rows[i][:2] for i in tree)
         totals[count] = min(totals.get(count, 10 ** 9), cost(rows, tree))
     for count in range(n + 1):
-        out, err, status = star(text, "outlets", "-", str(r), str(count))
+        out, err, status = star(text, "outlets", str(r), str(count))
         if not trees:
             good = status == 2 and out.startswith("Refused (11): ")
         elif count not in totals:
@@ -168,4 +157,4 @@ def outlets(n):
 for test in (districts, mend, outlets):
     for number in range(60):
         test(random.randrange(2, 9))
-sys.exit(faults > 0)
+sys.exit(len(faults) != 0)

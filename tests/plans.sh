@@ -59,14 +59,7 @@ for words in "districts --table -o %s $yard 4" 'mend -o %s tests/console/mend-ap
     [ "$(cat "$work/kept.txt")" = kept ] && [ ! -s "$work/out" ]
     verdict "refused, and nothing written: $words" $?
 done
-for words in "districts $yard 5" "districts --table $yard 5" "mend $old" "outlets $yard 1 2" "outlets --table $yard 1 2"; do
-    "${star[@]}" $words >/dev/full 2>"$work/all"
-    [ $? = 5 ] && grep -q 'standard output: it could not be written: No space left' "$work/all"
-    verdict "full: $words" $?
-    "${star[@]}" $words >&- 2>"$work/all"
-    [ $? = 5 ] && grep -q 'standard output: it could not be written' "$work/all"
-    verdict "closed: $words" $?
-done
+for words in "districts $yard 5" "districts --table $yard 5" "mend $old" "outlets $yard 1 2" "outlets --table $yard 1 2"; do unwritten $words; done
 for word in districts mend outlets; do try "help: $word" 0 "^ +star $word " '' $word --help; done
 
 echo "$passed passed, $failed failed"

@@ -6,9 +6,7 @@
 
 #include "asked.h"
 
-enum { STACK = 128 << 10 };
-
-static unsigned long done[2], refused[32], moved, kept, unwritten;
+static unsigned long done[2], moved, kept, unwritten;
 
 static uint32_t door(struct asked *t, uint32_t row, int32_t price) {
     struct lent p = asked_lend(t);
@@ -82,42 +80,32 @@ static void known(void) {
     tell(t.answer[1] == STAR_BAD_SOURCE, "one junction has no row");
 }
 
-static void *on_small_stack(void *table) {
-    struct asked *t = table;
-    t->answer[0] = 99;
-    door(t, 1, 7);
-    return NULL;
+static uint32_t row_1(struct asked *t) { return door(t, 1, 7); }
+
+static void cases(void) {
+    known();
+    asked_small_stack(STAR_QUOTE_BYTES, asked_use_row_1, row_1, STAR_PASSED);
 }
 
-static void small_stack(void) {
+static void table(unsigned long k) {
     static struct asked t;
-    int working;
-    for (working = 0; working < 2; working++) {
-        do asked_make(&t, (unsigned long)working, STAR_QUOTE_BYTES);
-        while (t.rows < 1000);
-        t.in_use[0] |= 1;
-        tell(asked_on_small_stack(on_small_stack, &t, STACK) && t.answer[0] <= STAR_PASSED, "a thread of 128 KiB");
-    }
+    int32_t price;
+    asked_make(&t, k, STAR_QUOTE_BYTES);
+    asked_damage(&t, 5, 20);
+    price = asked_price(&t);
+    one(&t, asked_row(&t), price);
 }
 
 int main(int count, char **words) {
-    unsigned long quotes = asked_count(count, words, 20000), k;
-    static struct asked t;
-    known();
-    small_stack();
-    for (k = 0; k < quotes; k++) {
-        asked_make(&t, k, STAR_QUOTE_BYTES);
-        if (any(5) == 0) asked_damage(&t);
-        if (any(20) == 0) asked_damage(&t);
-        one(&t, asked_row(&t), asked_price(&t));
-    }
+    static const unsigned numbers[] = {1, 2, 3, 4, 15, 7, 11, 0};
+    unsigned long quotes = run(count, words, 20000, cases, table);
     share(done[0], 4, quotes, "the share of quotes of plain tables");
     share(done[1], 4, quotes, "the share of quotes of working tables");
     share(moved, 8, quotes, "the share of totals that move");
     share(kept, 8, quotes, "the share of totals that stay");
-    for (k = 1; k <= 15; k++)
-        if (k <= 4 || k == 7 || k == 11 || k == 15) share(refused[k], 1500, quotes, "the share of a refusal");
-    printf("%lu quotes: %lu of plain tables and %lu of working tables, %lu totals moved; refused 1 %lu times, 2 %lu, 3 %lu, 4 %lu, 15 %lu, 7 %lu, 11 %lu; %lu without an answer\n", quotes, done[0], done[1], moved,
-           refused[1], refused[2], refused[3], refused[4], refused[15], refused[7], refused[11], unwritten);
+    share_refused(numbers, 1500, quotes);
+    printf("%lu quotes: %lu of plain tables and %lu of working tables, %lu totals moved; ", quotes, done[0], done[1], moved);
+    print_refused(numbers);
+    printf("; %lu without an answer\n", unwritten);
     return told();
 }

@@ -23,3 +23,13 @@ try() { # NAME STATUS PATTERN TEXT ARGUMENTS..
     [ "$status" = "$expected" ] && grep -Eq -- "$pattern" "$work/all"
     verdict "$name" $?
 }
+
+# Output that cannot be written, on a full device and on a closed stream, is told with a status of its own.
+unwritten() { # ARGUMENTS..
+    "${star[@]}" "$@" >/dev/full 2>"$work/all"
+    [ $? = 5 ] && grep -q 'standard output: it could not be written: No space left' "$work/all"
+    verdict "full: $*" $?
+    "${star[@]}" "$@" >&- 2>"$work/all"
+    [ $? = 5 ] && grep -q 'standard output: it could not be written' "$work/all"
+    verdict "closed: $*" $?
+}

@@ -6,9 +6,7 @@
 
 #include "asked.h"
 
-enum { STACK = 128 << 10 };
-
-static unsigned long named[3], equal, working_pairs, refused[32];
+static unsigned long named[3], equal, working_pairs;
 
 static uint32_t door(struct asked *t) {
     struct lent p = asked_lend(t);
@@ -91,44 +89,33 @@ static void known(void) {
     tell(t.answer[0] == STAR_PASSED && star_read_answer(t.answer).amount == 0, "one junction");
 }
 
-static void *on_small_stack(void *table) {
-    struct asked *t = table;
-    t->answer[0] = 99;
-    door(t);
-    return NULL;
+static void put_plans(struct asked *t) {
+    asked_plan(t, t->first);
+    asked_plan(t, t->second);
 }
 
-static void small_stack(void) {
+static void cases(void) {
+    known();
+    asked_small_stack(STAR_ANSWER_BYTES, put_plans, door, STAR_PASSED);
+}
+
+static void table(unsigned long k) {
     static struct asked t;
-    int working;
-    for (working = 0; working < 2; working++) {
-        do asked_make(&t, (unsigned long)working, STAR_ANSWER_BYTES);
-        while (t.rows < 1000);
-        asked_plan(&t, t.first);
-        asked_plan(&t, t.second);
-        tell(asked_on_small_stack(on_small_stack, &t, STACK) && t.answer[0] <= STAR_PASSED, "a thread of 128 KiB");
-    }
+    asked_make(&t, k, STAR_ANSWER_BYTES);
+    put_plans(&t);
+    asked_damage(&t, 6, 30);
+    one(&t);
 }
 
 int main(int count, char **words) {
-    unsigned long pairs = asked_count(count, words, 20000), k;
-    static struct asked t;
-    known();
-    small_stack();
-    for (k = 0; k < pairs; k++) {
-        asked_make(&t, k, STAR_ANSWER_BYTES);
-        asked_plan(&t, t.first);
-        asked_plan(&t, t.second);
-        if (any(6) == 0) asked_damage(&t);
-        if (any(30) == 0) asked_damage(&t);
-        one(&t);
-    }
+    static const unsigned numbers[] = {1, 2, 3, 4, 15, 6, 9, 10, 0};
+    unsigned long pairs = run(count, words, 20000, cases, table), k;
     for (k = 1; k <= 2; k++) share(named[k], 8, pairs, "the share of a plan that is named");
     share(equal, 20, pairs, "the share of plans that cost the same");
     share(working_pairs, 8, pairs, "the share of working tables");
-    for (k = 1; k <= 15; k++)
-        if (k <= 4 || k == 6 || k == 9 || k == 10 || k == 15) share(refused[k], 1500, pairs, "the share of a refusal");
-    printf("%lu pairs of plans: the first %lu times, the second %lu, %lu of equal totals, %lu of working tables; refused 1 %lu times, 2 %lu, 3 %lu, 4 %lu, 15 %lu, 6 %lu, 9 %lu, 10 %lu\n", pairs, named[1], named[2],
-           equal, working_pairs, refused[1], refused[2], refused[3], refused[4], refused[15], refused[6], refused[9], refused[10]);
+    share_refused(numbers, 1500, pairs);
+    printf("%lu pairs of plans: the first %lu times, the second %lu, %lu of equal totals, %lu of working tables; ", pairs, named[1], named[2], equal, working_pairs);
+    print_refused(numbers);
+    printf("\n");
     return told();
 }

@@ -1,28 +1,16 @@
 /* Working tables whose answers are known, from the yard: 1-2 5, 2-3 3, 3-4 5, 1-4 4, 1-3 6; null pointers; the stack that the header names. */
-#define _POSIX_C_SOURCE 200809L
-#include <pthread.h>
 #include <string.h>
 
 #include "work_lent.h"
 
-enum { STACK = 128 << 10 };
-
 static struct lent t;
-
-static void put_row(size_t i, unsigned a, unsigned b, int32_t price) {
-    t.left[i - 1] = (uint8_t)a;
-    t.right[i - 1] = (uint8_t)b;
-    star_put_price(t.weight, i - 1, price);
-}
 
 /* The yard with rows in use, a digit each; every other byte is 7. */
 static void yard(const char *rows) {
-    static const uint8_t left[] = {1, 2, 3, 1, 1}, right[] = {2, 3, 4, 4, 3}, price[] = {5, 3, 5, 4, 6};
-    size_t i;
     memset(&t, 7, sizeof t);
     memset(t.in_use, 0, sizeof t.in_use);
     lent_lengths(&t);
-    for (i = 0; i < 5; i++) put_row(i + 1, left[i], right[i], price[i]);
+    put_yard(t.left, t.right, t.weight);
     for (; *rows; rows++) star_set_in_use(t.in_use, (size_t)(*rows - '0'), 1);
 }
 
@@ -30,7 +18,7 @@ static struct star_answer asked(enum work_door door, uint32_t row) {
     struct ask q = {WORK_CST, 4, 0, 1, WORK_MATRIX, 2, 4, 7};
     q.door = door;
     q.row = row;
-    work_tell(work_agrees(&q, &t), WORK_NAMES[door]);
+    tell(work_agrees(&q, &t), WORK_NAMES[door]);
     return star_read_answer(t.answer);
 }
 
@@ -55,57 +43,57 @@ static void built_and_struck(void) {
     struct star_answer a;
     yard("135");
     a = asked(WORK_MST1, 0);
-    work_tell(a.kind == STAR_PASSED && a.amount == 16 && marked("10101"), "the yard with rows 1, 3, 5");
+    tell(a.kind == STAR_PASSED && a.amount == 16 && marked("10101"), "the yard with rows 1, 3, 5");
     memset(t.mark + 1, 7, 1);
     memset(t.mark + 3, 7, 1);
     a = asked(WORK_CST, 0);
-    work_tell(a.kind == STAR_PASSED && a.amount == 16 && a.only == 1, "marks at rows 2 and 4 are not looked at");
-    put_row(2, 1, 2, 9);
-    put_row(4, 0, 255, 9);
-    work_tell(asked(WORK_CST, 0).kind == STAR_PASSED, "a repeat and a bad end at rows not in use");
+    tell(a.kind == STAR_PASSED && a.amount == 16 && a.only == 1, "marks at rows 2 and 4 are not looked at");
+    put_row(t.left, t.right, t.weight, 2, 1, 2, 9);
+    put_row(t.left, t.right, t.weight, 4, 0, 255, 9);
+    tell(asked(WORK_CST, 0).kind == STAR_PASSED, "a repeat and a bad end at rows not in use");
     star_set_in_use(t.in_use, 2, 1);
-    work_tell(is_refused(asked(WORK_CST, 0), STAR_REPEATED_ROW, 2), "a repeat in use");
+    tell(is_refused(asked(WORK_CST, 0), STAR_REPEATED_ROW, 2), "a repeat in use");
     star_set_in_use(t.in_use, 4, 1);
-    work_tell(is_refused(asked(WORK_CST, 0), STAR_BAD_END, 4), "a bad end in use");
+    tell(is_refused(asked(WORK_CST, 0), STAR_BAD_END, 4), "a bad end in use");
     yard("135");
     a = asked(WORK_STRIKE, 3);
-    work_tell(a.kind == STAR_PASSED && t.in_use[0] == 17 && t.left[2] == 3, "row 3 struck");
-    work_tell(is_refused(asked(WORK_MST1, 0), STAR_NO_NETWORK, 0) && t.mark[0] == 7, "no network without row 3");
-    work_tell(is_refused(asked(WORK_STRIKE, 3), STAR_NOT_IN_USE, 0), "row 3 struck twice");
-    work_tell(is_refused(asked(WORK_STRIKE, 0), STAR_NOT_IN_USE, 0) && is_refused(asked(WORK_STRIKE, 1025), STAR_NOT_IN_USE, 0), "rows 0 and 1,025");
+    tell(a.kind == STAR_PASSED && t.in_use[0] == 17 && t.left[2] == 3, "row 3 struck");
+    tell(is_refused(asked(WORK_MST1, 0), STAR_NO_NETWORK, 0) && t.mark[0] == 7, "no network without row 3");
+    tell(is_refused(asked(WORK_STRIKE, 3), STAR_NOT_IN_USE, 0), "row 3 struck twice");
+    tell(is_refused(asked(WORK_STRIKE, 0), STAR_NOT_IN_USE, 0) && is_refused(asked(WORK_STRIKE, 1025), STAR_NOT_IN_USE, 0), "rows 0 and 1,025");
     t.in_use[16] = ~(uint64_t)0;
     t.words = 17;
-    work_tell(is_refused(asked(WORK_STRIKE, 1025), STAR_NOT_IN_USE, 0) && is_refused(asked(WORK_STRIKE, 1), STAR_BAD_LENGTHS, 0), "seventeen words");
+    tell(is_refused(asked(WORK_STRIKE, 1025), STAR_NOT_IN_USE, 0) && is_refused(asked(WORK_STRIKE, 1), STAR_BAD_LENGTHS, 0), "seventeen words");
     star_set_in_use(t.in_use, 1024, 1);
     t.words = 15;
-    work_tell(is_refused(asked(WORK_STRIKE, 1024), STAR_NOT_IN_USE, 0) && is_refused(asked(WORK_STRIKE, 1), STAR_BAD_LENGTHS, 0), "fifteen words");
+    tell(is_refused(asked(WORK_STRIKE, 1024), STAR_NOT_IN_USE, 0) && is_refused(asked(WORK_STRIKE, 1), STAR_BAD_LENGTHS, 0), "fifteen words");
 }
 
 static void merged_and_added(void) {
     struct star_answer a;
     yard("245");
     a = asked(WORK_MERGE, 0);
-    work_tell(a.kind == STAR_PASSED && numbered("010230") && t.numbers[1023] == 0 && t.in_use[0] == 7 && t.left[0] == 2 && t.right[1] == 4 && star_get_price(t.weight, 2) == 6
+    tell(a.kind == STAR_PASSED && numbered("010230") && t.numbers[1023] == 0 && t.in_use[0] == 7 && t.left[0] == 2 && t.right[1] == 4 && star_get_price(t.weight, 2) == 6
                   && t.left[3] == 0 && t.weight[4095] == 0, "rows 2, 4, 5 merged");
     yard("25");
     a = asked(WORK_ADD, 0);
-    work_tell(a.kind == STAR_PASSED && a.amount == 6 && !a.out && !a.in && numbered("020050") && t.numbers[1023] == 0 && t.left[5] == 2 && t.right[5] == 4
+    tell(a.kind == STAR_PASSED && a.amount == 6 && !a.out && !a.in && numbered("020050") && t.numbers[1023] == 0 && t.left[5] == 2 && t.right[5] == 4
                   && star_get_price(t.weight, 5) == 7 && t.in_use[0] == 50, "a row added after row 5");
     yard("");
-    work_tell(asked(WORK_ADD, 0).amount == 1 && numbered("000000") && t.in_use[0] == 1, "a row added to none");
+    tell(asked(WORK_ADD, 0).amount == 1 && numbered("000000") && t.in_use[0] == 1, "a row added to none");
     yard("");
     star_set_in_use(t.in_use, 1024, 1);
-    put_row(1024, 9, 8, -1);
-    work_tell(asked(WORK_ADD, 0).amount == 2 && numbered("000000") && t.numbers[1023] == 1 && t.left[0] == 9 && t.left[1] == 2 && t.left[2] == 0 && t.in_use[0] == 3 && t.in_use[15] == 0,
+    put_row(t.left, t.right, t.weight, 1024, 9, 8, -1);
+    tell(asked(WORK_ADD, 0).amount == 2 && numbered("000000") && t.numbers[1023] == 1 && t.left[0] == 9 && t.left[1] == 2 && t.left[2] == 0 && t.in_use[0] == 3 && t.in_use[15] == 0,
               "a row added after row 1,024");
     memset(t.in_use, 255, sizeof t.in_use);
-    work_tell(is_refused(asked(WORK_ADD, 0), STAR_TABLE_FULL, 0), "a full table");
+    tell(is_refused(asked(WORK_ADD, 0), STAR_TABLE_FULL, 0), "a full table");
     t.count = 3;
     t.left_len = 0;
     t.words = 17;
-    work_tell(is_refused(asked(WORK_ADD, 0), STAR_TABLE_FULL, 0), "a full table, and wrong lengths");
+    tell(is_refused(asked(WORK_ADD, 0), STAR_TABLE_FULL, 0), "a full table, and wrong lengths");
     t.words = 15;
-    work_tell(is_refused(asked(WORK_ADD, 0), STAR_BAD_LENGTHS, 0), "a table full but for the last word");
+    tell(is_refused(asked(WORK_ADD, 0), STAR_BAD_LENGTHS, 0), "a table full but for the last word");
 }
 
 /* Each length one too small, one too large, and 0 with a null pointer, for every door. */
@@ -122,12 +110,12 @@ static void lengths(void) {
             if (door == WORK_STRIKE && k == 2) number = STAR_NOT_IN_USE;
             *len[k / 3] = k % 3 == 2 ? 0 : *len[k / 3] + 2 * (k % 3) - 1;
             asked(door, 1);
-            if (k < 18) work_tell(t.answer[1] == number && (t.answer[0] == STAR_REFUSED) == (number != 0), "the refusal of a length");
+            if (k < 18) tell(t.answer[1] == number && (t.answer[0] == STAR_REFUSED) == (number != 0), "the refusal of a length");
         }
 }
 
 /* The largest tables, in a thread of the stack that the header names. */
-static void *on_small_stack(void *agreed) {
+static void *every_door(void *agreed) {
     enum work_door door;
     struct ask q = {WORK_CST, 255, 3, 255, WORK_MATRIX, 2, 4, 7};
     for (door = WORK_STRIKE; door < WORK_DOORS; door++) {
@@ -138,8 +126,6 @@ static void *on_small_stack(void *agreed) {
 }
 
 static void small_stack(void) {
-    pthread_attr_t attr;
-    pthread_t thread;
     uint32_t said[WORK_DOORS] = {0};
     size_t i, a = 1, b = 1;
     int ok = 1;
@@ -147,11 +133,11 @@ static void small_stack(void) {
     memset(t.in_use, 255, 8 * STAR_COLUMN_WORDS);
     for (i = 1; i <= STAR_MAX_ROWS; i++) {
         if (++b > 255) a++, b = a + 1;
-        put_row(i, (unsigned)a, (unsigned)b, (int32_t)(i * 7919 % 1000) - 500);
+        put_row(t.left, t.right, t.weight, i, (unsigned)a, (unsigned)b, (int32_t)(i * 7919 % 1000) - 500);
     }
-    ok = !pthread_attr_init(&attr) && !pthread_attr_setstacksize(&attr, STACK) && !pthread_create(&thread, &attr, on_small_stack, said) && !pthread_join(thread, NULL);
+    ok = on_small_stack(every_door, said, STACK);
     for (i = 0; i < WORK_DOORS; i++) ok = ok && said[i] == 1;
-    work_tell(ok, "a thread of 128 KiB");
+    tell(ok, "a thread of 128 KiB");
 }
 
 void work_cases(void) {

@@ -1,31 +1,10 @@
 #include "work_lent.h"
 
-#include <stdio.h>
-#include <stdlib.h>
 #include <string.h>
 
 #include "plain_work.h"
 
 const char *const WORK_NAMES[WORK_DOORS] = {"star_strike", "star_add", "star_merge", "star_work_cst", "star_work_other", "star_work_mst1", "star_work_paths"};
-
-int work_exact;
-unsigned long work_passed, work_failed;
-
-static uint64_t state = 88172645463325252u;
-
-uint64_t work_bits(void) {
-    state ^= state << 13;
-    state ^= state >> 7;
-    state ^= state << 17;
-    return state * 2685821657736338717u;
-}
-
-uint32_t work_any(uint32_t below) { return below ? (uint32_t)((work_bits() >> 20) % below) : 0; }
-
-void work_tell(int ok, const char *what) {
-    if (ok) work_passed++;
-    else if (work_failed++ < 10) fprintf(stderr, "%s differs, seed state %llx\n", what, (unsigned long long)state);
-}
 
 void lent_lengths(struct lent *t) {
     t->words = STAR_COLUMN_WORDS;
@@ -59,21 +38,6 @@ static uint32_t handed(const struct ask *q, const struct lent *t, struct pointer
         return (q->door == WORK_CST ? star_work_cst : star_work_other)(q->n, p.in_use, t->words, p.left, t->left_len, p.right, t->right_len, p.weight, t->weight_len, p.mark, t->mark_len,
                                                                        p.answer, t->answer_len);
     }
-}
-
-/* An empty column is lent as a null pointer. With exact set, a column is lent as a copy and given back. */
-static void *lend(void *from, size_t bytes) {
-    void *copy = from;
-    if (bytes == 0) return NULL;
-    if (work_exact && (copy = malloc(bytes)) == NULL) exit(3);
-    if (work_exact) memcpy(copy, from, bytes);
-    return copy;
-}
-
-static void back(void *to, void *lent, size_t bytes) {
-    if (!work_exact || bytes == 0) return;
-    memcpy(to, lent, bytes);
-    free(lent);
 }
 
 uint32_t work_call(const struct ask *q, struct lent *t) {
@@ -119,8 +83,8 @@ int work_agrees(const struct ask *q, struct lent *t) {
     size_t i;
     uint32_t said, plain;
     if (q->door == WORK_PATHS)
-        for (i = 0; i < sizeof matrix / sizeof matrix[0]; i++) matrix[i] = plain_matrix[i] = work_bits();
-    for (i = 0; i < sizeof t->answer; i++) t->answer[i] = (uint8_t)work_bits();
+        for (i = 0; i < sizeof matrix / sizeof matrix[0]; i++) matrix[i] = plain_matrix[i] = bits();
+    random_bytes(t->answer, sizeof t->answer);
     memcpy(&other, t, sizeof other);
     plain = plainly(q, &other);
     said = work_call(q, t);

@@ -5,6 +5,7 @@
 #include <stddef.h>
 #include <stdint.h>
 
+#include "shared.h"
 #include "star.h"
 
 enum { WORK_GUARD = 32, WORK_MATRIX = STAR_COLUMN_WORDS * STAR_MAX_JUNCTIONS + 40 };
@@ -34,21 +35,12 @@ struct ask {
 /* Puts the lengths right. */
 void lent_lengths(struct lent *t);
 
-/* Calls the door; what is returned. With exact set, each column is lent from memory of its own length, for a memory checker. */
-extern int work_exact;
+/* Calls the door; what is returned. */
 uint32_t work_call(const struct ask *q, struct lent *t);
 
 /* Calls the door, and the plain implementation on a copy: whether they return, answer and leave the same, every byte, word and number that stands in
    or around a column included. */
 int work_agrees(const struct ask *q, struct lent *t);
-
-/* Random numbers with a fixed start: below a number, and of 64 bits. */
-uint32_t work_any(uint32_t below);
-uint64_t work_bits(void);
-
-/* Counts a comparison; the first that fail are told. */
-extern unsigned long work_passed, work_failed;
-void work_tell(int ok, const char *what);
 
 /* The cases whose answers are known, null pointers, and the stack that the header names. */
 void work_cases(void);

@@ -4,7 +4,6 @@
  * merge, or before an add that packs, is carried through the numbers, and has to pass again with the same total and the same byte 6.
  * usage: work_test [SEQUENCES [exact]]   prints one line 'N passed, M failed' at its end; exact: columns in memory of their own length */
 #include <stdio.h>
-#include <stdlib.h>
 #include <string.h>
 
 #include "work_lent.h"
@@ -12,7 +11,7 @@
 static struct lent t;
 
 /* What the sequences came to. */
-static unsigned long calls, refused[32], done[WORK_DOORS], packs, carried, carried_by_add, only;
+static unsigned long calls, done[WORK_DOORS], packs, carried, carried_by_add, only;
 
 static struct ask ask_of(enum work_door door, uint32_t n) {
     struct ask q;
@@ -24,7 +23,7 @@ static struct ask ask_of(enum work_door door, uint32_t n) {
 
 /* Compares one call, and counts how it ended. */
 static void compare(const struct ask *q) {
-    work_tell(work_agrees(q, &t), WORK_NAMES[q->door]);
+    tell(work_agrees(q, &t), WORK_NAMES[q->door]);
     calls++;
     if (t.answer_len != STAR_ANSWER_BYTES) return;
     if (t.answer[0] == STAR_REFUSED && t.answer[1] < 32) refused[t.answer[1]]++;
@@ -32,82 +31,62 @@ static void compare(const struct ask *q) {
 }
 
 static int32_t any_price(void) {
-    switch (work_any(4)) {
-    case 0: return (int32_t)work_any(3);
-    case 1: return (int32_t)work_any(41) - 20;
-    case 2: return work_any(2) ? STAR_MIN_PRICE : STAR_MAX_PRICE;
-    default: return (int32_t)(work_any(1u << 31) & 0x7fffffff) - (1 << 30);
+    switch (any(4)) {
+    case 0: return (int32_t)any(3);
+    case 1: return (int32_t)any(41) - 20;
+    case 2: return any(2) ? STAR_MIN_PRICE : STAR_MAX_PRICE;
+    default: return (int32_t)(any(1u << 31) & 0x7fffffff) - (1 << 30);
     }
-}
-
-static void put_row(size_t i, unsigned a, unsigned b, int32_t price) {
-    t.left[i - 1] = (uint8_t)a;
-    t.right[i - 1] = (uint8_t)b;
-    star_put_price(t.weight, i - 1, price);
-}
-
-/* Whether a pair, in either direction, is met for the first time in this table. */
-static uint32_t met[256][256], round_of;
-
-static int first_met(unsigned a, unsigned b) {
-    uint32_t *of = a < b ? &met[a][b] : &met[b][a];
-    if (*of == round_of) return 0;
-    *of = round_of;
-    return 1;
 }
 
 /* Puts m rows in use, from position `from` on, with random gaps between them; the first of them join all n junctions. */
 static void fill(uint32_t n, size_t m, size_t from, size_t gap) {
     size_t i = from, k;
-    for (k = 0; k < m && i <= STAR_MAX_ROWS; k++, i += 1 + work_any((uint32_t)gap + 1)) {
-        unsigned a = k + 1 < n ? (unsigned)k + 2 : 1 + work_any(n), b = k + 1 < n ? 1 + work_any((uint32_t)k + 1) : 1 + work_any(n), tries = 0;
-        while (n > 1 && (a == b || !first_met(a, b)) && ++tries < 200) a = 1 + work_any(n), b = 1 + work_any(n);
-        if (work_any(2)) put_row(i, a, b, any_price());
-        else put_row(i, b, a, any_price());
+    for (k = 0; k < m && i <= STAR_MAX_ROWS; k++, i += 1 + any((uint32_t)gap + 1)) {
+        struct pair p = any_pair(n, k + 1 < n ? k + 1 : 0, 0, 200);
+        if (any(2)) put_row(t.left, t.right, t.weight, i, p.a, p.b, any_price());
+        else put_row(t.left, t.right, t.weight, i, p.b, p.a, any_price());
         star_set_in_use(t.in_use, i, 1);
     }
 }
 
 /* A table of its own for each sequence; gives the number of junctions. */
 static uint32_t fresh(unsigned long k) {
-    uint32_t n = 1 + work_any(10);
-    size_t i, m = work_any(n * (n - 1) / 2 + 2); /* one row more than there are pairs, at most */
-    for (i = 0; i < sizeof t; i++) ((uint8_t *)&t)[i] = (uint8_t)work_bits();
+    uint32_t n = 1 + any(10);
+    size_t m = any(n * (n - 1) / 2 + 2); /* one row more than there are pairs, at most */
+    random_bytes(&t, sizeof t);
     memset(t.in_use, 0, 8 * STAR_COLUMN_WORDS);
     lent_lengths(&t);
-    round_of++;
-    if (k % 400 == 0) fill(n = 255 - work_any(200), m = STAR_MAX_ROWS, 1, 0);
-    else if (k % 400 == 200) fill(n = 255 - work_any(200), m = STAR_MAX_ROWS / 2, 1, 2);
+    no_pair_given();
+    if (k % 400 == 0) fill(n = 255 - any(200), m = STAR_MAX_ROWS, 1, 0);
+    else if (k % 400 == 200) fill(n = 255 - any(200), m = STAR_MAX_ROWS / 2, 1, 2);
     else if (k % 4 == 0) fill(n, m, 1, 0);
-    else if (k % 4 == 1) fill(n, m, 1 + work_any(60), 4);
-    else if (k % 8 == 2) fill(n, m, STAR_MAX_ROWS - m - work_any(60), 1);
+    else if (k % 4 == 1) fill(n, m, 1 + any(60), 4);
+    else if (k % 8 == 2) fill(n, m, STAR_MAX_ROWS - m - any(60), 1);
     else if (k % 8 == 6) fill(n, m, STAR_MAX_ROWS + 1 - m, 0); /* to the last row */
-    else fill(n, m, 1 + work_any(8), m ? 2 * STAR_MAX_ROWS / m : 0);
-    if (work_any(10) == 0) star_set_in_use(t.in_use, STAR_MAX_ROWS, 1);
-    if (work_any(40) == 0) memset(t.in_use, 255, 8 * STAR_COLUMN_WORDS);
-    return work_any(30) ? n : work_any(3) * 128;
+    else fill(n, m, 1 + any(8), m ? 2 * STAR_MAX_ROWS / m : 0);
+    if (any(10) == 0) star_set_in_use(t.in_use, STAR_MAX_ROWS, 1);
+    if (any(40) == 0) memset(t.in_use, 255, 8 * STAR_COLUMN_WORDS);
+    return any(30) ? n : any(3) * 128;
 }
 
 /* Lends one column, or more, with a wrong length; the lengths are put right after the call. */
 static void damage(void) {
     size_t *len[] = {&t.words, &t.left_len, &t.right_len, &t.weight_len, &t.mark_len, &t.count, &t.answer_len};
-    do {
-        size_t *of = len[work_any(7)];
-        *of = work_any(6) == 0 ? 0 : *of + (work_any(2) ? 1 : (size_t)-1);
-        if (*of > 4 * STAR_MAX_ROWS + 1) *of = 0;
-    } while (work_any(4) == 0);
+    do wrong_length(len[any(7)], 4 * STAR_MAX_ROWS + 1);
+    while (any(4) == 0);
 }
 
 /* The claim that star_work_mst1 builds, mostly with a random byte at each row not in use; or one with a mark changed; or as it was. */
 static void claim(uint32_t n) {
     struct ask q = ask_of(WORK_MST1, n);
     size_t i;
-    if (work_any(8) == 0) return;
+    if (any(8) == 0) return;
     work_call(&q, &t);
     for (i = 1; i <= STAR_MAX_ROWS; i++)
-        if (!star_in_use(t.in_use, i) && work_any(4)) t.mark[i - 1] = (uint8_t)work_bits();
-    if (work_any(3) == 0) t.mark[work_any(STAR_MAX_ROWS)] ^= 1;
-    if (work_any(3) == 0) t.mark[work_any(30)] ^= 1;
+        if (!star_in_use(t.in_use, i) && any(4)) t.mark[i - 1] = (uint8_t)bits();
+    if (any(3) == 0) t.mark[any(STAR_MAX_ROWS)] ^= 1;
+    if (any(3) == 0) t.mark[any(30)] ^= 1;
 }
 
 static struct star_answer judged(uint32_t n) {
@@ -132,7 +111,7 @@ static struct star_answer least(uint32_t n) {
 static void packing(const struct ask *q) {
     struct star_answer before, after, total[2];
     size_t added;
-    if (work_any(2)) claim(q->n);
+    if (any(2)) claim(q->n);
     before = judged(q->n);
     total[0] = least(q->n);
     compare(q);
@@ -143,28 +122,28 @@ static void packing(const struct ask *q) {
     after = judged(q->n);
     total[1] = least(q->n);
     if (added) star_set_in_use(t.in_use, added, 1);
-    work_tell(total[0].kind == total[1].kind && total[0].number == total[1].number && total[0].amount == total[1].amount, "the least total after packing");
+    tell(total[0].kind == total[1].kind && total[0].number == total[1].number && total[0].amount == total[1].amount, "the least total after packing");
     if (before.kind != STAR_PASSED) return;
     carried++;
     carried_by_add += added > 0;
     only += before.only;
-    work_tell(after.kind == STAR_PASSED && after.amount == before.amount && after.only == before.only, "a passed claim carried through the numbers");
+    tell(after.kind == STAR_PASSED && after.amount == before.amount && after.only == before.only, "a passed claim carried through the numbers");
 }
 
 static void strike(uint32_t n) {
     struct ask q = ask_of(WORK_STRIKE, n);
     uint32_t k;
-    q.row = 1 + work_any(STAR_MAX_ROWS);
-    if (work_any(12) == 0) q.row = work_any(2) ? work_any(4) * STAR_MAX_ROWS : STAR_MAX_ROWS + 1 + work_any(70);
-    else if (work_any(6))
+    q.row = 1 + any(STAR_MAX_ROWS);
+    if (any(12) == 0) q.row = any(2) ? any(4) * STAR_MAX_ROWS : STAR_MAX_ROWS + 1 + any(70);
+    else if (any(6))
         for (k = 0; k < STAR_MAX_ROWS && !star_in_use(t.in_use, q.row); k++) q.row = q.row % STAR_MAX_ROWS + 1;
     compare(&q);
 }
 
 static void add(uint32_t n, int sound) {
     struct ask q = ask_of(WORK_ADD, n);
-    q.a = (uint8_t)(work_any(8) ? 1 + work_any(n) : work_any(256));
-    q.b = (uint8_t)(work_any(8) ? 1 + work_any(n) : work_any(256));
+    q.a = (uint8_t)(any(8) ? 1 + any(n) : any(256));
+    q.b = (uint8_t)(any(8) ? 1 + any(n) : any(256));
     q.price = any_price();
     packs += star_in_use(t.in_use, STAR_MAX_ROWS);
     if (sound && star_in_use(t.in_use, STAR_MAX_ROWS)) packing(&q);
@@ -180,18 +159,18 @@ static void merge(uint32_t n, int sound) {
 static void procedure(uint32_t n) {
     struct ask q = ask_of(WORK_CST, n);
     if (t.answer_len == STAR_ANSWER_BYTES) claim(n);
-    q.door = WORK_CST + work_any(4);
-    q.s = work_any(12) ? 1 + work_any(n) : work_any(300);
-    q.matrix = q.door != WORK_PATHS ? 0 : STAR_COLUMN_WORDS * (size_t)(n > STAR_MAX_JUNCTIONS ? STAR_MAX_JUNCTIONS : n) + work_any(20);
-    if (work_any(12) == 0) q.matrix = work_any((uint32_t)q.matrix + 1);
+    q.door = WORK_CST + any(4);
+    q.s = any(12) ? 1 + any(n) : any(300);
+    q.matrix = q.door != WORK_PATHS ? 0 : STAR_COLUMN_WORDS * (size_t)(n > STAR_MAX_JUNCTIONS ? STAR_MAX_JUNCTIONS : n) + any(20);
+    if (any(12) == 0) q.matrix = any((uint32_t)q.matrix + 1);
     compare(&q);
 }
 
 static void sequence(unsigned long k) {
-    uint32_t n = fresh(k), steps = 2 + work_any(8);
+    uint32_t n = fresh(k), steps = 2 + any(8);
     while (steps--) {
-        int sound = work_any(9) != 0;
-        uint32_t what = work_any(20);
+        int sound = any(9) != 0;
+        uint32_t what = any(20);
         if (!sound) damage();
         if (what < 6) strike(n);
         else if (what < 10) add(n, sound);
@@ -202,17 +181,15 @@ static void sequence(unsigned long k) {
 }
 
 int main(int count, char **words) {
-    unsigned long sequences = count > 1 ? strtoul(words[1], NULL, 10) : 50000, k;
+    static const unsigned numbers[] = {3, 17, 18, 0};
+    unsigned long sequences = run(count, words, 50000, work_cases, sequence);
     enum work_door door;
-    work_exact = count > 2 && strcmp(words[2], "exact") == 0;
-    work_cases();
-    for (k = 0; k < sequences; k++) sequence(k);
-    for (door = WORK_STRIKE; door < WORK_DOORS; door++) work_tell(50 * done[door] >= sequences, "the share of calls that are not refused");
-    work_tell(10 * carried >= sequences && 100 * carried_by_add >= sequences && 100 * only >= sequences && 50 * packs >= sequences && 200 * refused[17] >= sequences && 50 * refused[18] >= sequences && 20 * refused[3] >= sequences,
+    for (door = WORK_STRIKE; door < WORK_DOORS; door++) tell(50 * done[door] >= sequences, "the share of calls that are not refused");
+    tell(10 * carried >= sequences && 100 * carried_by_add >= sequences && 100 * only >= sequences && 50 * packs >= sequences && 200 * refused[17] >= sequences && 50 * refused[18] >= sequences && 20 * refused[3] >= sequences,
               "the share of claims that are carried, and of the refusals");
-    printf("%lu sequences, %lu calls: %lu strikes, %lu adds (%lu after row 1024), %lu merges, %lu checks, builds and paths; refused 3 %lu times, 17 %lu, 18 %lu\n", sequences, calls,
-           done[WORK_STRIKE], done[WORK_ADD], packs, done[WORK_MERGE], done[WORK_CST] + done[WORK_OTHER] + done[WORK_MST1] + done[WORK_PATHS], refused[3], refused[17], refused[18]);
-    printf("%lu passed claims carried through the numbers, %lu of them by an add that packs, %lu of them the only cheapest network\n", carried, carried_by_add, only);
-    printf("%lu passed, %lu failed\n", work_passed, work_failed);
-    return work_failed != 0;
+    printf("%lu sequences, %lu calls: %lu strikes, %lu adds (%lu after row 1024), %lu merges, %lu checks, builds and paths; ", sequences, calls,
+           done[WORK_STRIKE], done[WORK_ADD], packs, done[WORK_MERGE], done[WORK_CST] + done[WORK_OTHER] + done[WORK_MST1] + done[WORK_PATHS]);
+    print_refused(numbers);
+    printf("\n%lu passed claims carried through the numbers, %lu of them by an add that packs, %lu of them the only cheapest network\n", carried, carried_by_add, only);
+    return told();
 }

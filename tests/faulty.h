@@ -1,6 +1,6 @@
-/* What the faulty doors of districts, mends and outlets have in common: which fault is asked for, and the table as it is lent. */
-#ifndef TESTS_FAULTY_PLAN_H
-#define TESTS_FAULTY_PLAN_H
+/* What faulty doors have in common: which fault is asked for, the columns as they are lent, the rows in use that a door regards, and the table. */
+#ifndef TESTS_FAULTY_H
+#define TESTS_FAULTY_H
 
 #include <stdlib.h>
 #include <string.h>
@@ -10,13 +10,30 @@
 #define IN_USE const uint64_t *in_use, size_t in_use_words
 #define COLUMNS const uint8_t *left, size_t left_len, const uint8_t *right, size_t right_len, const uint8_t *weight, size_t weight_len
 #define LENT left, left_len, right, right_len, weight, weight_len
+#define CLAIM const uint8_t *mark, size_t mark_len
 #define MARK uint8_t *mark, size_t mark_len
 #define ANSWER uint8_t *answer, size_t answer_len
 
+/* Whether the environment's FAULT names this fault. */
 static inline int fault(const char *name) {
     static const char *chosen;
     if (!chosen) chosen = getenv("FAULT") ? getenv("FAULT") : "none";
     return strcmp(chosen, name) == 0;
+}
+
+/* All rows in use, and those in use with one more; the words as they are lent where they are not sixteen, or where there is no such row. */
+static inline const uint64_t *all_rows(IN_USE) {
+    static uint64_t all[STAR_COLUMN_WORDS];
+    memset(all, 255, sizeof all);
+    return in_use_words == STAR_COLUMN_WORDS ? all : in_use;
+}
+
+static inline const uint64_t *one_row_more(IN_USE, uint32_t row) {
+    static uint64_t more[STAR_COLUMN_WORDS];
+    if (in_use_words != STAR_COLUMN_WORDS || row < 1 || row > STAR_MAX_ROWS) return in_use;
+    memcpy(more, in_use, sizeof more);
+    star_set_in_use(more, row, 1);
+    return more;
 }
 
 /* A table whose lengths are right: m is its number of rows, and in_use is NULL for a plain one. */
