@@ -64,6 +64,7 @@ static void tell_numbers(const struct table *t) {
 /* The words LEFT RIGHT PRICE as a trench and as the line of it. */
 static int new_trench(const struct options *with, struct trench *new, struct message *as) {
     uint32_t end[2];
+    char price[FIGURES];
     int i, status = 0;
     if (with->count != 3) return misused("two junctions and a price follow the file of", "add");
     for (i = 0; i < 2 && status == 0; i++) status = junction_named(with->words[i], &end[i]);
@@ -71,7 +72,7 @@ static int new_trench(const struct options *with, struct trench *new, struct mes
     if (status != 0) return status;
     new->left = (uint8_t)end[0];
     new->right = (uint8_t)end[1];
-    say(as, "%u %u %s 0", (unsigned)end[0], (unsigned)end[1], with->words[2]);
+    say(as, "%u %u %s 0", (unsigned)end[0], (unsigned)end[1], price_figures(price, new->price)); /* the word itself may be of any length */
     return 0;
 }
 
