@@ -25,13 +25,6 @@ static int too_many(const struct table *t) {
     return refused(&words);
 }
 
-static int write_edit(const struct table *t, struct output *o) {
-    FILE *to = output_open(o);
-    if (!to) return EXIT_UNWRITTEN;
-    edit_write(to, t, &edit);
-    return EXIT_PASSED;
-}
-
 int command_strike(struct table *t, const struct options *with, struct output *o) {
     struct message words = {{0}, 0};
     int i, status = too_many(t);
@@ -47,7 +40,7 @@ int command_strike(struct table *t, const struct options *with, struct output *o
         }
         edit.strike[trench - 1] = 1;
     }
-    return write_edit(t, o);
+    return edit_write(o, t, &edit);
 }
 
 /* Tells the numbers of trenches that have new ones. */
@@ -97,7 +90,7 @@ int command_add(struct table *t, const struct options *with, struct output *o) {
     edit.n = t->n;
     if (new.left > edit.n) edit.n = new.left;
     if (new.right > edit.n) edit.n = new.right;
-    status = write_edit(t, o);
+    status = edit_write(o, t, &edit);
     if (status != 0) return status;
     if (edit.merge) tell_numbers(t);
     fprintf(stderr, "trench %zu is new\n", at);
@@ -117,7 +110,7 @@ int command_merge(struct table *t, const struct options *with, struct output *o)
     }
     edit.merge = 1;
     edit.n = t->n;
-    status = write_edit(t, o);
+    status = edit_write(o, t, &edit);
     if (status == 0) tell_numbers(t);
     return status;
 }

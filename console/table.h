@@ -33,6 +33,7 @@ struct table {
     struct place count;  /* the number in the line 'junctions N', else the largest junction named; line 0 if there is neither */
     int told;            /* whether a line 'junctions N' stands in the file */
     struct span text;    /* the file, for the commands that change it or hand it to a door */
+    size_t order_mark;   /* the bytes of a byte order mark, which stand before the text */
     int stp;             /* whether the file is an STP text */
 };
 

@@ -60,5 +60,28 @@ try changed 0 '^exit 0' '' strike -o "$work/changed.txt" "$work/changed.txt" 4
 try changed-again 2 'Refused \(18\): .*changed.txt:5: trench 4 is struck already' '' strike -o "$work/changed.txt" "$work/changed.txt" 2 4
 try changed-kept 0 '^Total 13$' '' build "$work/changed.txt"
 
+# A byte order mark and the ends of lines stay as they are, and a new line ends as the first one does.
+bytes() { # NAME TEXT EXPECTED COMMAND WORDS..: the texts as printf takes them
+    local name=$1 text=$2 expected=$3 command=$4
+    shift 4
+    printf "$text" | "${star[@]}" "$command" - "$@" 2>/dev/null | cmp - <(printf "$expected") >"$work/all"
+    verdict "$name" $?
+}
+order='\xef\xbb\xbf'
+bytes bytes-strike "${order}1 2 5\r\n2 3 4\r\n" "${order}1 2 5\r\nstruck 2 3 4\r\n" strike 2
+bytes bytes-add "${order}1 2 5\r\n2 3 4\r\n" "${order}1 2 5\r\n2 3 4\r\n1 3 6 0\r\n" add 1 3 6
+bytes bytes-add-struck "${order}1 2 5\r\nstruck 2 3 4\r\n" "${order}junctions 3\r\n1 2 5\r\n1 3 6 0\r\n" add 1 3 6
+bytes bytes-add-open "1 2 5\r\n2 3 4" "1 2 5\r\n2 3 4\r\n1 3 6 0\r\n" add 1 3 6
+bytes bytes-add-cr "1 2 5\r2 3 4\r" "1 2 5\r2 3 4\r1 3 6 0\r" add 1 3 6
+bytes bytes-merge "${order}struck 1 2 5\r\n2 3 4\r\n" "${order}junctions 3\r\n2 3 4\r\n" merge
+bytes bytes-mend "${order}1 2 5\r\n2 3 4 0 # yes\r\n" "${order}1 2 5 1\r\n2 3 4 1 # yes\r\n" mend
+
+# Where the file cannot be written, nothing is told of its changes.
+for words in "add %s $yard 2 4 7" "merge %s $struck" 'mend %s console/examples/old.txt'; do
+    try "unwritten: $words" 5 '^/dev/full: it could not be written: No space left' '' ${words/\%s/-o /dev/full}
+    [ "$(wc -l <"$work/err")" = 1 ]
+    verdict "unwritten, and nothing told: $words" $?
+done
+
 echo "$passed passed, $failed failed"
 [ "$failed" = 0 ]
