@@ -35,7 +35,7 @@ int command_strike(struct table *t, const struct options *with, struct output *o
         status = trench_named(with->words[i], &trench);
         if (status != 0) return status;
         if (table_strike(t, trench).kind != STAR_PASSED) {
-            refusal_of_strike(&words, t, trench);
+            refusal_of_strike(&words, t, trench, with->words[i]);
             return refused(&words);
         }
         edit.strike[trench - 1] = 1;

@@ -10,6 +10,7 @@ struct options {
     int table;     /* build, districts, outlets: the table with the chosen trenches marked */
     int all;       /* explain: every trench that is left out */
     size_t trench; /* explain: this one; 0 for none */
+    char *named;   /* explain: the word that names it */
     char **words;  /* quote, breaking, which, stretch, strike, add, districts, outlets: what follows the file */
     int count;
 };

@@ -106,7 +106,7 @@ static int operand(struct request *r, char *word, int before) {
     else if (takes(r, 'w')) r->with.words[r->with.count++] = word;
     else if (before > 1 || !takes(r, 'n')) return misused("one file is read, and there is also", word);
     else if (!text_number(number, &trench) || trench == 0) return misused("a trench is named by its number, from 1 on, and not by", word);
-    else r->with.trench = trench;
+    else r->with.trench = trench, r->with.named = word;
     return 0;
 }
 
@@ -170,7 +170,7 @@ static int tell(struct request *r, const char *text) {
 }
 
 int main(int count, char **words) {
-    struct request r = {NULL, NULL, {0, 0, 0, NULL, 0}, {NULL, NULL}, 0};
+    struct request r = {NULL, NULL, {0, 0, 0, NULL, NULL, 0}, {NULL, NULL}, 0};
     struct message version = {{0}, 0};
     int status;
     if (count < 2) {

@@ -15,9 +15,9 @@ static int told(struct output *o, const struct message *words, int status) {
 }
 
 /* A refusal, which is a question's result. */
-static int refused(struct output *o, const struct table *t, size_t trench, struct star_answer a) {
+static int refused(struct output *o, const struct table *t, size_t trench, const char *word, struct star_answer a) {
     struct message words = {{0}, 0};
-    if (a.number == STAR_BAD_SOURCE) refusal_of_asked(&words, t, trench);
+    if (a.number == STAR_BAD_SOURCE) refusal_of_asked(&words, t, trench, word);
     else refusal_words(&words, t, a);
     return told(o, &words, EXIT_REFUSED);
 }
@@ -36,7 +36,7 @@ int command_quote(struct table *t, const struct options *with, struct output *o)
     q = table_quote(t, trench, price);
     if (q.kind != STAR_PASSED) {
         struct star_answer a = {STAR_REFUSED, q.number, q.place, 0, 0, 0};
-        return refused(o, t, trench, a);
+        return refused(o, t, trench, with->words[0], a);
     }
     say_trench(&words, t, trench);
     say(&words, " at the new price %s:\nThe cheapest network costs %s today and %s at the new price: ", price_figures(figures[0], price), amount_figures(figures[1], q.before),
@@ -95,7 +95,7 @@ int command_breaking(struct table *t, const struct options *with, struct output 
     status = trench_named(with->words[0], &trench);
     if (status != 0) return status;
     a = table_breaking(t, trench);
-    if (a.kind == STAR_REFUSED) return refused(o, t, trench, a);
+    if (a.kind == STAR_REFUSED) return refused(o, t, trench, with->words[0], a);
     say_trench(&words, t, trench);
     if (a.kind == STAR_PASSED) say_breaking(&words, t, trench, a.amount);
     else {

@@ -46,7 +46,7 @@ try first-build 0 '^Total ' '' build "$work/first.txt"
 # Changes: usage, STP files, a file that is changed in its place.
 try strike-no-number 4 "the number of a trench follows the file of 'strike'" '' strike $yard
 try strike-word 4 "a trench is named by its number, from 1 on, and not by 'x'" '' strike $yard 1 x
-try strike-large 2 'Refused \(18\): .*there is no trench 4294967295 to strike' '' strike $yard 99999999999
+try strike-large 2 'Refused \(18\): .*there is no trench 99999999999 to strike' '' strike $yard 99999999999
 try add-few 4 "two junctions and a price follow the file of 'add'" '' add $yard 1 2
 try add-many 4 "two junctions and a price follow the file of 'add'" '' add $yard 1 2 3 4
 try add-256 4 "a junction is a number from 1 to 255, and not '256'" '' add $yard 1 256 3

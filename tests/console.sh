@@ -58,6 +58,7 @@ try explain-city 0 '^760 more are left out: 0 that save, 0 that cost as much' ''
 [ "$(wc -l <"$work/out")" -lt 40 ]
 verdict explain-city-short $?
 try explain-none 4 'there is no trench 6; the table has 5' '' explain $yard 6
+try explain-large 4 'there is no trench 99999999999; the table has 5' '' explain $yard 99999999999
 try explain-zero 4 "a trench is named by its number, from 1 on, and not by '0'" '' explain $yard 0
 try explain-word 4 "a trench is named by its number, from 1 on, and not by 'x'" '' explain $yard x
 try explain-files 4 "one file is read, and there is also '3'" '' explain $yard 2 3
