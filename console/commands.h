@@ -23,7 +23,7 @@ int command_dot(struct table *t, const struct options *with, struct output *o); 
 int command_page(struct table *t, const struct options *with, struct output *o);    /* writes a page of pictures that explain */
 int command_table(struct table *t, const struct options *with, struct output *o);   /* writes the table */
 int command_quote(struct table *t, const struct options *with, struct output *o);   /* the cheapest total before and after a new price */
-int command_breaking(struct table *t, const struct options *with, struct output *o); /* the price up to which a trench stays in the plan */
+int command_breaking(struct table *t, const struct options *with, struct output *o); /* the price up to which a cheapest network has a trench */
 int command_which(struct table *t, const struct options *with, struct output *o);   /* which of two plans over one table costs less */
 int command_stretch(struct table *t, const struct options *with, struct output *o); /* the dearest trench between two junctions */
 int command_digs(struct table *t, const struct options *with, struct output *o);    /* writes the dig list */

@@ -20,7 +20,7 @@ static const char HELP[] =
     "       star table [FILE]          write the trenches as a table; those of an STP file are not marked\n"
     "       star digs [FILE]           write the dig list for the site: a line a trench of the cheapest network, and the total\n"
     "       star quote FILE TRENCH PRICE     say what the cheapest network costs today, and when this trench has the new price\n"
-    "       star breaking FILE TRENCH  say up to which price this trench stays in the plan, and which one takes its place above\n"
+    "       star breaking FILE TRENCH  say up to which price a cheapest network has this trench, and which one takes its place above\n"
     "       star which FILE FILE       say which of two plans costs less; the files are the same but for their marks\n"
     "       star stretch FILE JUNCTION JUNCTION   list the plan's trenches between two junctions, and name the dearest\n"
     "       star strike FILE TRENCH..  write the file with these trenches struck\n"

@@ -68,16 +68,16 @@ static void say_total(struct message *to, const struct table *t) {
     say(to, "\nThe cheapest network costs %s today", amount_figures(total, table_mst1(&copy).amount));
 }
 
-/* A trench with a breaking price: up to it, it stays in a cheapest network; above, another takes its place. */
+/* A trench with a breaking price: up to it, a cheapest network has the trench; above, none has, and another takes its place. */
 static void say_breaking(struct message *to, const struct table *t, size_t i, int64_t breaking) {
     int64_t total = 0;
     size_t instead = instead_of(t, i, &total);
     char figures[2][FIGURES];
     int stays = table_cost(t, i) <= breaking;
     amount_figures(figures[0], breaking);
-    if (!stays) say(to, " is in no cheapest network at this price. It comes into the plan at %s%s; above, ", figures[0], breaking == STAR_MIN_PRICE ? ", the least price" : " or less");
-    else if (breaking == STAR_MAX_PRICE) say(to, " stays in the plan at every price; at the largest, %s, ", figures[0]);
-    else say(to, " stays in the plan up to %s; above, ", figures[0]);
+    if (!stays) say(to, " is in no cheapest network at this price. It is in a cheapest network at %s%s; above, ", figures[0], breaking == STAR_MIN_PRICE ? ", the least price" : " or less");
+    else if (breaking == STAR_MAX_PRICE) say(to, " is in a cheapest network at every price; at the largest, %s, ", figures[0]);
+    else say(to, " is in a cheapest network up to %s; above, ", figures[0]);
     if (instead > 0) say_trench(to, t, instead);
     else say(to, "another trench");
     say(to, stays && breaking == STAR_MAX_PRICE ? " costs as much." : stays ? " takes its place." : " stands in its place.");

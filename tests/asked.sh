@@ -8,9 +8,9 @@ bridge=console/examples/bridge.txt city=console/examples/city.txt first=console/
 # The examples.
 try quote 0 '^The cheapest network costs 12 today and 13 at the new price: 1 more\.$' '' quote $yard 4 9
 try quote-city 0 '^The cheapest network costs 130316 today and ' '' quote $city 5 100000
-try breaking 0 'stays in the plan up to 5; above, trench 1 \(1-2, price 5\) takes its place' '' breaking $yard 4
+try breaking 0 'is in a cheapest network up to 5; above, trench 1 \(1-2, price 5\) takes its place' '' breaking $yard 4
 try breaking-bridge 0 'no other route; it is in every network' '' breaking $bridge 4
-try breaking-city 0 'stays in the plan up to [0-9]+; above, trench [0-9]+ ' '' breaking $city 5
+try breaking-city 0 'is in a cheapest network up to [0-9]+; above, trench [0-9]+ ' '' breaking $city 5
 try which 0 '^The second plan stands, console/examples/office-b.txt: it costs 17 and the first 19, 2 more\.$' '' which $first $second
 try which-turned 0 '^The first plan stands, console/examples/office-b.txt: it costs 17 and the second 19, 2 more\.$' '' which $second $first
 try which-standard-input 0 'The first plan stands, .*office-b.txt' "$(sed 's/$/\\n/' $first | tr -d '\n')" which $second -
