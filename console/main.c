@@ -45,11 +45,12 @@ static const char HELP[] =
     "\n"
     "FILE may be a SteinLib STP file too, told by its first word, 33D32945: its junctions are the Nodes of the\n"
     "section Graph, its trenches the E lines. It has at most 65536 bytes. It marks no trench, so there is\n"
-    "nothing to check: build and digs choose trenches, quote and breaking need no marks, and table writes a\n"
-    "table in which they can be marked.\n"
+    "nothing to check: build, digs, districts and outlets choose trenches, quote and breaking need no marks,\n"
+    "draw, dot and page show them unmarked, and table writes a table in which they can be marked.\n"
     "\n"
-    "Exit status: 0 passed, built, told, drawn or written; 1 a cheaper set exists (check, stretch); 2 the table or the plan was\n"
-    "refused; 3 the input could not be read; 4 wrong usage; 5 the output could not be written.\n";
+    "Exit status: 0 passed, built, told, drawn or written; 1 a cheaper set exists (check, stretch); 2 the table, the text, the plan\n"
+    "or what was asked was refused; 3 the input could not be read, or the two files of 'which' have not the same trenches; 4 wrong usage;\n"
+    "5 the output could not be written.\n";
 
 struct command {
     const char *name;
@@ -77,7 +78,7 @@ static const struct command COMMANDS[] = {
     {"add", command_add, "w", LINES, WRITING, NULL},
     {"merge", command_merge, "", LINES, WRITING, NULL},
     {"districts", command_districts, "tw", FILE_ALONE, WORDS, NULL},
-    {"mend", command_mend, "", PLAN, WRITING, "mend"},
+    {"mend", command_mend, "", LINES, WRITING, NULL},
     {"outlets", command_outlets, "tw", FILE_ALONE, WORDS, NULL},
 };
 
@@ -141,7 +142,7 @@ static int run(struct request *r) {
     int status = input_open(&in, r->file, &fault);
     if (status == 0 && in.stp && (r->command->needs == PLAN || r->command->needs == LINES)) {
         say_place(&fault, in.file, 0);
-        if (r->command->needs == LINES) say(&fault, "an STP file has no struck trenches. 'star table' writes a table, whose lines %s can change.", r->command->name);
+        if (r->command->needs == LINES) say(&fault, "an STP file is not changed. 'star table' writes a table, whose lines %s can change.", r->command->name);
         else say(&fault, "an STP file marks no trench, so there is no plan to %s. 'star build' chooses the cheapest trenches;\n"
                          "'star table' writes a table in which the trenches of the plan can be marked.", r->command->plan);
         status = EXIT_UNREADABLE;

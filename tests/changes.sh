@@ -54,7 +54,7 @@ try add-0 4 "a junction is a number from 1 to 255, and not '0'" '' add $yard 0 2
 try add-price 4 "a price is a whole number from -2147483648 to 2147483647, and not '2147483648'" '' add $yard 1 2 2147483648
 try add-least 0 '^2 4 -2147483648 0$' '' add $yard 2 4 -2147483648
 try merge-two 4 "one file is read, and there is also '$dear'" '' merge $yard $dear
-for words in 'strike %s 1' 'add %s 1 2 3' 'merge %s'; do try "stp: $words" 3 "an STP file has no struck trenches. 'star table' writes a table" '' ${words/\%s/$street}; done
+for words in 'strike %s 1' 'add %s 1 2 3' 'merge %s'; do try "stp: $words" 3 "an STP file is not changed\. 'star table' writes a table, whose lines ${words%% *} can change" '' ${words/\%s/$street}; done
 cp $yard "$work/changed.txt"
 try changed 0 '^exit 0' '' strike -o "$work/changed.txt" "$work/changed.txt" 4
 try changed-again 2 'Refused \(18\): .*changed.txt:5: trench 4 is struck already' '' strike -o "$work/changed.txt" "$work/changed.txt" 2 4

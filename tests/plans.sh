@@ -50,7 +50,7 @@ try districts-missing 3 'nowhere.txt: No such file' '' districts nowhere.txt 5
 try districts-option 4 "unknown option '--all'" '' districts --all $yard 5
 try mend-two 4 "one file is read, and there is also '$dear'" '' mend $yard $dear
 try mend-option 4 "unknown option '--table'" '' mend --table $yard
-try mend-stp 3 'no plan to mend' '' mend $street
+try mend-stp 3 'an STP file is not changed\. .* whose lines mend can change' '' mend $street
 try outlets-few 4 "a junction and a number of trenches follow the file of 'outlets'" '' outlets $yard 1
 try outlets-more 4 "a junction and a number of trenches follow the file of 'outlets'" '' outlets $yard 1 2 3
 try outlets-word 4 "a junction is a number from 1 to 255, and not 'x'" '' outlets $yard x 1
