@@ -75,6 +75,9 @@ struct star_answer table_merge(const struct table *t, uint32_t *numbers);
 /* Writes a line for each trench in use from one number to another that is marked 1 in a column, and gives the sum of their prices. */
 int64_t table_list(FILE *to, const struct table *t, const uint8_t *mark, size_t from, size_t last);
 
+/* Says the number of junctions; one that is above all that are read as it stands in the file. */
+void table_junctions(struct message *to, const struct table *t);
+
 /* The number of marked trenches, and the sum of their prices. */
 size_t table_marks(const struct table *t);
 int64_t table_total(const struct table *t);

@@ -23,11 +23,10 @@ static void say_line(struct message *to, const struct table *t, size_t i) {
     else say_trench(to, t, i);
 }
 
-/* 'FILE:LINE: 5 junctions'; the number as it stands in the file. */
+/* 'FILE:LINE: 5 junctions'. */
 static void say_junctions(struct message *to, const struct table *t) {
     say_place(to, t->file, t->count.line);
-    if (t->count.line > 0) say_word(to, t->count.text);
-    else say(to, "0");
+    table_junctions(to, t);
     say(to, t->n == 1 ? " junction" : " junctions");
 }
 
