@@ -25,13 +25,6 @@ static int too_many(const struct table *t) {
     return refused(&words);
 }
 
-static int write_edit(const struct table *t, struct output *o) {
-    FILE *to = output_open(o);
-    if (!to) return EXIT_UNWRITTEN;
-    edit_write(to, t, &edit);
-    return EXIT_PASSED;
-}
-
 int command_strike(struct table *t, const struct options *with, struct output *o) {
     struct message words = {{0}, 0};
     int i, status = too_many(t);
@@ -42,12 +35,12 @@ int command_strike(struct table *t, const struct options *with, struct output *o
         status = trench_named(with->words[i], &trench);
         if (status != 0) return status;
         if (table_strike(t, trench).kind != STAR_PASSED) {
-            refusal_of_strike(&words, t, trench);
+            refusal_of_strike(&words, t, trench, with->words[i]);
             return refused(&words);
         }
         edit.strike[trench - 1] = 1;
     }
-    return write_edit(t, o);
+    return edit_write(o, t, &edit);
 }
 
 /* Tells the numbers of trenches that have new ones. */
@@ -64,6 +57,7 @@ static void tell_numbers(const struct table *t) {
 /* The words LEFT RIGHT PRICE as a trench and as the line of it. */
 static int new_trench(const struct options *with, struct trench *new, struct message *as) {
     uint32_t end[2];
+    char price[FIGURES];
     int i, status = 0;
     if (with->count != 3) return misused("two junctions and a price follow the file of", "add");
     for (i = 0; i < 2 && status == 0; i++) status = junction_named(with->words[i], &end[i]);
@@ -71,7 +65,7 @@ static int new_trench(const struct options *with, struct trench *new, struct mes
     if (status != 0) return status;
     new->left = (uint8_t)end[0];
     new->right = (uint8_t)end[1];
-    say(as, "%u %u %s 0", (unsigned)end[0], (unsigned)end[1], with->words[2]);
+    say(as, "%u %u %s 0", (unsigned)end[0], (unsigned)end[1], price_figures(price, new->price)); /* the word itself may be of any length */
     return 0;
 }
 
@@ -96,7 +90,7 @@ int command_add(struct table *t, const struct options *with, struct output *o) {
     edit.n = t->n;
     if (new.left > edit.n) edit.n = new.left;
     if (new.right > edit.n) edit.n = new.right;
-    status = write_edit(t, o);
+    status = edit_write(o, t, &edit);
     if (status != 0) return status;
     if (edit.merge) tell_numbers(t);
     fprintf(stderr, "trench %zu is new\n", at);
@@ -116,7 +110,7 @@ int command_merge(struct table *t, const struct options *with, struct output *o)
     }
     edit.merge = 1;
     edit.n = t->n;
-    status = write_edit(t, o);
+    status = edit_write(o, t, &edit);
     if (status == 0) tell_numbers(t);
     return status;
 }

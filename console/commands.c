@@ -36,7 +36,7 @@ static int write_table(const struct table *t, struct output *o) {
 static void say_saving(struct message *to, struct star_answer before, int64_t marked, int64_t total) {
     char figures[2][FIGURES];
     say(to, "The marked trenches cost %s", amount_figures(figures[0], marked));
-    if (before.kind == STAR_REFUSED) say(to, ", and are no network: %s", star_refusal_text(before.number));
+    if (before.kind == STAR_REFUSED) say(to, ", and are no network: they %s", before.number == STAR_BAD_MARK_COUNT ? "are not one fewer than the junctions" : "do not reach every junction");
     else if (marked == total) say(to, " too");
     else say(to, ": these save %s", amount_figures(figures[1], marked - total));
     say(to, ".");

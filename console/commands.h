@@ -10,6 +10,7 @@ struct options {
     int table;     /* build, districts, outlets: the table with the chosen trenches marked */
     int all;       /* explain: every trench that is left out */
     size_t trench; /* explain: this one; 0 for none */
+    char *named;   /* explain: the word that names it */
     char **words;  /* quote, breaking, which, stretch, strike, add, districts, outlets: what follows the file */
     int count;
 };
@@ -22,7 +23,7 @@ int command_dot(struct table *t, const struct options *with, struct output *o); 
 int command_page(struct table *t, const struct options *with, struct output *o);    /* writes a page of pictures that explain */
 int command_table(struct table *t, const struct options *with, struct output *o);   /* writes the table */
 int command_quote(struct table *t, const struct options *with, struct output *o);   /* the cheapest total before and after a new price */
-int command_breaking(struct table *t, const struct options *with, struct output *o); /* the price up to which a trench stays in the plan */
+int command_breaking(struct table *t, const struct options *with, struct output *o); /* the price up to which a cheapest network has a trench */
 int command_which(struct table *t, const struct options *with, struct output *o);   /* which of two plans over one table costs less */
 int command_stretch(struct table *t, const struct options *with, struct output *o); /* the dearest trench between two junctions */
 int command_digs(struct table *t, const struct options *with, struct output *o);    /* writes the dig list */

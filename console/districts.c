@@ -24,30 +24,39 @@ static int ends_read(const struct options *with, uint32_t ends[ENDS]) {
     return 0;
 }
 
-/* Why the ends are no districts of the table. */
-static void say_runs(struct message *to, const struct table *t, const uint32_t *ends, size_t count) {
-    size_t i;
+/* Why the ends are no districts of the table. They are told as they were given: two that are read as UINT32_MAX, the largest, may differ. */
+static void say_runs(struct message *to, const struct table *t, const uint32_t *ends, const struct options *with) {
+    size_t count = (size_t)with->count, i;
     refusal_opens(to, STAR_BAD_RUNS, t->file, 0);
     if (count > STAR_MAX_RUNS) {
         say(to, "there are %zu districts; at most %d are taken.", count, STAR_MAX_RUNS);
         return;
     }
     for (i = 0; i < count; i++)
-        if (ends[i] <= (i ? ends[i - 1] : 0)) {
-            say(to, "district %zu ends with trench %u", i + 1, (unsigned)ends[i]);
-            if (i > 0) say(to, ", and district %zu before it with trench %u.", i, (unsigned)ends[i - 1]);
-            else say(to, "; trenches are counted from 1.");
+        if (ends[i] <= (i ? ends[i - 1] : 0) && ends[i] < UINT32_MAX) {
+            say(to, "district %zu ends with trench ", i + 1);
+            say_given(to, with->words[i]);
+            if (i == 0) say(to, "; trenches are counted from 1.");
+            else {
+                say(to, ", and district %zu before it with trench ", i);
+                say_given(to, with->words[i - 1]);
+                say(to, ".");
+            }
             return;
         }
     if (count == 0) say(to, "no district is given; each is given by the number of its last trench, the last one by %zu.", t->m);
-    else say(to, "the last district ends with trench %u; it has to end with the last trench, and the table has %zu.", (unsigned)ends[count - 1], t->m);
+    else {
+        say(to, "the last district ends with trench ");
+        say_given(to, with->words[count - 1]);
+        say(to, "; it has to end with the last trench, and the table has %zu.", t->m);
+    }
 }
 
 /* A refusal is the result, unless that is to be a table. */
-static int refused(FILE *to, const struct table *t, struct star_answer a, const uint32_t *ends, size_t count) {
+static int refused(FILE *to, const struct table *t, struct star_answer a, const uint32_t *ends, const struct options *with) {
     struct message words = {{0}, 0};
     if (!to) return EXIT_UNWRITTEN;
-    if (a.number == STAR_BAD_RUNS) say_runs(&words, t, ends, count);
+    if (a.number == STAR_BAD_RUNS) say_runs(&words, t, ends, with);
     else refusal_words(&words, t, a);
     fprintf(to, "%s\n", words.text);
     return EXIT_REFUSED;
@@ -66,7 +75,7 @@ int command_districts(struct table *t, const struct options *with, struct output
     int status = ends_read(with, ends);
     if (status != 0) return status;
     a = table_districts(t, ends, count, forests);
-    if (a.kind != STAR_PASSED) return refused(with->table ? stderr : output_open(o), t, a, ends, count);
+    if (a.kind != STAR_PASSED) return refused(with->table ? stderr : output_open(o), t, a, ends, with);
     to = output_open(o);
     if (!to) return EXIT_UNWRITTEN;
     if (with->table) {

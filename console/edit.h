@@ -1,7 +1,9 @@
-/* Changes to a table file: lines that are struck, left out, replaced, added or marked anew. All else stands as it did, comments too. */
+/* Changes to a table file: lines that are struck, left out, replaced, added or marked anew. All else stands as it did, comments, a byte order mark and
+   the ends of lines too. */
 #ifndef CONSOLE_EDIT_H
 #define CONSOLE_EDIT_H
 
+#include "output.h"
 #include "table.h"
 
 struct edit {
@@ -13,7 +15,8 @@ struct edit {
     uint32_t n;           /* the number of junctions that a line 'junctions N' says, where lines are left out or replaced and none does */
 };
 
-/* Writes the table's file as it is after the changes. */
-void edit_write(FILE *to, const struct table *t, const struct edit *e);
+/* Writes the table's file as it is after the changes, and closes the output: what is told of the changes after that is told of a file that was
+   written. Gives a status of status.h. */
+int edit_write(struct output *o, const struct table *t, const struct edit *e);
 
 #endif

@@ -121,7 +121,9 @@ int command_explain(struct table *t, const struct options *with, struct output *
     struct message words = {{0}, 0};
     FILE *to;
     if (with->trench > t->m) {
-        fprintf(stderr, "star: there is no trench %zu; the table has %zu\n", with->trench, t->m);
+        say(&words, "there is no trench ");
+        say_given(&words, with->named);
+        fprintf(stderr, "star: %s; the table has %zu\n", words.text, t->m);
         return EXIT_USAGE;
     }
     if (with->trench > 0 && t->m <= STAR_MAX_ROWS && t->struck[with->trench - 1]) {

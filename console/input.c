@@ -68,6 +68,7 @@ int input_table(const struct input *in, struct table *t, struct message *fault) 
     memset(t, 0, sizeof *t);
     t->file = in->file;
     t->text = in->text;
+    t->order_mark = (size_t)(in->text.at - in->bytes);
     t->stp = in->stp;
     if (in->stp) return stp_read(t, in->text, fault) ? 0 : EXIT_REFUSED;
     return table_read(t, in->text, fault) ? 0 : EXIT_UNREADABLE;

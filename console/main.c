@@ -20,7 +20,7 @@ static const char HELP[] =
     "       star table [FILE]          write the trenches as a table; those of an STP file are not marked\n"
     "       star digs [FILE]           write the dig list for the site: a line a trench of the cheapest network, and the total\n"
     "       star quote FILE TRENCH PRICE     say what the cheapest network costs today, and when this trench has the new price\n"
-    "       star breaking FILE TRENCH  say up to which price this trench stays in the plan, and which one takes its place above\n"
+    "       star breaking FILE TRENCH  say up to which price a cheapest network has this trench, and which one takes its place above\n"
     "       star which FILE FILE       say which of two plans costs less; the files are the same but for their marks\n"
     "       star stretch FILE JUNCTION JUNCTION   list the plan's trenches between two junctions, and name the dearest\n"
     "       star strike FILE TRENCH..  write the file with these trenches struck\n"
@@ -45,11 +45,12 @@ static const char HELP[] =
     "\n"
     "FILE may be a SteinLib STP file too, told by its first word, 33D32945: its junctions are the Nodes of the\n"
     "section Graph, its trenches the E lines. It has at most 65536 bytes. It marks no trench, so there is\n"
-    "nothing to check: build and digs choose trenches, quote and breaking need no marks, and table writes a\n"
-    "table in which they can be marked.\n"
+    "nothing to check: build, digs, districts and outlets choose trenches, quote and breaking need no marks,\n"
+    "draw, dot and page show them unmarked, and table writes a table in which they can be marked.\n"
     "\n"
-    "Exit status: 0 passed, built, told, drawn or written; 1 a cheaper set exists (check, stretch); 2 the table or the plan was\n"
-    "refused; 3 the input could not be read; 4 wrong usage; 5 the output could not be written.\n";
+    "Exit status: 0 passed, built, told, drawn or written; 1 a cheaper set exists (check, stretch); 2 the table, the text, the plan\n"
+    "or what was asked was refused; 3 the input could not be read, or the two files of 'which' have not the same trenches; 4 wrong usage;\n"
+    "5 the output could not be written.\n";
 
 struct command {
     const char *name;
@@ -77,7 +78,7 @@ static const struct command COMMANDS[] = {
     {"add", command_add, "w", LINES, WRITING, NULL},
     {"merge", command_merge, "", LINES, WRITING, NULL},
     {"districts", command_districts, "tw", FILE_ALONE, WORDS, NULL},
-    {"mend", command_mend, "", PLAN, WRITING, "mend"},
+    {"mend", command_mend, "", LINES, WRITING, NULL},
     {"outlets", command_outlets, "tw", FILE_ALONE, WORDS, NULL},
 };
 
@@ -106,7 +107,7 @@ static int operand(struct request *r, char *word, int before) {
     else if (takes(r, 'w')) r->with.words[r->with.count++] = word;
     else if (before > 1 || !takes(r, 'n')) return misused("one file is read, and there is also", word);
     else if (!text_number(number, &trench) || trench == 0) return misused("a trench is named by its number, from 1 on, and not by", word);
-    else r->with.trench = trench;
+    else r->with.trench = trench, r->with.named = word;
     return 0;
 }
 
@@ -141,7 +142,7 @@ static int run(struct request *r) {
     int status = input_open(&in, r->file, &fault);
     if (status == 0 && in.stp && (r->command->needs == PLAN || r->command->needs == LINES)) {
         say_place(&fault, in.file, 0);
-        if (r->command->needs == LINES) say(&fault, "an STP file has no struck trenches. 'star table' writes a table, whose lines %s can change.", r->command->name);
+        if (r->command->needs == LINES) say(&fault, "an STP file is not changed. 'star table' writes a table, whose lines %s can change.", r->command->name);
         else say(&fault, "an STP file marks no trench, so there is no plan to %s. 'star build' chooses the cheapest trenches;\n"
                          "'star table' writes a table in which the trenches of the plan can be marked.", r->command->plan);
         status = EXIT_UNREADABLE;
@@ -170,7 +171,7 @@ static int tell(struct request *r, const char *text) {
 }
 
 int main(int count, char **words) {
-    struct request r = {NULL, NULL, {0, 0, 0, NULL, 0}, {NULL, NULL}, 0};
+    struct request r = {NULL, NULL, {0, 0, 0, NULL, NULL, 0}, {NULL, NULL}, 0};
     struct message version = {{0}, 0};
     int status;
     if (count < 2) {

@@ -51,7 +51,7 @@ static void tell(const struct table *t, size_t steps, int64_t before) {
 int command_mend(struct table *t, const struct options *with, struct output *o) {
     int64_t before = table_total(t);
     struct star_answer a = table_mend(t, list);
-    FILE *to;
+    int status;
     (void)with;
     if (a.kind != STAR_PASSED) {
         struct message words = {{0}, 0};
@@ -59,10 +59,8 @@ int command_mend(struct table *t, const struct options *with, struct output *o) 
         fprintf(stderr, "%s\n", words.text);
         return EXIT_REFUSED;
     }
-    to = output_open(o);
-    if (!to) return EXIT_UNWRITTEN;
     edit.marks = 1;
-    edit_write(to, t, &edit);
-    tell(t, (size_t)a.amount, before);
-    return EXIT_PASSED;
+    status = edit_write(o, t, &edit);
+    if (status == 0) tell(t, (size_t)a.amount, before);
+    return status;
 }

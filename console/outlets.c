@@ -24,13 +24,13 @@ static void counts(const struct table *t, uint32_t junction, uint32_t *least, ui
     }
 }
 
-static void say_no_outlets(struct message *to, const struct table *t, uint32_t junction, uint32_t count) {
+static void say_no_outlets(struct message *to, const struct table *t, const uint32_t asked[2], char **words) {
     uint32_t least = 0, largest = 0;
-    counts(t, junction, &least, &largest);
+    counts(t, asked[0], &least, &largest);
     refusal_opens(to, STAR_NO_OUTLETS, t->file, 0);
     say(to, "no network has exactly ");
-    say_count(to, count, "trench", "trenches");
-    say(to, " at junction %u; ", (unsigned)junction);
+    say_given(to, words[1]);
+    say(to, " %s at junction %u; ", asked[1] == 1 ? "trench" : "trenches", (unsigned)asked[0]);
     if (least == largest) say(to, "every network has %u there.", (unsigned)least);
     else say(to, "from %u to %u are possible.", (unsigned)least, (unsigned)largest);
     if (t->strikes == 0) return;
@@ -38,14 +38,16 @@ static void say_no_outlets(struct message *to, const struct table *t, uint32_t j
     say_count(to, t->strikes, "struck trench is left out.", "struck trenches are left out.");
 }
 
-/* A refusal is the result, unless that is to be a table. */
-static int refused(FILE *to, const struct table *t, struct star_answer a, uint32_t junction, uint32_t count) {
+/* A refusal is the result, unless that is to be a table. Numbers are told as they were given. */
+static int refused(FILE *to, const struct table *t, struct star_answer a, const uint32_t asked[2], char **given) {
     struct message words = {{0}, 0};
     if (!to) return EXIT_UNWRITTEN;
-    if (a.number == STAR_NO_OUTLETS) say_no_outlets(&words, t, junction, count);
+    if (a.number == STAR_NO_OUTLETS) say_no_outlets(&words, t, asked, given);
     else if (a.number == STAR_BAD_SOURCE) {
         refusal_opens(&words, a.number, t->file, 0);
-        say(&words, "there is no junction %u; junctions are numbered from 1 to %u.", (unsigned)junction, (unsigned)t->n);
+        say(&words, "there is no junction ");
+        say_given(&words, given[0]);
+        say(&words, "; junctions are numbered from 1 to %u.", (unsigned)t->n);
     } else refusal_words(&words, t, a);
     fprintf(to, "%s\n", words.text);
     return EXIT_REFUSED;
@@ -81,7 +83,7 @@ int command_outlets(struct table *t, const struct options *with, struct output *
     int status = question(with, asked);
     if (status != 0) return status;
     a = table_outlets(t, asked[0], asked[1]);
-    if (a.kind != STAR_PASSED) return refused(with->table ? stderr : output_open(o), t, a, asked[0], asked[1]);
+    if (a.kind != STAR_PASSED) return refused(with->table ? stderr : output_open(o), t, a, asked, with->words);
     to = output_open(o);
     if (!to) return EXIT_UNWRITTEN;
     if (with->table) {

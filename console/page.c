@@ -125,7 +125,7 @@ static void panels(FILE *to, const struct table *t, struct shows s) {
     panel_equal(to, g, &other);
     fputs("</section>\n", to);
     heading(to, "limit", "4. 255 junctions at most", 1);
-    panel_limit(to, t->n);
+    panel_limit(to, t);
     fputs("</section>\n", to);
 }
 

@@ -238,13 +238,15 @@ static void tick(FILE *to, double x, int above, int side, const char *look, cons
             side < 0 ? "end" : "start", says);
 }
 
-void panel_limit(FILE *to, uint32_t n) {
+void panel_limit(FILE *to, const struct table *t) {
     enum { LEFT = 130, STEP = 3 };
     struct message words = {{0}, 0}, says = {{0}, 0};
-    double last = LEFT + STEP * STAR_MAX_JUNCTIONS, own = n <= STAR_MAX_JUNCTIONS ? LEFT + (double)STEP * n : last + 90;
+    double last = LEFT + STEP * STAR_MAX_JUNCTIONS, own = t->n <= STAR_MAX_JUNCTIONS ? LEFT + (double)STEP * t->n : last + 90;
     explain_limit(&words);
     plain(to, words.text);
-    say(&says, "A number line: 0 is no junction, 1 to 255 are junctions, 256 has no code. This table has %" PRIu32 ".", n);
+    say(&says, "A number line: 0 is no junction, 1 to 255 are junctions, 256 has no code. This table has ");
+    table_junctions(&says, t);
+    say(&says, ".");
     fprintf(to, "<div class=\"stage\"><svg id=\"limit-view\" role=\"img\" aria-labelledby=\"limit-view-says\" width=\"1060\" height=\"150\" viewBox=\"0 0 1060 150\"><title id=\"limit-view-says\">%s</title>\n", says.text);
     fprintf(to, "<path class=\"plan\" d=\"M%d 80H%.0f\"/><path class=\"beyond\" d=\"M%.0f 80H%.0f\"/>\n", LEFT + STEP, last, last, last + 110);
     fprintf(to, "<path class=\"no\" d=\"M%d 74l12 12m0-12l-12 12\"/>", LEFT - 6);
@@ -253,7 +255,8 @@ void panel_limit(FILE *to, uint32_t n) {
     tick(to, last, 1, -1, "plan", "255: the last junction");
     tick(to, last + STEP, 1, 1, "no", "256: no code");
     words.len = 0;
-    say(&words, "this table: %" PRIu32, n);
-    tick(to, own, 0, n > 220 ? -1 : 1, n <= STAR_MAX_JUNCTIONS ? "in" : "no", words.text);
+    say(&words, "this table: ");
+    table_junctions(&words, t);
+    tick(to, own, 0, t->n > 220 ? -1 : 1, t->n <= STAR_MAX_JUNCTIONS ? "in" : "no", words.text);
     fputs("</svg></div>\n", to);
 }

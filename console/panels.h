@@ -13,6 +13,6 @@ void panel_detours(FILE *to, const struct drawing *g);                   /* a ne
 void panel_equal(FILE *to, const struct drawing *g, const struct table *other); /* two cheapest networks of one total */
 
 /* A table's number of junctions beside the limit. */
-void panel_limit(FILE *to, uint32_t n);
+void panel_limit(FILE *to, const struct table *t);
 
 #endif

@@ -15,9 +15,9 @@ static int told(struct output *o, const struct message *words, int status) {
 }
 
 /* A refusal, which is a question's result. */
-static int refused(struct output *o, const struct table *t, size_t trench, struct star_answer a) {
+static int refused(struct output *o, const struct table *t, size_t trench, const char *word, struct star_answer a) {
     struct message words = {{0}, 0};
-    if (a.number == STAR_BAD_SOURCE) refusal_of_asked(&words, t, trench);
+    if (a.number == STAR_BAD_SOURCE) refusal_of_asked(&words, t, trench, word);
     else refusal_words(&words, t, a);
     return told(o, &words, EXIT_REFUSED);
 }
@@ -36,7 +36,7 @@ int command_quote(struct table *t, const struct options *with, struct output *o)
     q = table_quote(t, trench, price);
     if (q.kind != STAR_PASSED) {
         struct star_answer a = {STAR_REFUSED, q.number, q.place, 0, 0, 0};
-        return refused(o, t, trench, a);
+        return refused(o, t, trench, with->words[0], a);
     }
     say_trench(&words, t, trench);
     say(&words, " at the new price %s:\nThe cheapest network costs %s today and %s at the new price: ", price_figures(figures[0], price), amount_figures(figures[1], q.before),
@@ -68,16 +68,16 @@ static void say_total(struct message *to, const struct table *t) {
     say(to, "\nThe cheapest network costs %s today", amount_figures(total, table_mst1(&copy).amount));
 }
 
-/* A trench with a breaking price: up to it, it stays in a cheapest network; above, another takes its place. */
+/* A trench with a breaking price: up to it, a cheapest network has the trench; above, none has, and another takes its place. */
 static void say_breaking(struct message *to, const struct table *t, size_t i, int64_t breaking) {
     int64_t total = 0;
     size_t instead = instead_of(t, i, &total);
     char figures[2][FIGURES];
     int stays = table_cost(t, i) <= breaking;
     amount_figures(figures[0], breaking);
-    if (!stays) say(to, " is in no cheapest network at this price. It comes into the plan at %s%s; above, ", figures[0], breaking == STAR_MIN_PRICE ? ", the least price" : " or less");
-    else if (breaking == STAR_MAX_PRICE) say(to, " stays in the plan at every price; at the largest, %s, ", figures[0]);
-    else say(to, " stays in the plan up to %s; above, ", figures[0]);
+    if (!stays) say(to, " is in no cheapest network at this price. It is in a cheapest network at %s%s; above, ", figures[0], breaking == STAR_MIN_PRICE ? ", the least price" : " or less");
+    else if (breaking == STAR_MAX_PRICE) say(to, " is in a cheapest network at every price; at the largest, %s, ", figures[0]);
+    else say(to, " is in a cheapest network up to %s; above, ", figures[0]);
     if (instead > 0) say_trench(to, t, instead);
     else say(to, "another trench");
     say(to, stays && breaking == STAR_MAX_PRICE ? " costs as much." : stays ? " takes its place." : " stands in its place.");
@@ -95,7 +95,7 @@ int command_breaking(struct table *t, const struct options *with, struct output 
     status = trench_named(with->words[0], &trench);
     if (status != 0) return status;
     a = table_breaking(t, trench);
-    if (a.kind == STAR_REFUSED) return refused(o, t, trench, a);
+    if (a.kind == STAR_REFUSED) return refused(o, t, trench, with->words[0], a);
     say_trench(&words, t, trench);
     if (a.kind == STAR_PASSED) say_breaking(&words, t, trench, a.amount);
     else {

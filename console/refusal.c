@@ -33,18 +33,25 @@ static size_t first_between(const struct table *t, size_t i) {
     return k;
 }
 
-void refusal_of_strike(struct message *to, const struct table *t, size_t trench) {
+/* 'trench 3 ..' with its line where the table has it, and else 'there is no trench 9..; the table has 5.' */
+static void of_trench(struct message *to, const struct table *t, unsigned number, size_t trench, const char *word, const char *there, const char *purpose) {
     int struck = trench >= 1 && trench <= t->m && trench <= KEPT;
-    refusal_opens(to, STAR_NOT_IN_USE, t->file, struck ? t->row[trench - 1].line : 0);
-    if (struck) say(to, "trench %zu is struck already.", trench);
-    else say(to, "there is no trench %zu to strike; the table has %zu.", trench, t->m);
+    refusal_opens(to, number, t->file, struck ? t->row[trench - 1].line : 0);
+    if (struck) {
+        say(to, "trench %zu %s.", trench, there);
+        return;
+    }
+    say(to, "there is no trench ");
+    say_given(to, word);
+    say(to, "%s; the table has %zu.", purpose, t->m);
 }
 
-void refusal_of_asked(struct message *to, const struct table *t, size_t trench) {
-    int struck = trench >= 1 && trench <= t->m && trench <= KEPT;
-    refusal_opens(to, STAR_BAD_SOURCE, t->file, struck ? t->row[trench - 1].line : 0);
-    if (struck) say(to, "trench %zu is struck, and so left out of everything.", trench);
-    else say(to, "there is no trench %zu; the table has %zu.", trench, t->m);
+void refusal_of_strike(struct message *to, const struct table *t, size_t trench, const char *word) {
+    of_trench(to, t, STAR_NOT_IN_USE, trench, word, "is struck already", " to strike");
+}
+
+void refusal_of_asked(struct message *to, const struct table *t, size_t trench, const char *word) {
+    of_trench(to, t, STAR_BAD_SOURCE, trench, word, "is struck, and so left out of everything", "");
 }
 
 static void junction_count(struct message *to, const struct table *t) {

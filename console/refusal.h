@@ -7,9 +7,10 @@
 /* Says why the door refused a table: 'Refused (NUMBER): FILE:LINE: ..'. */
 void refusal_words(struct message *to, const struct table *t, struct star_answer a);
 
-/* Says why a trench is not struck: it is struck already, or there is none of this number; and why one cannot be asked about. */
-void refusal_of_strike(struct message *to, const struct table *t, size_t trench);
-void refusal_of_asked(struct message *to, const struct table *t, size_t trench);
+/* Says why a trench is not struck: it is struck already, or there is none of this number; and why one cannot be asked about. The number is told as the
+   word that gave it, since it may be above all that are read. */
+void refusal_of_strike(struct message *to, const struct table *t, size_t trench, const char *word);
+void refusal_of_asked(struct message *to, const struct table *t, size_t trench, const char *word);
 
 /* Whether a refusal is about the marked trenches together: then the table itself is sound, and can be drawn and written. */
 int refusal_of_plan(struct star_answer a);

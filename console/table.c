@@ -117,6 +117,11 @@ int64_t table_list(FILE *to, const struct table *t, const uint8_t *mark, size_t 
     return total;
 }
 
+void table_junctions(struct message *to, const struct table *t) {
+    if (t->n == UINT32_MAX) say_word(to, t->count.text);
+    else say(to, "%" PRIu32, t->n);
+}
+
 size_t table_marks(const struct table *t) {
     size_t i, marks = 0;
     for (i = 0; i < kept(t); i++) marks += t->mark[i] == 1;

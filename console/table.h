@@ -33,6 +33,7 @@ struct table {
     struct place count;  /* the number in the line 'junctions N', else the largest junction named; line 0 if there is neither */
     int told;            /* whether a line 'junctions N' stands in the file */
     struct span text;    /* the file, for the commands that change it or hand it to a door */
+    size_t order_mark;   /* the bytes of a byte order mark, which stand before the text */
     int stp;             /* whether the file is an STP text */
 };
 
@@ -73,6 +74,9 @@ struct star_answer table_merge(const struct table *t, uint32_t *numbers);
 
 /* Writes a line for each trench in use from one number to another that is marked 1 in a column, and gives the sum of their prices. */
 int64_t table_list(FILE *to, const struct table *t, const uint8_t *mark, size_t from, size_t last);
+
+/* Says the number of junctions; one that is above all that are read as it stands in the file. */
+void table_junctions(struct message *to, const struct table *t);
 
 /* The number of marked trenches, and the sum of their prices. */
 size_t table_marks(const struct table *t);

@@ -95,4 +95,9 @@ void say_quoted(struct message *to, struct span s) {
     say(to, "'");
 }
 
+void say_given(struct message *to, const char *word) {
+    struct span s = {word, strlen(word)};
+    say_word(to, s);
+}
+
 void say_count(struct message *to, size_t count, const char *one, const char *more) { say(to, "%zu %s", count, count == 1 ? one : more); }

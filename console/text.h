@@ -46,6 +46,9 @@ void say_place(struct message *to, const char *file, size_t line);
 void say_word(struct message *to, struct span s);
 void say_quoted(struct message *to, struct span s);
 
+/* A word of the command line in the same way: a number is told as it was given. */
+void say_given(struct message *to, const char *word);
+
 /* A count with its noun: '1 trench', '2 trenches'. */
 void say_count(struct message *to, size_t count, const char *one, const char *more);
 

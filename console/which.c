@@ -23,8 +23,22 @@ static void say_line(struct message *to, const struct table *t, size_t i) {
     else say_trench(to, t, i);
 }
 
+/* 'FILE:LINE: 5 junctions'. */
+static void say_junctions(struct message *to, const struct table *t) {
+    say_place(to, t->file, t->count.line);
+    table_junctions(to, t);
+    say(to, t->n == 1 ? " junction" : " junctions");
+}
+
+/* 'FILE: 5 trenches'. */
+static void say_trenches(struct message *to, const struct table *t) {
+    say_place(to, t->file, 0);
+    say_count(to, t->m, "trench", "trenches");
+}
+
 /* Says where the tables differ in more than their marks; 0 if they do not. */
 static int differ(struct message *to, const struct table *first, const struct table *second) {
+    void (*say_size)(struct message *, const struct table *) = first->m == second->m ? say_junctions : say_trenches;
     size_t i, m = first->m < KEPT ? first->m : KEPT;
     if (second->m < m) m = second->m;
     for (i = 1; i <= m; i++)
@@ -37,12 +51,9 @@ static int differ(struct message *to, const struct table *first, const struct ta
         }
     if (first->m == second->m && first->n == second->n) return 0;
     say(to, "The two tables are not the same:\n");
-    say_place(to, first->file, first->m == second->m ? first->count.line : 0);
-    if (first->m == second->m) say_count(to, first->n, "junction\n", "junctions\n");
-    else say_count(to, first->m, "trench\n", "trenches\n");
-    say_place(to, second->file, first->m == second->m ? second->count.line : 0);
-    if (first->m == second->m) say_count(to, second->n, "junction", "junctions");
-    else say_count(to, second->m, "trench", "trenches");
+    say_size(to, first);
+    say(to, "\n");
+    say_size(to, second);
     return 1;
 }
 

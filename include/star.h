@@ -31,17 +31,18 @@
  * star_merge    packs the rows in use to the top, and says where each one went.
  *
  * Each returns 1 with the verdict in the sixteen bytes of the answer (star_quote: twenty-four), or 0 if the lent answer has
- * another length; then nothing is written anywhere. star_which returns 1 for the first claim, 2 for the second, and 0 on a
- * refusal too. Every other input is taken, whatever its bytes and lengths: a fault is told as a refusal with its number and
- * place, and a refused call leaves the marks, the matrix, the columns lent to star_import, the forests, the records, and the
- * working table and the numbers lent to star_strike, star_add and star_merge, as they were.
+ * another length (star_digs, star_digs_text: or the lent text fewer than 6,370 bytes); then nothing is written anywhere.
+ * star_which returns 1 for the first claim, 2 for the second, and 0 on a refusal too. Every other input is taken, whatever its
+ * bytes and lengths: a fault is told as a refusal with its number and place, and a refused call leaves the marks, the matrix,
+ * the columns lent to star_import, the dig list's text, the forests, the records, and the working table and the numbers lent
+ * to star_strike, star_add and star_merge, as they were.
  *
  * The caller owes that each pointer has as many readable bytes behind it as its length says (writable
  * ones behind answer, and behind every other pointer that is not to const), and that a column that is written
  * overlaps no other. The length of a matrix and of the rows in use counts words of eight bytes, that of a list
  * of numbers, ends or records the numbers. An empty column may be lent as a null pointer with length 0. The calling thread has
- * stack left, 1 MiB for star_import and star_digs_text, 256 KiB for star_mend and 128 KiB for each of the others, whatever is
- * lent. Nothing else is asked.
+ * stack left, 1 MiB for star_import and star_digs_text, 256 KiB for star_mend and star_work_mend, and 128 KiB for each of the
+ * others, whatever is lent. Nothing else is asked.
  */
 #ifndef STAR_H
 #define STAR_H
@@ -92,20 +93,23 @@ enum star_kind {
 enum star_refusal {
     STAR_BAD_JUNCTION_COUNT = 1, /* n is 0 or above 255 */
     STAR_TOO_MANY_ROWS = 2,      /* m is above 1,024 */
-    STAR_BAD_LENGTHS = 3,        /* right or mark is not m bytes, or weight not 4 m; star_import and working tables: not 1,024 rows; working
-                                    tables: the rows in use are not sixteen words, or the numbers not 1,024 */
+    STAR_BAD_LENGTHS = 3,        /* right, mark (star_which: first or second) or forests is not m bytes, or weight not 4 m; star_import and
+                                    working tables: not 1,024 rows; working tables: the rows in use are not sixteen words, or the numbers
+                                    not 1,024 */
     STAR_BAD_END = 4,            /* place: the uppermost row with an end that is 0 or above n, or with equal ends */
-    STAR_BAD_MARK = 6,           /* place: the uppermost row marked with another byte than 0 and 1 (all but star_mst1) */
+    STAR_BAD_MARK = 6,           /* place: the uppermost row marked with another byte than 0 and 1 (star_cst, star_other, star_paths, star_which,
+                                    star_mend) */
     STAR_BAD_SOURCE = 7,         /* s (star_paths) or r (star_outlets) is 0 or above n; the row asked about is 0, above m or not in use (star_quote,
                                     star_breaking) */
     STAR_SHORT_MATRIX = 8,       /* the matrix has fewer than 16 n words (star_paths) */
-    STAR_BAD_MARK_COUNT = 9,     /* the marks are not n - 1 (all but star_mst1) */
-    STAR_NOT_JOINED = 10,        /* place: the smallest junction that marked rows do not join to 1, or to s (star_paths) */
-    STAR_NO_NETWORK = 11,        /* no set of rows joins every junction (star_mst1, star_quote, star_breaking, star_digs, star_districts, star_mend,
-                                    star_outlets) */
+    STAR_BAD_MARK_COUNT = 9,     /* the marks are not n - 1 (star_cst, star_other, star_paths, star_which) */
+    STAR_NOT_JOINED = 10,        /* place: the smallest junction that marked rows do not join to 1 (star_cst, star_other, star_which), or to s
+                                    (star_paths) */
+    STAR_NO_NETWORK = 11,        /* no set of rows joins every junction (star_mst1, star_quote, star_breaking, star_digs, star_digs_text, star_districts,
+                                    star_mend, star_outlets) */
     STAR_BAD_TEXT = 12,          /* place: the first byte, counted from 0, of the first word that cannot stand; the text's length if it ends
-                                    too early; 65,536 if it is longer (star_import) */
-    STAR_BAD_EDGE_COUNT = 13,    /* the E lines are not as many as the line Edges says (star_import) */
+                                    too early; 65,536 if it is longer (star_import, star_digs_text) */
+    STAR_BAD_EDGE_COUNT = 13,    /* the E lines are not as many as the line Edges says (star_import, star_digs_text) */
     STAR_BAD_RUNS = 14,          /* the ends are more than eight, one is not above the one before it (the first not above 0), the last is not m, or
                                     there is none though m is above 0 (star_districts); told before 11 */
     STAR_REPEATED_ROW = 15,      /* place: the uppermost row that joins the same two junctions as an earlier one, in either direction; told
@@ -116,7 +120,7 @@ enum star_refusal {
     STAR_NO_OUTLETS = 19         /* the table is connected, and no network has exactly t rows at r (star_outlets); told after 11 */
 };
 
-/* A refusal in words, such as "the marks are not n - 1"; never a null pointer, whatever the number. */
+/* A refusal in words, such as "no set of rows joins every junction"; never a null pointer, whatever the number. */
 const char *star_refusal_text(unsigned number);
 
 uint32_t star_cst(uint32_t n, const uint8_t *left, size_t left_len, const uint8_t *right, size_t right_len,
@@ -187,7 +191,8 @@ static inline void star_set_in_use(uint64_t *in_use, size_t row, int used) {
 }
 
 /* The doors over the rows in use of a working table. left, right and mark are 1,024 bytes, weight 4,096, in_use sixteen words, else the call is
- * refused 3; 2 does not occur. The refusals look at rows in use alone. Marks at other rows are not read; star_work_mst1 writes 0 there. */
+ * refused 3; 2 does not occur. The refusals look at rows in use alone. Marks at other rows are not read; star_work_mst1,
+ * star_work_districts and star_work_outlets write 0 there, and star_work_mend leaves them. */
 uint32_t star_work_cst(uint32_t n, const uint64_t *in_use, size_t in_use_words, const uint8_t *left, size_t left_len, const uint8_t *right,
                        size_t right_len, const uint8_t *weight, size_t weight_len, const uint8_t *mark, size_t mark_len,
                        uint8_t *answer, size_t answer_len);
@@ -330,7 +335,8 @@ static inline int32_t star_get_price(const uint8_t *weight, size_t index) {
     return bits <= INT32_MAX ? (int32_t)bits : -1 - (int32_t)~bits;
 }
 
-/* The sixteen bytes of every door but star_import, and the first sixteen of star_quote, as fields; those that a kind lacks are 0. */
+/* The sixteen bytes of every door but star_import and a refused star_digs_text, and the first sixteen of star_quote, as fields; those that a kind
+ * lacks are 0. */
 struct star_answer {
     unsigned kind;   /* byte 0: enum star_kind */
     unsigned number; /* byte 1: enum star_refusal, 0 unless refused */
@@ -376,7 +382,7 @@ static inline struct star_quoted star_read_quoted(const uint8_t bytes[24]) {
     return q;
 }
 
-/* The sixteen bytes of star_import as fields; those that a kind lacks are 0. */
+/* The sixteen bytes of star_import, and of a refused star_digs_text, as fields; those that a kind lacks are 0. */
 struct star_imported {
     unsigned kind;   /* byte 0: STAR_PASSED or STAR_REFUSED */
     unsigned number; /* byte 1: enum star_refusal, 0 unless refused */

@@ -126,11 +126,11 @@ def breaking(console, r, n, rows):
         tell((status, err) == (0, "") and "no other route; it is in every network" in out, f"breaking {i}: {out} {text(n, rows)}")
         return
     if own > price:
-        pattern = f"is in no cheapest network at this price\\. It comes into the plan at {price}( or less|, the least price); above, trench "
+        pattern = f"is in no cheapest network at this price\\. It is in a cheapest network at {price}( or less|, the least price); above, trench "
     elif price == MAX:
-        pattern = f"stays in the plan at every price; at the largest, {MAX}, trench "
+        pattern = f"is in a cheapest network at every price; at the largest, {MAX}, trench "
     else:
-        pattern = f"stays in the plan up to {price}; above, trench "
+        pattern = f"is in a cheapest network up to {price}; above, trench "
     found = re.search(pattern + r"(?P<instead>\d+) \(\d+-\d+, price -?\d+\)", out)
     ok = (status, err) == (0, "") and found is not None
     if ok:

@@ -8,9 +8,9 @@ bridge=console/examples/bridge.txt city=console/examples/city.txt first=console/
 # The examples.
 try quote 0 '^The cheapest network costs 12 today and 13 at the new price: 1 more\.$' '' quote $yard 4 9
 try quote-city 0 '^The cheapest network costs 130316 today and ' '' quote $city 5 100000
-try breaking 0 'stays in the plan up to 5; above, trench 1 \(1-2, price 5\) takes its place' '' breaking $yard 4
+try breaking 0 'is in a cheapest network up to 5; above, trench 1 \(1-2, price 5\) takes its place' '' breaking $yard 4
 try breaking-bridge 0 'no other route; it is in every network' '' breaking $bridge 4
-try breaking-city 0 'stays in the plan up to [0-9]+; above, trench [0-9]+ ' '' breaking $city 5
+try breaking-city 0 'is in a cheapest network up to [0-9]+; above, trench [0-9]+ ' '' breaking $city 5
 try which 0 '^The second plan stands, console/examples/office-b.txt: it costs 17 and the first 19, 2 more\.$' '' which $first $second
 try which-turned 0 '^The first plan stands, console/examples/office-b.txt: it costs 17 and the second 19, 2 more\.$' '' which $second $first
 try which-standard-input 0 'The first plan stands, .*office-b.txt' "$(sed 's/$/\\n/' $first | tr -d '\n')" which $second -
@@ -30,7 +30,9 @@ try quote-price 4 "a price is a whole number from -2147483648 to 2147483647, and
 try quote-price-word 4 "a price is .*, and not '4.50'" '' quote $yard 4 4.50
 try quote-price-below 4 "a price is .*, and not '-2147483649'" '' quote $yard 4 -2147483649
 try quote-minus 4 "unknown option '-x'" '' quote $yard 4 -x
-try quote-large 2 'Refused \(7\): .*there is no trench 4294967295; the table has 5' '' quote $yard 99999999999 1
+try quote-large 2 'Refused \(7\): .*there is no trench 99999999999; the table has 5' '' quote $yard 99999999999 1
+try breaking-large 2 'Refused \(7\): .*there is no trench 99999999999; the table has 5' '' breaking $yard 99999999999
+try which-large 3 'standard input:1: 5000000000 junctions$' 'junctions 5000000000\n1 2 5 0\n2 3 3 1\n3 4 5 1\n1 4 4 1\n1 3 6 0\n' which - $yard
 try breaking-few 4 "the number of one trench follows the file of 'breaking'" '' breaking $yard
 try breaking-many 4 "the number of one trench follows the file of 'breaking'" '' breaking $yard 4 5
 try breaking-word 4 "a trench is named by its number, from 1 on, and not by 'x'" '' breaking $yard x

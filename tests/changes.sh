@@ -46,7 +46,7 @@ try first-build 0 '^Total ' '' build "$work/first.txt"
 # Changes: usage, STP files, a file that is changed in its place.
 try strike-no-number 4 "the number of a trench follows the file of 'strike'" '' strike $yard
 try strike-word 4 "a trench is named by its number, from 1 on, and not by 'x'" '' strike $yard 1 x
-try strike-large 2 'Refused \(18\): .*there is no trench 4294967295 to strike' '' strike $yard 99999999999
+try strike-large 2 'Refused \(18\): .*there is no trench 99999999999 to strike' '' strike $yard 99999999999
 try add-few 4 "two junctions and a price follow the file of 'add'" '' add $yard 1 2
 try add-many 4 "two junctions and a price follow the file of 'add'" '' add $yard 1 2 3 4
 try add-256 4 "a junction is a number from 1 to 255, and not '256'" '' add $yard 1 256 3
@@ -54,11 +54,34 @@ try add-0 4 "a junction is a number from 1 to 255, and not '0'" '' add $yard 0 2
 try add-price 4 "a price is a whole number from -2147483648 to 2147483647, and not '2147483648'" '' add $yard 1 2 2147483648
 try add-least 0 '^2 4 -2147483648 0$' '' add $yard 2 4 -2147483648
 try merge-two 4 "one file is read, and there is also '$dear'" '' merge $yard $dear
-for words in 'strike %s 1' 'add %s 1 2 3' 'merge %s'; do try "stp: $words" 3 "an STP file has no struck trenches. 'star table' writes a table" '' ${words/\%s/$street}; done
+for words in 'strike %s 1' 'add %s 1 2 3' 'merge %s'; do try "stp: $words" 3 "an STP file is not changed\. 'star table' writes a table, whose lines ${words%% *} can change" '' ${words/\%s/$street}; done
 cp $yard "$work/changed.txt"
 try changed 0 '^exit 0' '' strike -o "$work/changed.txt" "$work/changed.txt" 4
 try changed-again 2 'Refused \(18\): .*changed.txt:5: trench 4 is struck already' '' strike -o "$work/changed.txt" "$work/changed.txt" 2 4
 try changed-kept 0 '^Total 13$' '' build "$work/changed.txt"
+
+# A byte order mark and the ends of lines stay as they are, and a new line ends as the first one does.
+bytes() { # NAME TEXT EXPECTED COMMAND WORDS..: the texts as printf takes them
+    local name=$1 text=$2 expected=$3 command=$4
+    shift 4
+    printf "$text" | "${star[@]}" "$command" - "$@" 2>/dev/null | cmp - <(printf "$expected") >"$work/all"
+    verdict "$name" $?
+}
+order='\xef\xbb\xbf'
+bytes bytes-strike "${order}1 2 5\r\n2 3 4\r\n" "${order}1 2 5\r\nstruck 2 3 4\r\n" strike 2
+bytes bytes-add "${order}1 2 5\r\n2 3 4\r\n" "${order}1 2 5\r\n2 3 4\r\n1 3 6 0\r\n" add 1 3 6
+bytes bytes-add-struck "${order}1 2 5\r\nstruck 2 3 4\r\n" "${order}junctions 3\r\n1 2 5\r\n1 3 6 0\r\n" add 1 3 6
+bytes bytes-add-open "1 2 5\r\n2 3 4" "1 2 5\r\n2 3 4\r\n1 3 6 0\r\n" add 1 3 6
+bytes bytes-add-cr "1 2 5\r2 3 4\r" "1 2 5\r2 3 4\r1 3 6 0\r" add 1 3 6
+bytes bytes-merge "${order}struck 1 2 5\r\n2 3 4\r\n" "${order}junctions 3\r\n2 3 4\r\n" merge
+bytes bytes-mend "${order}1 2 5\r\n2 3 4 0 # yes\r\n" "${order}1 2 5 1\r\n2 3 4 1 # yes\r\n" mend
+
+# Where the file cannot be written, nothing is told of its changes.
+for words in "add %s $yard 2 4 7" "merge %s $struck" 'mend %s console/examples/old.txt'; do
+    try "unwritten: $words" 5 '^/dev/full: it could not be written: No space left' '' ${words/\%s/-o /dev/full}
+    [ "$(wc -l <"$work/err")" = 1 ]
+    verdict "unwritten, and nothing told: $words" $?
+done
 
 echo "$passed passed, $failed failed"
 [ "$failed" = 0 ]

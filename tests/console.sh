@@ -38,7 +38,8 @@ try not-only 0 '^Another network costs the same: take out trench 3 \(3-4, price 
 try total-beside 1 "^The plan's total is 13, and 12 after this exchange\\. It is the first one found, not the one that saves most" '' check $dear
 try build-saves 0 '^The marked trenches cost 13: these save 1\.$' '' build $dear
 try build-saves-nothing 0 '^The marked trenches cost 12 too\.$' '' build $yard
-try build-no-plan 0 '^The marked trenches cost 14, and are no network: the marked rows do not join every junction' '1 2 5 1\n2 3 3 1\n3 4 5 0\n1 4 4 0\n1 3 6 1\n' build
+try build-no-plan 0 '^The marked trenches cost 14, and are no network: they do not reach every junction\.$' '1 2 5 1\n2 3 3 1\n3 4 5 0\n1 4 4 0\n1 3 6 1\n' build
+try build-few 0 '^The marked trenches cost 5, and are no network: they are not one fewer than the junctions\.$' '1 2 5 1\n2 3 3 0\n' build
 try build-unmarked 0 '^Total 8$' '1 2 5\n2 3 3\n' build
 ! grep -q 'marked trenches' "$work/out"
 verdict build-unmarked-alone $?
@@ -58,6 +59,7 @@ try explain-city 0 '^760 more are left out: 0 that save, 0 that cost as much' ''
 [ "$(wc -l <"$work/out")" -lt 40 ]
 verdict explain-city-short $?
 try explain-none 4 'there is no trench 6; the table has 5' '' explain $yard 6
+try explain-large 4 'there is no trench 99999999999; the table has 5' '' explain $yard 99999999999
 try explain-zero 4 "a trench is named by its number, from 1 on, and not by '0'" '' explain $yard 0
 try explain-word 4 "a trench is named by its number, from 1 on, and not by 'x'" '' explain $yard x
 try explain-files 4 "one file is read, and there is also '3'" '' explain $yard 2 3

@@ -110,12 +110,12 @@ the city
   row 2: 2-3, price 3
   row 4: 1-4, price 4
 3 at junction 1
-the least total: 15
+the least with this number: 15
   row 1: 1-2, price 5
   row 4: 1-4, price 4
   row 5: 1-3, price 6
 4 at junction 1
-the least total: refused 19, no network has exactly this number of rows at the junction
+the least with this number: refused 19, no network has exactly this number of rows at the junction
 TEXT
 mv "$work/expected" "$work/expected-plan"
 for example in plan blocked prices plans; do

@@ -176,6 +176,8 @@ with tempfile.TemporaryDirectory() as work:
     sound("256", page)
     check("256: status", done.returncode == 2 and "Refused (1)" in done.stderr and "Refused (1)" in page.core()[0])
     check("256: line", any(t["text"] == "this table: 256" for t in page.all("text", "limit")) and not any("own-" in p.get("href", "") for p in page.all("use")))
+    page = Page(run([(1, 2, 5, 1)], 5000000000, work).stdout)
+    check("5000000000: line", any(t["text"] == "this table: 5000000000" for t in page.all("text", "limit")))
     # Other refusals give no page; no marks give one; names with letters of HTML are written as they are.
     done = run([(1, 2, 5, 1), (3, 3, 5, 1)], 3, work)
     check("refused: no page", done.returncode == 2 and done.stdout == "" and "Refused (4)" in done.stderr)

@@ -44,14 +44,17 @@ done
 # Usage, what is refused before anything is written, output that cannot be written.
 try districts-word 4 "a district is given by the number of its last trench, and not by 'x'" '' districts $yard 2 x
 try districts-below-0 4 "a district is given by the number of its last trench, and not by '-1'" '' districts $yard -1 5
+try districts-large 2 'Refused \(14\): .*the last district ends with trench 99999999999; it has to end with the last trench' '' districts $yard 99999999998 99999999999
+try districts-large-before 2 'district 3 ends with trench 5, and district 2 before it with trench 99999999999\.$' '' districts $yard 99999999998 99999999999 5
 try districts-missing 3 'nowhere.txt: No such file' '' districts nowhere.txt 5
 try districts-option 4 "unknown option '--all'" '' districts --all $yard 5
 try mend-two 4 "one file is read, and there is also '$dear'" '' mend $yard $dear
 try mend-option 4 "unknown option '--table'" '' mend --table $yard
-try mend-stp 3 'no plan to mend' '' mend $street
+try mend-stp 3 'an STP file is not changed\. .* whose lines mend can change' '' mend $street
 try outlets-few 4 "a junction and a number of trenches follow the file of 'outlets'" '' outlets $yard 1
 try outlets-more 4 "a junction and a number of trenches follow the file of 'outlets'" '' outlets $yard 1 2 3
 try outlets-word 4 "a junction is a number from 1 to 255, and not 'x'" '' outlets $yard x 1
+try outlets-large 2 'Refused \(7\): .*there is no junction 99999999999; junctions are numbered from 1 to 4' '' outlets $yard 99999999999 2
 try outlets-count 4 "the trenches at a junction are a number, and not '-1'" '' outlets $yard 1 -1
 for words in "districts --table -o %s $yard 4" 'mend -o %s tests/console/mend-apart.txt' "outlets --table -o %s $yard 1 9"; do
     echo kept >"$work/kept.txt"

@@ -56,7 +56,7 @@ static void outlets(uint32_t count) {
     uint8_t mark[ROWS];
     star_outlets(JUNCTIONS, left, ROWS, right, ROWS, weight, sizeof weight, mark, ROWS, 1, count, answer, sizeof answer);
     printf("%u at junction 1\n", (unsigned)count);
-    if (told("the least total")) show(mark);
+    if (told("the least with this number")) show(mark);
 }
 
 int main(void) {
