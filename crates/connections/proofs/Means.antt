@@ -25,7 +25,7 @@ use Rattle.connections.specs.Means.{Marked, Possible, OutletsMean, Outle
 use Rattle.connections.specs.Outlets.{treeAt, isMissing, rowsIn, noTreeWith, outletCauses, outletsOr, outlets, marksOr, outletMarks}
 use Rattle.connections.proofs.Causes.{vertex-in}
 
-abbrev refusedBy : ℕ → Refusal
+abbrev pub refusedBy : ℕ → Refusal
 refusedBy k = record { number = k; place = 0 }
 
 -- the numbers of two refusals, and a refusal and a tree, are told apart
@@ -37,7 +37,7 @@ unlike : {A : Type 0} {a b : BuildAnswer} (j k : ℕ) → a ≡ b → told a ≡
 unlike j k e p q h = absurd (h (sym p ∙ ap told e ∙ q))
 
 -- a vertex of the table is not refused
-source : (n r : ℕ) → Vertex n r → (eqb r 0 || ltb n r) ≡ false
+pub source : (n r : ℕ) → Vertex n r → (eqb r 0 || ltb n r) ≡ false
 source n r (l, u) = rw (ne-eqb r 0 (omega arith), le-ltb n r u)
 
 module _ (c : Call) (ok : Accepted c) (r : ℕ) where
@@ -57,17 +57,17 @@ module _ (c : Call) (ok : Accepted c) (r : ℕ) where
     last-causes = refusal-append (tableCauses c) (badSource c r ∷ noTree c ∷ noTreeWith c r t ∷ []) ok ∙ rw (source (c .n) r v)
 
     -- no tree
-    when-apart : tree g (weightOf c) ≡ none → outlets c r t ≡ unbuilt (refusedBy 11)
+    pub when-apart : tree g (weightOf c) ≡ none → outlets c r t ≡ unbuilt (refusedBy 11)
     unfolding outlets outletsOr noTree isNone cause orElse
     when-apart e = rw (last-causes, e)
 
     -- a tree, and none with exactly t rows at r
-    when-missing : (f : Fragment) → tree g (weightOf c) ≡ some f → treeAt c r t ≡ none → outlets c r t ≡ unbuilt (refusedBy 19)
+    pub when-missing : (f : Fragment) → tree g (weightOf c) ≡ some f → treeAt c r t ≡ none → outlets c r t ≡ unbuilt (refusedBy 19)
     unfolding outlets outletsOr noTree noTreeWith isNone isMissing cause orElse
     when-missing f e q = rw (last-causes, e, q)
 
     -- a tree with exactly t rows at r
-    when-built : (f : Fragment) → tree g (weightOf c) ≡ some f → (T : ℕ → Bool) → treeAt c r t ≡ some T → (x : ℤ) × (outlets c r t ≡ treeBuilt x) × Marked c r t x (outletMarks c r t)
+    pub when-built : (f : Fragment) → tree g (weightOf c) ≡ some f → (T : ℕ → Bool) → treeAt c r t ≡ some T → (x : ℤ) × (outlets c r t ≡ treeBuilt x) × Marked c r t x (outletMarks c r t)
     unfolding outlets outletsOr outletMarks marksOr noTree noTreeWith isNone isMissing rowsIn cause orElse treeAt
     when-built f e T q =
         let same : rowsIn (treeAt c r t) ≡ T = ap rowsIn q in

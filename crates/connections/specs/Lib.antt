@@ -2,3 +2,4 @@ pub mod Outlets
 pub mod Means
 pub mod Door
 pub mod Trials
+pub mod Bytes

@@ -1,11 +1,13 @@
 // The tree with exactly t rows at r for C: sixteen bytes as MST1's, and the marks.
 use answer::write_answer;
 ghost use mathlib.Core.Path.{_≡_};
+ghost use Rattle.connections.specs.Bytes.{OutletsCall};
 ghost use Rattle.connections.specs.Door.{outletsDoor, outletsDoorMarks};
 ghost use Rattle.star.specs.Call.{callOf, workOf};
 ghost use Rattle.star.specs.Door.{doorReturns};
 
 // The tree with exactly t rows at r through the door: the marks are written where a tree is built, and stay as they are otherwise.
+// `means` says what the bytes and the marks are worth.
 #[no_mangle]
 pub extern "C" fn star_outlets(
     n: u32,
@@ -21,6 +23,9 @@ pub extern "C" fn star_outlets(
     ensures written { λ k.
         let c = callOf n (now (left .entry)) (now (right .entry)) (now (weight .entry)) (now (mark .entry)) in
         ⌜ (now (answer .exit) ≡ outletsDoor c r t (now (answer .entry))) × (now (mark .exit) ≡ outletsDoorMarks c r t (now (answer .entry))) ⌝ }
+    ensures means { λ k.
+        let c = callOf n (now (left .entry)) (now (right .entry)) (now (weight .entry)) (now (mark .entry)) in
+        ⌜ OutletsCall c r t (now (answer .entry)) (now (answer .exit)) (now (mark .exit)) k ⌝ }
 {
     if answer.len() != 16 {
         return 0;
@@ -32,6 +37,7 @@ pub extern "C" fn star_outlets(
 }
 
 // The same over the rows in use of a working table, which are lent as sixteen words. The marks of rows that are not in use become 0.
+// `means` says what the bytes and the marks are worth.
 #[no_mangle]
 pub extern "C" fn star_work_outlets(
     n: u32,
@@ -48,6 +54,9 @@ pub extern "C" fn star_work_outlets(
     ensures written { λ k.
         let c = workOf n (now (words .entry)) (now (left .entry)) (now (right .entry)) (now (weight .entry)) (now (mark .entry)) in
         ⌜ (now (answer .exit) ≡ outletsDoor c r t (now (answer .entry))) × (now (mark .exit) ≡ outletsDoorMarks c r t (now (answer .entry))) ⌝ }
+    ensures means { λ k.
+        let c = workOf n (now (words .entry)) (now (left .entry)) (now (right .entry)) (now (weight .entry)) (now (mark .entry)) in
+        ⌜ OutletsCall c r t (now (answer .entry)) (now (answer .exit)) (now (mark .exit)) k ⌝ }
 {
     if answer.len() != 16 {
         return 0;

@@ -4,6 +4,7 @@ use borrow.Author.Tests.{eq-eqb, ne-eqb}
 use lib.ListN.{length}
 use mathlib.Core.Path.{refl, ap, _∙_}
 use native.Mathlib.Omega.{arith}
+use Rattle.connections.proofs.Bytes.{outlets-call}
 use Rattle.connections.specs.Door.{outletsDoor, outletsDoorMarks}
 use Rattle.outletsdoor.proofs.outlets_door.star_outlets.Statement.{statement}
 use Rattle.outletsdoor.proofs.outlets_door.star_outlets.Tie as tie
@@ -11,17 +12,18 @@ use Rattle.star.specs.Door.{builtFields, answerAfter, wellLent, doorReturns}
 
 returns : tie.Need-returns
 unfolding doorReturns wellLent outletsDoor answerAfter outletsDoorMarks
-returns c = rw (ne-eqb (length (c .before .before .before .before .before .before .args .answer .now)) 16 (λ e. omega arith)) (refl, (refl, refl))
+returns c = outlets-call (rw (ne-eqb (length (c .before .before .before .before .before .before .args .answer .now)) 16 (λ e. omega arith)) (refl, (refl, refl)))
 
 returns-2 : tie.Need-returns-2
 unfolding doorReturns wellLent outletsDoor outletsDoorMarks
 returns-2 c =
     let b = c .before .before .before .before in
     let o = b .before .before .before in
-    rw (eq-eqb (length (c .before .before .before .before .before .before .before .before .before .before .before .before .before .before .before .args .answer .now)) 16 (omega arith)) (
+    outlets-call
+    (rw (eq-eqb (length (c .before .before .before .before .before .before .before .before .before .before .before .before .before .before .before .args .answer .now)) 16 (omega arith)) (
       refl,
       (c .before .before .write-answer .ensures ∙ ap (answerAfter _) (b .of-built .ensures ∙ ap builtFields (o .outlets .ensures .0)), o .outlets .ensures .1),
-    )
+    ))
 
 pub star-outlets-spec : {M : Type 1} → statement M
 star-outlets-spec =
