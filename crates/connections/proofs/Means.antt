@@ -5,12 +5,13 @@ use borrow.Author.Tests.{le-ltb, ne-eqb}
 use lib.Dec.{eqb, ltb}
 use lib.IntN.{ℤ}
 use mathlib.Core.Bool.{Bool, true, false, _||_}
-use mathlib.Core.List.{List, [], _∷_, _++_}
+use mathlib.Core.List.{[], _∷_, _++_}
 use mathlib.Core.Option.{Option, none, some}
 use mathlib.Core.Path.{_≡_, refl, sym, _∙_, ap}
 use native.Mathlib.Omega.{arith}
 use Rattle.degree.proofs.Promise.{degrees}
 use Rattle.degree.specs.Promise.{DegreeMeans}
+use Rattle.demand3.proofs.Bytes.{refused-first}
 use Rattle.graph.proofs.Builder.{tree-connected, built-least, not-connected}
 use Rattle.graph.specs.Builder.{Fragment, tree}
 use Rattle.graph.specs.Graph.{Graph, Sound}
@@ -118,16 +119,9 @@ module _ (c : Call) (ok : Accepted c) (r : ℕ) where
       go true e = e
       go false e = absurd (off (vertex-in (c .n) r e))
 
--- causes of which one applies are not changed by causes after them
-refusal-first : (xs ys : List (Option Refusal)) (x : Refusal) → refusal xs ≡ some x → refusal (xs ++ ys) ≡ some x
-unfolding refusal orElse
-refusal-first [] ys x e = cc
-refusal-first (none ∷ xs) ys x e = refusal-first xs ys x e
-refusal-first (some q ∷ xs) ys x e = e
-
 pub refused-table : (c : Call) (x : Refusal) → refusal (tableCauses c) ≡ some x → (r t : ℕ) → outlets c r t ≡ unbuilt x
 unfolding outlets outletsOr outletCauses
-refused-table c x e r t = rw (refusal-first (tableCauses c) (badSource c r ∷ noTree c ∷ noTreeWith c r t ∷ []) x e)
+refused-table c x e r t = rw (refused-first c x (badSource c r ∷ noTree c ∷ noTreeWith c r t ∷ []) (tableCauses c) e)
 
 pub kept : (c : Call) (r t : ℕ) (x : Refusal) → outlets c r t ≡ unbuilt x → outletMarks c r t ≡ c .mark
 unfolding outlets outletMarks outletsOr marksOr told

@@ -11,7 +11,7 @@ use mathlib.Core.Logic.{_↔_, _⊎_, inl, inr, ⊎-elim}
 use mathlib.Core.Option.{Option, none, some}
 use mathlib.Core.Path.{_≡_, refl, sym, _∙_, ap}
 use native.Mathlib.Omega.{arith}
-use Rattle.demand3.proofs.Bytes.{mst1-door-means}
+use Rattle.demand3.proofs.Bytes.{refused-first, mst1-door-means}
 use Rattle.demand3.proofs.Demand3.{apart, built-accepted, demand3}
 use Rattle.demand3.specs.Bytes.{Written, TableDeclined}
 use Rattle.demand3.specs.Demand3.{ClaimTree, LeastClaim}
@@ -34,12 +34,6 @@ use Rattle.districting.specs.Door.{districtsDoor, districtsDoorForests, 
 use Rattle.districting.specs.Means.{Taken, City, Holds}
 
 -- ── The refusals ──
-
-refusal-first : (xs ys : List (Option Refusal)) (r : Refusal) → refusal xs ≡ some r → refusal (xs ++ ys) ≡ some r
-unfolding refusal orElse
-refusal-first [] ys r e = cc
-refusal-first (none ∷ xs) ys r e = refusal-first xs ys r e
-refusal-first (some q ∷ xs) ys r e = e
 
 -- the first refusal is one of the table's, or the one in the middle, or the last
 either-refusal : (a b f l x y z : Option Refusal) (r : Refusal) → refusal (a ∷ b ∷ f ∷ l ∷ x ∷ y ∷ z ∷ []) ≡ some r → (refusal (a ∷ b ∷ l ∷ x ∷ y ∷ []) ≡ some r) ⊎ ((f ≡ some r) ⊎ (z ≡ some r))
@@ -71,7 +65,7 @@ module _ (c : Call) (F ends : List ℕ) (r : Refusal) where
   -- what the table's causes refuse MST1 refuses
   mst1-refuses : refusal (tableCauses c) ≡ some r → mst1 c ≡ unbuilt r
   unfolding mst1 mst1Causes built
-  mst1-refuses e = ap (built c) (refusal-first (tableCauses c) (noTree c ∷ []) r e)
+  mst1-refuses e = ap (built c) (refused-first c r (noTree c ∷ []) (tableCauses c) e)
 
   not-accepted : refusal (tableCauses c) ≡ some r → AcceptedTable c → ⊥
   not-accepted e t = apart r (sym e ∙ accepted-means c .1 t)

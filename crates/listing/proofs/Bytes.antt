@@ -8,10 +8,13 @@ use lib.ListN.{length, take, drop}
 use lib.Seq.{take-append-seam}
 use mathlib.Core.Bool.{Bool, true, false, _&&_}
 use mathlib.Core.List.{List, [], _∷_, _++_}
-use mathlib.Core.Option.{Option, none, some}
+use mathlib.Core.Logic.{_⊎_, inl, inr}
+use mathlib.Core.Option.{some}
 use mathlib.Core.Path.{_≡_, refl, sym, ap, _∙_, subst}
 use native.Mathlib.Omega.{arith}
+use Rattle.demand3.proofs.Bytes.{TableRefusal, table-refusal, refused-first, turned-away}
 use Rattle.demand3.proofs.Demand3.{built-accepted, unbuilt-built, demand3}
+use Rattle.demand3.specs.Bytes.{TableDeclined}
 use Rattle.demand3.specs.Demand3.{ClaimTree, LeastClaim, Holds}
 use Rattle.listing.proofs.Meaning.{dig-list-holds}
 use Rattle.listing.specs.Bytes.{ListedMeans, Lent, DigsCall, DigsDoorMeans}
@@ -27,7 +30,7 @@ use Rattle.star.specs.Accepted.{AcceptedTable}
 use Rattle.star.specs.Call.{Call, withClaim}
 use Rattle.star.specs.Door.{Fields, bytesOf, fieldBytes, readBack, wellLent}
 use Rattle.star.specs.Mst1.{BuildAnswer, unbuilt, treeBuilt, built, mst1, mst1Marks}
-use Rattle.star.specs.Refusals.{Accepted, tableCauses, noTree, mst1Causes, orElse, refusal}
+use Rattle.star.specs.Refusals.{Accepted, tableCauses, noTree, mst1Causes, refusal}
 
 -- ── Reading back ──
 
@@ -105,19 +108,20 @@ listed-means c a text = go (mst1 c) refl
 
 -- ── Tables that are refused ──
 
-refused-first : (ys xs : List (Option Refusal)) (r : Refusal) → refusal xs ≡ some r → refusal (xs ++ ys) ≡ some r
-unfolding refusal orElse
-refused-first ys [] r e = cc
-refused-first ys (none ∷ xs) r e = refused-first ys xs r e
-refused-first ys (some q ∷ xs) r e = e
-
-table-refused : (c : Call) → (AcceptedTable c → ⊥) → (r : Refusal) × (tableList c ≡ unlisted r)
+table-refused : (c : Call) (r : Refusal) → refusal (tableCauses c) ≡ some r → tableList c ≡ unlisted r
 unfolding tableList builtList mst1 built mst1Causes
-table-refused c n = go (refusal (tableCauses c)) refl
+table-refused c r e = rw (refused-first c r (noTree c ∷ []) (tableCauses c) e) refl
+
+refused-table : (r : Refusal) → TableRefusal r → TableDeclined (readBack (fieldBytes (listFields (unlisted r))))
+unfolding listFields fieldBytes bytesOf readBack little
+refused-table r t = record { kind = refl; number = rw (one (small (t .number))) (t .number); only = refl }
   where
-    go : (o : Option Refusal) → refusal (tableCauses c) ≡ o → (r : Refusal) × (tableList c ≡ unlisted r)
-    go none e = absurd (n (accepted-means c .0 e))
-    go (some r) e = (r, rw (refused-first (noTree c ∷ []) (tableCauses c) r e) refl)
+    small : ((1 ≤ r .number) × (r .number ≤ 4)) ⊎ (r .number ≡ 15) → r .number < 256
+    small (inl h) = omega (arith, h .1)
+    small (inr e) = omega arith
+
+    one : r .number < 256 → r .number % 256 + 256 * 0 ≡ r .number
+    one h = omega arith
 
 -- ── The call ──
 
@@ -145,8 +149,8 @@ digs-door-means c text answer =
       refused = λ h n. rw (lent text answer h) (turned n);
     }
   where
-    turned : (AcceptedTable c → ⊥) → (readBack (fieldBytes (listFields (tableList c))) .kind ≡ 0) × (withList (tableList c) text ≡ text)
-    turned n = let (r, e) = table-refused c n in rw e (refused-kind r, unlisted-text r text)
+    turned : (AcceptedTable c → ⊥) → TableDeclined (readBack (fieldBytes (listFields (tableList c)))) × (withList (tableList c) text ≡ text)
+    turned n = let (r, e) = turned-away c n in rw (table-refused c r e) (refused-table r (table-refusal c r e), unlisted-text r text)
 
 -- a door that returns and leaves what the definitions say is such a call
 pub digs-call : {c : Call} {text answer written after : List ℕ} {r : ℕ}

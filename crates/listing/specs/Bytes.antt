@@ -7,6 +7,7 @@ use mathlib.Core.Logic.{_↔_}
 use mathlib.Core.Path.{_≡_}
 use lib.IntN.{pos}
 use lib.ListN.{length, take}
+use Rattle.demand3.specs.Bytes.{TableDeclined}
 use Rattle.demand3.specs.Demand3.{ClaimTree, LeastClaim}
 use Rattle.listing.specs.DigList.{tableList}
 use Rattle.listing.specs.Door.{listFields, listReturns, listAnswered, listText}
@@ -36,8 +37,8 @@ pub record DigsCall (c : Call) (text answer written after : List ℕ) (returned 
   pub declined : (Lent text answer → ⊥) → (returned ≡ 0) × (after ≡ answer) × (written ≡ text)
   pub returns : Lent text answer → (returned ≡ 1) × (length after ≡ 16)
   pub means : Lent text answer → AcceptedTable c → ListedMeans c (readBack after) written
-  -- a table that is not accepted is never listed, and the text stays as it was
-  pub refused : Lent text answer → (AcceptedTable c → ⊥) → (readBack after .kind ≡ 0) × (written ≡ text)
+  -- a table that is not accepted: kind 0 with a number of 1 to 4, or 15, and the text stays as it was
+  pub refused : Lent text answer → (AcceptedTable c → ⊥) → TableDeclined (readBack after) × (written ≡ text)
 
 -- the theorem: of every call through the two doors, whatever the columns, the text and the answer hold
 abbrev pub DigsDoorMeans : Type 0

@@ -3,14 +3,16 @@
 use Prim.Native.Nat.{ℕ, _+_, _*_, _/_, _%_, _≤_, _<_}
 use borrow.Author.Tests.{eq-eqb, ne-eqb}
 use lib.Dec.{eqb}
-use lib.IntN.{ℤ}
+use lib.IntN.{ℤ, pos}
 use lib.ListN.{length}
 use lib.Signed.{mag}
 use mathlib.Core.Bool.{Bool, true, false, not, cond}
 use mathlib.Core.List.{List, [], _∷_, _++_}
-use mathlib.Core.Option.{Option, none, some}
+use mathlib.Core.Logic.{_⊎_, inl, inr}
 use mathlib.Core.Path.{_≡_, refl, sym, ap, _∙_, fun-ext}
 use native.Mathlib.Omega.{arith}
+use Rattle.demand3.proofs.Bytes.{TableRefusal, table-refusal, refused-first, turned-away}
+use Rattle.demand3.specs.Bytes.{TableDeclined}
 use Rattle.graph.specs.Graph.{Connected}
 use Rattle.prices.specs.Quote.{priced}
 use Rattle.refusal.specs.declared.Refusal.{Refusal}
@@ -57,6 +59,15 @@ module _ (r : Refusal) where
   unquoted-kind : kindOf (quoteBytes (unquoted r)) ≡ 0
   unfolding quoteBytes quoteFields afterOf fieldBytes bytesOf readBack little
   unquoted-kind = refl
+
+  -- of the table
+  unquoted-table : TableRefusal r → TableDeclined (readBack (quoteBytes (unquoted r))) × (totalAfter (quoteBytes (unquoted r)) ≡ pos 0)
+  unfolding quoteBytes quoteFields afterOf fieldBytes bytesOf readBack little toBits fromBits
+  unquoted-table t = (record { kind = refl; number = rw (one-byte (r .number) (small (t .number))) (t .number); only = refl }, refl)
+    where
+      small : ((1 ≤ r .number) × (r .number ≤ 4)) ⊎ (r .number ≡ 15) → r .number < 256
+      small (inl h) = omega (arith, h .1)
+      small (inr e) = omega arith
 
   unquoted-length : length (quoteBytes (unquoted r)) ≡ 24
   unfolding quoteBytes quoteFields afterOf fieldBytes bytesOf
@@ -144,19 +155,9 @@ row-refused c ok k n x = go (used c k) refl
     go false e = rw (refusal-append (tableCauses c) (noRow c k ∷ noTree c ∷ []) ok, e)
 
 -- a table that is refused
-refused-first : (ys xs : List (Option Refusal)) (r : Refusal) → refusal xs ≡ some r → refusal (xs ++ ys) ≡ some r
-unfolding refusal orElse
-refused-first ys [] r e = cc
-refused-first ys (none ∷ xs) r e = refused-first ys xs r e
-refused-first ys (some q ∷ xs) r e = e
-
-table-refused : (c : Call) (k x : ℕ) → (AcceptedTable c → ⊥) → kindOf (quoteBytes (quote c k x)) ≡ 0
+table-refused : (c : Call) (k x : ℕ) → (AcceptedTable c → ⊥) → TableDeclined (readBack (quoteBytes (quote c k x))) × (totalAfter (quoteBytes (quote c k x)) ≡ pos 0)
 unfolding quote quoteOr quoteCauses
-table-refused c k x n = go (refusal (tableCauses c)) refl
-  where
-    go : (o : Option Refusal) → refusal (tableCauses c) ≡ o → kindOf (quoteBytes (quote c k x)) ≡ 0
-    go none e = absurd (n (accepted-means c .0 e))
-    go (some r) e = rw (refused-first (noRow c k ∷ noTree c ∷ []) (tableCauses c) r e) (unquoted-kind r)
+table-refused c k x n = let (r, e) = turned-away c n in rw (refused-first c r (noRow c k ∷ noTree c ∷ []) (tableCauses c) e) (unquoted-table r (table-refusal c r e))
 
 pub quote-door-means : QuoteDoorMeans
 unfolding quoteDoor quoteReturns lentQuote

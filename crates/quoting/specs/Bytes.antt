@@ -5,8 +5,9 @@ use Prim.Native.Nat.{ℕ}
 use mathlib.Core.List.{List}
 use mathlib.Core.Logic.{_↔_}
 use mathlib.Core.Path.{_≡_}
-use lib.IntN.{ℤ}
+use lib.IntN.{ℤ, pos}
 use lib.ListN.{length}
+use Rattle.demand3.specs.Bytes.{TableDeclined}
 use Rattle.graph.specs.Graph.{Connected}
 use Rattle.prices.specs.Quote.{Bound}
 use Rattle.rowset.specs.Bytes.{little}
@@ -59,8 +60,8 @@ pub record QuoteCall (c : Call) (k x : ℕ) (answer after : List ℕ) (returned 
   pub means : length answer ≡ 24 → AcceptedTable c → Row c k → QuotedMeans c k x after
   -- a row that is not in use, or none: 7, whether the table is connected or not
   pub no-row : length answer ≡ 24 → AcceptedTable c → (Row c k → ⊥) → Declined after 7
-  -- a table that is not accepted is never quoted
-  pub refused : length answer ≡ 24 → (AcceptedTable c → ⊥) → kindOf after ≡ 0
+  -- a table that is not accepted: kind 0 with a number of 1 to 4, or 15, and no total after
+  pub refused : length answer ≡ 24 → (AcceptedTable c → ⊥) → TableDeclined (readBack after) × (totalAfter after ≡ pos 0)
 
 -- the theorem: of every call through the two doors, whatever the columns and the lent answer hold
 abbrev pub QuoteDoorMeans : Type 0
