@@ -5,8 +5,9 @@ use printer::LIST_BYTES;
 ghost use mathlib.Core.Path.{_≡_};
 ghost use Rattle.listing.specs.DigList.{textList};
 ghost use Rattle.listing.specs.Door.{textFields, listReturns, listAnswered, listText};
+ghost use Rattle.listing.specs.TextBytes.{DigsTextCall};
 
-// The list of an STP text, through the door.
+// The list of an STP text, through the door. `means` says what the bytes and the text are worth.
 #[no_mangle]
 pub extern "C" fn star_digs_text(stp: &[u8], text: &mut [u8], answer: &mut [u8]) -> u32
     ensures returned { λ r. ⌜ r ≡ listReturns (now (text .entry)) (now (answer .entry)) ⌝ }
@@ -16,6 +17,7 @@ pub extern "C" fn star_digs_text(stp: &[u8], text: &mut [u8], answer: &mut [u8])
     ensures listed { λ r.
         let a = textList (now (stp .entry)) in
         ⌜ now (text .exit) ≡ listText a (now (text .entry)) (now (answer .entry)) ⌝ }
+    ensures means { λ r. ⌜ DigsTextCall (now (stp .entry)) (now (text .entry)) (now (answer .entry)) (now (text .exit)) (now (answer .exit)) r ⌝ }
 {
     if answer.len() != 16 {
         return 0;

@@ -57,13 +57,13 @@ sixteen : (a : ListAnswer) → length (fieldBytes (listFields a)) ≡ 16
 unfolding fieldBytes bytesOf
 sixteen a = refl
 
-unlisted-text : (r : Refusal) (text : List ℕ) → withList (unlisted r) text ≡ text
+pub unlisted-text : (r : Refusal) (text : List ℕ) → withList (unlisted r) text ≡ text
 unfolding withList
 unlisted-text r text = refl
 
 -- ── Accepted tables ──
 
-listed-means : (c : Call) → Accepted c → (text : List ℕ) → ListedMeans c (readBack (fieldBytes (listFields (tableList c)))) (withList (tableList c) text)
+pub listed-means : (c : Call) → Accepted c → (text : List ℕ) → ListedMeans c (readBack (fieldBytes (listFields (tableList c)))) (withList (tableList c) text)
 unfolding tableList builtList withList
 listed-means c a text = go (mst1 c) refl
   where
@@ -126,11 +126,11 @@ refused-table r t = record { kind = refl; number = rw (one (small (t .number))) 
 -- ── The call ──
 
 module _ (text answer : List ℕ) where
-  lent : Lent text answer → lentBoth text answer ≡ true
+  pub lent : Lent text answer → lentBoth text answer ≡ true
   unfolding lentBoth wellLent
   lent (h, room) = rw (eq-eqb (length answer) 16 h, le-leb 6370 (length text) room)
 
-  not-lent : (Lent text answer → ⊥) → lentBoth text answer ≡ false
+  pub not-lent : (Lent text answer → ⊥) → lentBoth text answer ≡ false
   unfolding lentBoth wellLent
   not-lent n = go (eqb (length answer) 16) (leb 6370 (length text)) refl refl
     where

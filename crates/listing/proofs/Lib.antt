@@ -4,3 +4,4 @@ pub mod Sizes
 pub mod Meaning
 pub mod Trials
 pub mod Bytes
+pub mod TextBytes

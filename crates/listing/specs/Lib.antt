@@ -4,3 +4,4 @@ pub mod Reading
 pub mod Meaning
 pub mod Trials
 pub mod Bytes
+pub mod TextBytes

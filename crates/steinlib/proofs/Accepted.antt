@@ -358,3 +358,16 @@ import-holds text left right weight =
   where
     go : (n m : ℕ) → (importRefusal text left right weight ≡ none) × ((t : Read) × (readText text ≡ whole t) × (t .nodes ≡ n) × (t .rows ≡ m)) → ImportTaken text left right weight n m
     go n m (o, (t, x, p, q)) = rw (p, q) at (taken-table text left right weight t x o)
+
+-- the table that was read of a text that is taken, with the left column in the place of the marks
+pub read-taken : (text : List ℕ) (l r w n m : ℕ) → imported text l r w ≡ taken n m →
+    Accepted (callOf n (columnsOf (readText text) .left) (columnsOf (readText text) .right) (columnsOf (readText text) .weight) (columnsOf (readText text) .left))
+unfolding imported columnsOf FitsRead
+read-taken text l r w n m e = go (taken-whole _ _ n m e)
+  where
+    go : (refusal (importCauses (readText text) l r w) ≡ none) × ((t : Read) × (readText text ≡ whole t) × (t .nodes ≡ n) × (t .rows ≡ m)) →
+        Accepted (callOf n (columnsOf (readText text) .left) (columnsOf (readText text) .right) (columnsOf (readText text) .weight) (columnsOf (readText text) .left))
+    go (o, (t, x, p, q)) =
+        let f : Fit t = rw x at (fits-text text) in
+        let k : Checked t l r w = checked t l r w (rw x at o) in
+        rw (x, ← p) (read-accepted t l r w f k (t .left) (omega (arith, f .lefts, k .few-rows)))
