@@ -1,6 +1,9 @@
 // Reads an STP text on standard input and prints the dig list of MST1's tree: a line a row with its position, ends and weight, and the total; or the line of a refusal.
 // The page is made whole by printer::print_text, whose contract says what it is, before a byte is printed.
+ghost use mathlib.Core.Logic.{_⊎_};
+ghost use mathlib.Core.Path.{_≡_};
 ghost use Prim.Native.Nat.{_≤_};
+ghost use Rattle.listing.specs.DigList.{textList, exitStatus};
 use libc::STDIN_FILENO;
 use libc::STDOUT_FILENO;
 use printer::LIST_BYTES;
@@ -8,9 +11,10 @@ use printer::LIST_BYTES;
 // One byte more than the longest text that is taken, so that a longer one is noticed.
 const TEXT_BYTES: usize = 65537;
 
-// Prints the list of a text, and gives the exit status.
+// Prints the list of a text, and gives the exit status: 2 where it is not written, else 0 for a list and 1 for a refusal.
 fn list(text: &[u8]) -> u32
-    ensures { λ r. ⌜ r ≤ 2 ⌝ }
+    ensures status { λ r. ⌜ (r ≡ exitStatus (textList (now (text .entry)))) ⊎ (r ≡ 2) ⌝ }
+    ensures few { λ r. ⌜ r ≤ 2 ⌝ }
 {
     let mut bytes = [0u8; LIST_BYTES];
     let page = printer::print_text(text, &mut bytes);
