@@ -1,7 +1,10 @@
 // The doors against a plain implementation in C and, where they are installed, LEMON, Boost Graph and igraph: MST1, CST, the quote, the breaking price,
 // districts, mends and outlets; MST1 and CST on working tables too. One process, one table at a time; the median of many rounds. What is found is
 // compared, so that a solver that is wrong is told.
-// usage: bench [PLOT]   prints the times; writes a plot (SVG) of time against the number of rows to the file PLOT
+// usage: bench [PLOT]    prints the times; writes a plot (SVG) of time against the number of rows to the file PLOT
+//        bench --count   calls each solver twice and has callgrind write out the instructions of the second call (bench/counts.sh)
+#include <cstring>
+
 #include "plot.hpp"
 #include "rows.hpp"
 
@@ -147,7 +150,8 @@ std::vector<Line> grown(uint32_t n, const std::vector<size_t> &sizes) {
 } // namespace
 
 int main(int count, char **words) {
-    std::printf("Median of one call; beside it the time over that of star_mst1, of star_cst and of the fastest library (above 1: slower than that).\n");
+    counting = count > 1 && std::strcmp(words[1], "--count") == 0;
+    if (!counting) std::printf("Median of one call; beside it the time over that of star_mst1, of star_cst and of the fastest library (above 1: slower than that).\n");
     tell_missing();
     const uint32_t sizes[][2] = {{7, 16}, {17, 64}, {64, 256}, {255, 256}, {64, 1024}, {255, 1024}};
     for (auto s : sizes) measure(s[0], s[1], 0, STAR_MAX_PRICE);
@@ -157,7 +161,7 @@ int main(int count, char **words) {
     measure_working(64);
     measure_working(255);
     measure_plans();
-    if (count > 1) {
+    if (count > 1 && !counting) {
         if (!plot(words[1], "Least network of 255 junctions", grown(255, {256, 320, 384, 512, 640, 768, 896, 1024}))) return 1;
         std::printf("time against the number of rows: %s\n", words[1]);
     }
