@@ -22,7 +22,7 @@ use Rattle.table.specs.Tables.{width, blank, column, row}
 use Rattle.table.specs.declared.Table.{Table}
 
 -- bits before the last k do not count
-last-bits : (k a b : ℕ) → fromBits k (a * 2 ^ k + b) ≡ fromBits k b
+pub last-bits : (k a b : ℕ) → fromBits k (a * 2 ^ k + b) ≡ fromBits k b
 unfolding fromBits
 last-bits k a b = rw (mul-add-mod-self-right a (2 ^ k) b)
 
@@ -54,7 +54,7 @@ module _ (c : ℕ → ℕ → Bool) where
 
   -- the columns that are counted equal column 1
   module _ (m : ℕ) (inside : (j i : ℕ) → c j i ≡ true → (1 ≤ i) × (i ≤ m)) where
-    repeated-most : (j k : ℕ) → repeatedColumns m c j k ≤ k
+    pub repeated-most : (j k : ℕ) → repeatedColumns m c j k ≤ k
     unfolding repeatedColumns
     repeated-most j zero = omega arith
     repeated-most j (suc k) = go (any m (oneOf (c 1) (c (suc j)))) (repeated-most (suc j) k)
@@ -93,7 +93,7 @@ module _ (c : ℕ → ℕ → Bool) where
     repeated-bit (suc n) i h = let z : suc (1 + n) ≡ suc (suc n) = omega arith in sym (same-bit (suc (suc n)) i (subst (λ x. any m (oneOf (c 1) (c x)) ≡ false) z (repeated-none 1 31 n h)))
 
     -- so the integer in the columns from the last of them on is that in all 32
-    repeated-same : (n i : ℕ) → n ≤ repeatedColumns m c 1 31 → integerIn c n (32 - n) i ≡ integerIn c 0 32 i
+    pub repeated-same : (n i : ℕ) → n ≤ repeatedColumns m c 1 31 → integerIn c n (32 - n) i ≡ integerIn c 0 32 i
     repeated-same zero i h = refl
     repeated-same (suc n) i h =
         let few : repeatedColumns m c 1 31 ≤ 31 = repeated-most 1 31 in
