@@ -1,1 +1,4 @@
+pub mod Gathering
+pub mod Placing
+pub mod Numbers
 pub mod Signs

@@ -1,31 +1,146 @@
-// Byte columns loaded straight into the words of a table's columns, to be lent: ends, with one byte a row, and prices, with four.
+// Byte columns loaded straight into the words of a table's columns, to be lent: ends, with one byte a row, and prices, with four. Only the words that the rows reach are written, and of a table of ends only the last eight columns.
 // A column that cannot be loaded, one of over 1,024 rows or whose length is not a number of whole rows, gives zeros.
+// The bytes of eight rows, each eight after the one before it, go into one word, a block. The bits k of its bytes are then taken out together, so that eight blocks give 64 rows.
 ghost use mathlib.Core.Path.{_≡_};
-ghost use Prim.Native.Nat.{_-_};
+ghost use Prim.Native.Nat.{ℕ, _+_, _-_, _*_, _/_, _<_, _≤_};
+ghost use lib.ListN.{length, getD};
 ghost use Rattle.rowset.specs.Columns.{width, inColumns, repeatedColumns};
 ghost use Rattle.matrix.specs.Matrix.{matrixColumn};
+ghost use Rattle.planes.specs.steps.Blocks.{fromDigits, rowByte, blockOf, wordOf};
 ghost use Rattle.slice.specs.Slices.{size};
 ghost use Rattle.table.specs.Loads.{loadedRow};
+ghost use Rattle.loads.specs.steps.Stores.{Rows, withPlanes, withBytes, withWords};
 use lent::Stored;
 
-// The number of columns of a table.
+// The number of columns of a table, the words of a column and of a table, and the bits of a word.
 const WIDTH: usize = 32;
+
+const COLUMN: usize = 16;
+
+const ALL: usize = 512;
+
+const BITS: usize = 64;
+
+// The lowest bit of each byte of a word.
+const LOWEST: u64 = 0x0101010101010101;
+
+// Byte l of the block at index g is that of row 64 q + 8 l + g, for some q, rows counted from 0.
+struct Blocks {
+    blocks: [u64; 8],
+}
+
+// The bytes of row `first` and of every eighth row after it, `count` in all.
+fn block(column: &[u8], stride: usize, offset: usize, first: usize, count: usize) -> u64
+    requires { ⌜ (count ≤ 8) × (first < 1024) × (length (now column) ≤ 4096) × ((l : ℕ) → l < count → offset + stride * (first + 8 * l) < length (now column)) ⌝ }
+    ensures { λ r. ⌜ r ≡ fromDigits 256 (λ l. rowByte (now (column .entry)) stride offset (first + 8 * l)) 0 count ⌝ }
+{
+    let mut block: u64 = 0;
+    let mut l = count;
+    while 0 < l {
+        l -= 1;
+        let byte = column[offset + stride * (first + 8 * l)];
+        block = block * 256 + byte as u64;
+    }
+    block
+}
+
+// The blocks of the rows from row 64 q on, and of no row past the column's end.
+fn gather(column: &[u8], stride: usize, offset: usize, q: usize, rows: usize) -> Blocks
+    requires { ⌜ Rows (now column) stride rows × (offset < stride) × (64 * q < rows) ⌝ }
+    ensures { λ r. ⌜ ((g : ℕ) → g < 8 → getD (r .blocks) g 0 ≡ blockOf (now (column .entry)) stride offset (64 * q + g)) ⌝ }
+    ensures size { λ r. ⌜ length (r .blocks) ≡ 8 ⌝ }
+{
+    let rest = rows - BITS * q;
+    let left = if rest < BITS { rest } else { BITS };
+    let mut blocks = Blocks { blocks: [0; 8] };
+    let mut g = 0;
+    while g < 8 {
+        blocks.blocks[g] = block(column, stride, offset, BITS * q + g, (left + 7 - g) / 8);
+        g += 1;
+    }
+    blocks
+}
+
+// The bits k of the bytes of eight blocks.
+fn word(blocks: &[u64], k: usize) -> u64
+    requires { ⌜ (length (now blocks) ≡ 8) × (k < 8) ⌝ }
+    ensures { λ r. ⌜ r ≡ wordOf (now (blocks .entry)) k 0 ⌝ }
+{
+    let mut word: u64 = 0;
+    let mut g = 8;
+    while 0 < g {
+        g -= 1;
+        word = word * 2 + ((blocks[g] >> k) & LOWEST);
+    }
+    word
+}
+
+// The eight planes of a byte, the lowest at index `at` and each next one a column to the left.
+fn put_planes(columns: &mut [u64; ALL], blocks: &[u64], at: usize)
+    requires { ⌜ (length (now blocks) ≡ 8) × (112 ≤ at) × (at < 512) ⌝ }
+    ensures { λ u. ⌜ now (columns .exit) ≡ withPlanes (now (columns .entry)) at (λ k. wordOf (now (blocks .entry)) k 0) 8 ⌝ }
+{
+    let mut k = 0;
+    while k < 8 {
+        columns[at - COLUMN * k] = word(blocks, k);
+        k += 1;
+    }
+}
+
+// Word q of the columns.
+fn put_bytes(columns: &mut [u64; ALL], column: &[u8], stride: usize, q: usize, rows: usize)
+    requires { ⌜ Rows (now column) stride rows × (64 * q < rows) ⌝ }
+    ensures { λ u. ⌜ now (columns .exit) ≡ withBytes (now (columns .entry)) (now (column .entry)) stride q stride ⌝ }
+{
+    let mut offset = 0;
+    while offset < stride {
+        let b = gather(column, stride, offset, q, rows);
+        put_planes(columns, &b.blocks, COLUMN * (WIDTH - 1 - 8 * offset) + q);
+        offset += 1;
+    }
+}
+
+// The words that the rows reach.
+fn put_words(columns: &mut [u64; ALL], column: &[u8], stride: usize, rows: usize)
+    requires { ⌜ Rows (now column) stride rows ⌝ }
+    ensures { λ u. ⌜ now (columns .exit) ≡ withWords (now (columns .entry)) (now (column .entry)) stride ((rows + 63) / 64) ⌝ }
+{
+    let mut q = 0;
+    while BITS * q < rows {
+        put_bytes(columns, column, stride, q, rows);
+        q += 1;
+    }
+}
+
+// A load of a column with `stride` bytes a row, in all columns, or in as many of the last as the bytes need.
+fn load(column: &[u8], stride: usize) -> Stored
+    requires { ⌜ (1 ≤ stride) × (stride ≤ 4) ⌝ }
+    ensures { λ r. ⌜ ((s n : ℕ) → s + n ≡ width → 8 * stride ≤ n → inColumns (matrixColumn (r .columns)) s n ≡ loadedRow stride (now (column .entry))) ⌝ }
+{
+    let mut r = Stored { columns: [0; ALL] };
+    if stride * slice::SIZE < column.len() {
+        return r;
+    }
+    if column.len() % stride != 0 {
+        return r;
+    }
+    put_words(&mut r.columns, column, stride, column.len() / stride);
+    r
+}
 
 // The columns of a table with one byte a row: the number in the last eight columns, and so in all, is the row's.
 pub fn ends(column: &[u8]) -> Stored
     ensures last { λ r. ⌜ inColumns (matrixColumn (r .columns)) 24 (width - 24) ≡ loadedRow 1 (now (column .entry)) ⌝ }
     ensures rows { λ r. ⌜ inColumns (matrixColumn (r .columns)) 0 width ≡ loadedRow 1 (now (column .entry)) ⌝ }
 {
-    let loaded = table::load_bytes(column);
-    lent::columns_of(loaded.table)
+    load(column, 1)
 }
 
 // The columns of a table with four bytes a row, least significant first.
 pub fn prices(column: &[u8]) -> Stored
     ensures { λ r. ⌜ inColumns (matrixColumn (r .columns)) 0 width ≡ loadedRow 4 (now (column .entry)) ⌝ }
 {
-    let loaded = table::load_quads(column);
-    lent::columns_of(loaded.table)
+    load(column, 4)
 }
 
 // The number of columns on the left that GREAT, MIN and MAX may leave out: those before the last of the columns on the left that equal column 1.

@@ -1,0 +1,141 @@
+-- What the columns hold after a load: the numbers of the rows, in all columns and in as many of the last as the bytes need.
+-- Main statements: loaded-number, refused-number. Assumes nothing.
+use Prim.Native.Nat.{ℕ, zero, suc, _+_, _*_, _-_, _/_, _%_, _^_, _≤_, _<_}
+use mathlib.Core.Bool.{Bool, true, false, _&&_, and-false}
+use mathlib.Core.List.{List}
+use mathlib.Core.Logic.{by-cases}
+use mathlib.Core.Path.{_≡_, refl, sym, ap, ap₂, _∙_, fun-ext}
+use native.Mathlib.Decide.{decLt}
+use native.Mathlib.Nat.{add-comm, mod-lt, mul-mod-right, mul-le-mul-left, lt-of-lt-of-le}
+use native.Mathlib.Omega.{arith}
+use lib.Dec.{eqb}
+use lib.ListN.{length, getD, replicate}
+use lib.Pow.{pow-mono}
+use Rattle.rowset.specs.Bytes.{little, inRow}
+use Rattle.rowset.specs.Columns.{width, inColumns}
+use Rattle.rowset.specs.Sets.{upTo}
+use Rattle.rowset.proofs.Laws.{clash}
+use Rattle.lent.proofs.Stores.{bit-outside, bit-inside}
+use Rattle.matrix.specs.Matrix.{hasColumn, matrixColumn}
+use Rattle.planes.specs.steps.Blocks.{fromDigits, rowByte}
+use Rattle.planes.proofs.Digits.{digits-at, digits-bit, pow-pow, bit-above}
+use Rattle.slice.specs.Slices.{size, bit}
+use Rattle.slice.proofs.Bits.{bit-of-zero}
+use Rattle.slice.proofs.Sets.{upTo-inside, upTo-below, upTo-above, upTo-bounds}
+use Rattle.table.proofs.Columns.{number-bits}
+use Rattle.table.proofs.Loads.{little-below, in-row-past, load-taken, loaded-taken}
+use Rattle.table.specs.Loads.{loadedRow}
+use Rattle.loads.specs.steps.Stores.{Rows, planeWord, withWords}
+use Rattle.loads.proofs.Gathering.{plane-past}
+use Rattle.loads.proofs.Placing.{length-words, words-same, words-after, words-before}
+
+-- words of a table that are all 0
+pub record Zeros (l : List ℕ) : Type 0 where
+  pub full : length l ≡ 512
+  pub none : (k : ℕ) → getD l k 0 ≡ 0
+
+none-stored : (n k : ℕ) → _≡_ {A = ℕ} (getD (replicate n 0) k 0) 0
+none-stored zero k = refl
+none-stored (suc n) zero = refl
+none-stored (suc n) (suc k) = none-stored n k
+
+pub zeros : Zeros (replicate 512 0)
+zeros = record { full = refl; none = none-stored 512 }
+
+pow-pos : (n : ℕ) → 0 < 2 ^ n
+pow-pos n =
+    let h : 0 ≤ n = omega arith in
+    let e : 2 ^ 0 ≤ 2 ^ n = pow-mono h in
+    omega (arith, e)
+
+-- they hold 0
+zeros-column : (l : List ℕ) → Zeros l → (j i : ℕ) → matrixColumn l j i ≡ false
+unfolding matrixColumn
+zeros-column l z j i = rw (z .none (16 * (j - 1) + (i - 1) / 64), bit-of-zero, and-false, and-false)
+
+pub zeros-number : (l : List ℕ) → Zeros l → (s n : ℕ) → inColumns (matrixColumn l) s n ≡ (λ i. 0)
+zeros-number l z s n = fun-ext (λ i. number-bits (matrixColumn l) s n 0 i (pow-pos n) (λ k h. zeros-column l z (s + (n - k)) i ∙ sym (bit-of-zero k)))
+
+-- a number in bytes, by its digits
+little-digits : (l : List ℕ) (at n : ℕ) → little l at n ≡ fromDigits 256 (λ j. getD l j 0) at n
+unfolding little fromDigits
+little-digits l at zero = refl
+little-digits l at (suc n) = rw (little-digits l (suc at) n)
+
+module _ (column : List ℕ) (bytes : (i : ℕ) → getD column i 0 < 256) (stride rows : ℕ) (fits : Rows column stride rows) (l : List ℕ) (z : Zeros l) where
+  abbrev words : List ℕ
+  words = withWords l column stride ((rows + 63) / 64)
+
+  -- the word that stands at a place
+  word-at : (p q : ℕ) → p < 8 * stride → q < 16 → getD words (16 * (31 - p) + q) 0 ≡ planeWord column stride (p / 8) q (p % 8)
+  word-at p q h i =
+      by-cases (decLt q ((rows + 63) / 64))
+      (λ u. words-same l column stride (fits .four) (z .full) ((rows + 63) / 64) p q (omega (arith, fits .most)) u h)
+      (λ u.
+      words-after l column stride (fits .four) (z .full) ((rows + 63) / 64) (31 - p) q (omega (arith, u)) i
+      ∙ z .none (16 * (31 - p) + q)
+      ∙ sym (plane-past column stride rows fits (p / 8) (omega arith) q (p % 8) (omega (arith, u))))
+
+  -- bit p of row r
+  bit-at : (p r : ℕ) → p < 32 → r < 1024 → bit (getD words (16 * (31 - p) + r / 64) 0) (r % 64) ≡ bit (little column (stride * r) stride) p
+  unfolding bit planeWord rowByte
+  bit-at p r hp hr = by-cases (decLt p (8 * stride)) here above
+    where
+      here : p < 8 * stride → eqb (getD words (16 * (31 - p) + r / 64) 0 / 2 ^ (r % 64) % 2) 1 ≡ eqb (little column (stride * r) stride / 2 ^ p % 2) 1
+      here h =
+          let at : 64 * (r / 64) + r % 64 ≡ r = omega arith in
+          let place : p % 8 + 8 * (p / 8) ≡ p = omega arith in
+          let w : getD words (16 * (31 - p) + r / 64) 0 / 2 ^ (r % 64) % 2 ≡ getD column (p / 8 + stride * r) 0 / 2 ^ (p % 8) % 2 =
+          ap (λ n. n / 2 ^ (r % 64) % 2) (word-at p (r / 64) h (omega arith))
+          ∙ digits-at 2 (λ n. getD column (p / 8 + stride * n) 0 / 2 ^ (p % 8) % 2) (λ n. mod-lt _ (omega arith)) (64 * (r / 64)) 64 (r % 64) (omega arith)
+          ∙ ap (λ n. getD column (p / 8 + stride * n) 0 / 2 ^ (p % 8) % 2) at in
+          let v : little column (stride * r) stride / 2 ^ p % 2 ≡ getD column (p / 8 + stride * r) 0 / 2 ^ (p % 8) % 2 =
+          ap₂ (λ n m. n / 2 ^ m % 2) (little-digits column (stride * r) stride) (sym place)
+          ∙ digits-bit (λ j. getD column j 0) bytes (stride * r) stride (p / 8) (p % 8) (omega arith) (omega arith)
+          ∙ ap (λ n. getD column n 0 / 2 ^ (p % 8) % 2) (add-comm (stride * r) (p / 8)) in
+          ap (λ n. eqb n 1) (w ∙ sym v)
+
+      above : (p < 8 * stride → ⊥) → eqb (getD words (16 * (31 - p) + r / 64) 0 / 2 ^ (r % 64) % 2) 1 ≡ eqb (little column (stride * r) stride / 2 ^ p % 2) 1
+      above h =
+          let few : 8 * stride ≤ p = omega (arith, h) in
+          let word : getD words (16 * (31 - p) + r / 64) 0 ≡ 0 =
+          words-before l column stride (fits .four) (z .full) ((rows + 63) / 64) p (r / 64) (omega (arith, fits .most)) (omega arith) few hp ∙ z .none (16 * (31 - p) + r / 64) in
+          let small : little column (stride * r) stride < 2 ^ p = lt-of-lt-of-le (rw (pow-pow 2 8 stride) at (little-below column bytes (stride * r) stride)) (pow-mono few) in
+          ap (λ n. bit n (r % 64)) word ∙ bit-of-zero (r % 64) ∙ sym (bit-above (little column (stride * r) stride) p small)
+
+  -- the columns hold the rows
+  pub loaded-number : (s n : ℕ) → s + n ≡ width → 8 * stride ≤ n → inColumns (matrixColumn words) s n ≡ loadedRow stride column
+  unfolding inRow
+  loaded-number s n e h =
+      fun-ext (λ i. row i (upTo size i) refl)
+      ∙ sym (loaded-taken stride column (load-taken stride column long even))
+    where
+      long : length column ≤ stride * size
+      long = omega (arith, fits .whole, mul-le-mul-left stride (fits .most))
+
+      even : length column % stride ≡ 0
+      even = ap (λ n. n % stride) (sym (fits .whole)) ∙ mul-mod-right stride rows
+
+      inside : (r : ℕ) → r < 1024 → inColumns (matrixColumn words) s n (suc r) ≡ little column (stride * r) stride
+      inside r u =
+          number-bits (matrixColumn words) s n (little column (stride * r) stride) (suc r)
+          (lt-of-lt-of-le (rw (pow-pow 2 8 stride) at (little-below column bytes (stride * r) stride)) (pow-mono h))
+          (λ k v.
+          let j : s + (n - k) ≡ 32 - k = omega arith in
+          let c : 32 - k - 1 ≡ 31 - k = omega arith in
+          let i : suc r - 1 ≡ r = omega arith in
+          ap (λ x. matrixColumn words x (suc r)) j
+          ∙ bit-inside words (32 - k) (suc r) (omega arith) (omega (arith, length-words l column stride ((rows + 63) / 64), z .full)) (omega arith) u
+          ∙ ap₂ (λ a b. bit (getD words (16 * a + b / 64) 0) (b % 64)) c i
+          ∙ bit-at k r (omega arith) u)
+
+      outside : (i : ℕ) → upTo size i ≡ false → inColumns (matrixColumn words) s n i ≡ 0
+      outside i o = number-bits (matrixColumn words) s n 0 i (pow-pos n) (λ k v. bit-outside words (s + (n - k)) i o ∙ sym (bit-of-zero k))
+
+      past : (r : ℕ) → upTo size (suc r) ≡ false → little column (stride * r) stride ≡ 0
+      past r o = by-cases (decLt size (suc r)) (in-row-past stride column (suc r) long) (λ u. clash (upTo-inside size (suc r) (omega arith) (omega (arith, u))) o)
+
+      row : (i : ℕ) (b : Bool) → upTo size i ≡ b → inColumns (matrixColumn words) s n i ≡ inRow stride column i
+      row zero b o = outside 0 (upTo-below size 0 (omega arith))
+      row (suc r) true o = inside r (upTo-bounds size (suc r) o .1)
+      row (suc r) false o = outside (suc r) o ∙ sym (past r o)
