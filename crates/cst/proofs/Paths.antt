@@ -8,7 +8,8 @@ use mathlib.Core.Path.{_≡_, refl, sym, ap, _∙_, fun-ext}
 use borrow.Author.Tests.{eqb-true, ne-eqb}
 use lib.Dec.{eqb}
 use lib.IntN.{ℤ, natAbs, _-ℤ_}
-use lib.ListN.{length, drop}
+use lib.ListN.{length, take, drop, take-append-drop}
+use lib.Seq.{take-at}
 use lib.Signed.{_≤ℤ_}
 use native.Mathlib.Omega.{arith}
 use Rattle.graph.specs.Tree.{onPath}
@@ -21,8 +22,8 @@ use Rattle.rowset.specs.Bytes.{inRow}
 use Rattle.rowset.specs.Integers.{fromBits, total}
 use Rattle.rowset.specs.Searches.{greaterThan, sameAs}
 use Rattle.rowset.specs.Sets.{upTo, both, oneOf, without, takeOut, any, uppermost}
-use Rattle.rowset.specs.Words.{columnWords}
-use Rattle.matrix.proofs.Laws.{matrix-column}
+use Rattle.rowset.specs.Words.{columnWords, matrixWords}
+use Rattle.matrix.proofs.Laws.{length-matrixWords, matrix-column}
 use Rattle.matrix.specs.Matrix.{matrixColumn}
 use Rattle.slice.specs.Slices.{size}
 use Rattle.table.proofs.Loads.{load-taken, loaded-taken}
@@ -33,10 +34,12 @@ use Rattle.star.specs.Call.{Call, rowsOf, used, graphOf, weightOf, marked, clai
 use Rattle.star.specs.Cst.{refused, passed, lighter, between, heavier, improves, rowIn, rowOut, equals, replaces, equalIn, equalOut, only, judged, verdict, cst, rowsBeside, equalRows}
 use Rattle.star.specs.MatrixPath.{pathColumn, matrixPath, matrixOr, matrixAfter}
 use Rattle.star.specs.Refusals.{maxVertices, cstCauses, tableCauses, refusal}
+use Rattle.path.proofs.Result.{own-answer, own-paths}
+use Rattle.path.specs.steps.Walks.{ownPath, ownAfter}
 use Rattle.checks.proofs.Laws.{uppermost-bound}
 use Rattle.claim.proofs.Laws.{claimRows-marked}
 use Rattle.claim.specs.Claims.{claimRows}
-use Rattle.cst.proofs.Refused.{path-refusal}
+use Rattle.cst.proofs.Refused.{causes-refusal, path-refusal}
 use Rattle.cst.proofs.Sets.{passed-over, stopped, exhausted}
 use Rattle.cst.specs.steps.Paths.{weightIn, Search, foundOn, someOn, firstOn, rowWith, exchangeOf, firstLighter, firstEqual, remembered, Walked}
 use Rattle.cst.specs.declared.Equal.{Equal}
@@ -158,15 +161,18 @@ module _ (c : Call) (e : refusal (cstCauses c) ≡ none) where
       let (l, u, x) = claimed-row c k (and-eq-true-iff _ _ .0 h .0) in
       (l, u)
 
-  -- MatrixPath's matrix of 4,080 words has the path columns: a slice holds all their rows
-  walked : (R : List ℕ) → length R ≡ columnWords * maxVertices → Walked c (matrixAfter c 1 R)
-  unfolding matrixAfter matrixOr both
-  walked R l =
+  -- a matrix whose first 16 · n words are MatrixPath's has the path columns: a slice holds all their rows
+  walked : (l : List ℕ) → take (columnWords * c .n) l ≡ matrixWords (pathColumn c 1) (c .n) → Walked c l
+  unfolding both
+  walked l h =
       record {
         unrefused = e;
-        columns = λ j a b. rw (path-refusal c R l, e) (matrix-column (pathColumn c 1) (c .n) j (drop (columnWords * c .n) R) a b ∙ fun-ext (λ k. held j k (pathColumn c 1 j k) refl));
+        columns = λ j a b. ap (λ (x : List ℕ). matrixColumn x j) whole ∙ matrix-column (pathColumn c 1) (c .n) j (drop (columnWords * c .n) l) a b ∙ fun-ext (λ k. held j k (pathColumn c 1 j k) refl);
       }
     where
+      whole : l ≡ matrixWords (pathColumn c 1) (c .n) ++ drop (columnWords * c .n) l
+      whole = sym (take-append-drop (columnWords * c .n) l) ∙ ap (λ (x : List ℕ). x ++ drop (columnWords * c .n) l) h
+
       held : (j k : ℕ) (b : Bool) → pathColumn c 1 j k ≡ b → (upTo size k && b) ≡ b
       held j k true h =
           let (l, u) = column-row j k h in
@@ -324,15 +330,42 @@ module _ (c : Call) (matrix : List ℕ) (w : Walked c matrix) where
       unfolding equalRows
       passes e = let a = passed-answer e in (a, rw (← a) (rows-beside _))
 
--- what MatrixPath refuses from vertex 1 on a matrix of 4,080 words, CST refuses
-pub refused-walk : (c : Call) (R : List ℕ) → length R ≡ columnWords * maxVertices → (r : Refusal) → some r ≡ matrixPath c 1 R → (refused r ≡ cst c) × (record { out = 0; into = 0 } ≡ equalRows c)
+-- ── The answer of MatrixPath from vertex 1 ──
+
+-- what it refuses CST refuses
+refused-as : (c : Call) (r : Refusal) → some r ≡ refusal (cstCauses c) → (refused r ≡ cst c) × (record { out = 0; into = 0 } ≡ equalRows c)
 unfolding cst verdict equalRows rowsBeside
-refused-walk c R l r e = (rw (← path-refusal c R l, ← e), rw (← path-refusal c R l, ← e))
+refused-as c r e = (rw (← e), rw (← e))
 
--- and where it is done the matrix has the path columns
-pub done-walk : (c : Call) (R : List ℕ) → length R ≡ columnWords * maxVertices → (matrix : List ℕ) → none ≡ matrixPath c 1 R → matrix ≡ matrixAfter c 1 R → Walked c matrix
-done-walk c R l matrix e m = rw m (walked c (sym (path-refusal c R l) ∙ sym e) R l)
+-- on a matrix of 4,080 words
+module _ (c : Call) (R : List ℕ) (l : length R ≡ columnWords * maxVertices) where
+  pub refused-walk : (r : Refusal) → some r ≡ matrixPath c 1 R → (refused r ≡ cst c) × (record { out = 0; into = 0 } ≡ equalRows c)
+  refused-walk r e = refused-as c r (e ∙ path-refusal c R l)
 
--- and its weights can be loaded
-pub done-loads : (c : Call) (R : List ℕ) → length R ≡ columnWords * maxVertices → none ≡ matrixPath c 1 R → loadedRow 4 (c .weight) ≡ inRow 4 (c .weight)
-done-loads c R l e = loads c (sym (path-refusal c R l) ∙ sym e)
+  -- where it is done the matrix has the path columns
+  pub done-walk : (matrix : List ℕ) → none ≡ matrixPath c 1 R → matrix ≡ matrixAfter c 1 R → Walked c matrix
+  unfolding matrixAfter matrixOr
+  done-walk matrix e m =
+      walked c (sym (path-refusal c R l) ∙ sym e) matrix
+      (ap (take (columnWords * c .n)) (m ∙ rw (← e)) ∙ take-at (matrixWords (pathColumn c 1) (c .n)) (drop (columnWords * c .n) R) (columnWords * c .n) (length-matrixWords (pathColumn c 1) (c .n)))
+
+  -- and its weights can be loaded
+  pub done-loads : none ≡ matrixPath c 1 R → loadedRow 4 (c .weight) ≡ inRow 4 (c .weight)
+  done-loads e = loads c (sym (path-refusal c R l) ∙ sym e)
+
+-- in the words of CST's own matrix
+module _ (c : Call) (own : List ℕ) (enough : Taken c → columnWords * c .n ≤ length own) where
+  own-refusal : ownPath c 1 (columnWords * maxVertices) own ≡ refusal (cstCauses c)
+  own-refusal = own-answer c 1 (columnWords * maxVertices) own enough ∙ causes-refusal c (columnWords * maxVertices) refl
+
+  pub refused-own : (r : Refusal) → some r ≡ ownPath c 1 (columnWords * maxVertices) own → (refused r ≡ cst c) × (record { out = 0; into = 0 } ≡ equalRows c)
+  refused-own r e = refused-as c r (e ∙ own-refusal)
+
+  module _ (e : none ≡ ownPath c 1 (columnWords * maxVertices) own) where
+    pub walked-own : (matrix : List ℕ) → matrix ≡ ownAfter c 1 (columnWords * maxVertices) own → Walked c matrix
+    walked-own matrix m =
+        walked c (sym own-refusal ∙ sym e) matrix
+        (ap (take (columnWords * c .n)) m ∙ own-paths c 1 (columnWords * maxVertices) own enough (sym (own-answer c 1 (columnWords * maxVertices) own enough) ∙ sym e))
+
+    pub loads-own : loadedRow 4 (c .weight) ≡ inRow 4 (c .weight)
+    loads-own = loads c (sym own-refusal ∙ sym e)

@@ -25,11 +25,15 @@ long-matrix : (c : Call) (size : ℕ) → size ≡ columnWords * maxVertices →
 unfolding shortMatrix
 long-matrix c size e h = none-cause (ltb size (columnWords * c .n)) 8 0 (le-ltb size (columnWords * c .n) (omega arith))
 
-pub path-refusal : (c : Call) (R : List ℕ) → length R ≡ columnWords * maxVertices → matrixPath c 1 R ≡ refusal (cstCauses c)
-unfolding matrixPath matrixPathCauses cstCauses tableCauses badVertices cause refusal orElse
-path-refusal c R l = go (eqb (c .n) 0) (ltb maxVertices (c .n)) refl refl
+pub causes-refusal : (c : Call) (words : ℕ) → words ≡ columnWords * maxVertices → refusal (matrixPathCauses c 1 words) ≡ refusal (cstCauses c)
+unfolding matrixPathCauses cstCauses tableCauses badVertices cause refusal orElse
+causes-refusal c words l = go (eqb (c .n) 0) (ltb maxVertices (c .n)) refl refl
   where
-    go : (p q : Bool) → eqb (c .n) 0 ≡ p → ltb maxVertices (c .n) ≡ q → refusal (matrixPathCauses c 1 (length R)) ≡ refusal (cstCauses c)
+    go : (p q : Bool) → eqb (c .n) 0 ≡ p → ltb maxVertices (c .n) ≡ q → refusal (matrixPathCauses c 1 words) ≡ refusal (cstCauses c)
     go true q e f = rw e
     go false true e f = rw (e, f)
-    go false false e f = rw (good-source c (omega (arith, eqb-false (c .n) 0 e)), long-matrix c (length R) l (ltb-false maxVertices (c .n) f))
+    go false false e f = rw (good-source c (omega (arith, eqb-false (c .n) 0 e)), long-matrix c words l (ltb-false maxVertices (c .n) f))
+
+pub path-refusal : (c : Call) (R : List ℕ) → length R ≡ columnWords * maxVertices → matrixPath c 1 R ≡ refusal (cstCauses c)
+unfolding matrixPath
+path-refusal c R l = causes-refusal c (length R) l

@@ -1,15 +1,18 @@
 // CST, the tree checker: its verdict on the claim that a table's marked rows are a least spanning tree.
 ghost use mathlib.Core.Bool.{Bool};
 ghost use mathlib.Core.Path.{_≡_};
-ghost use Prim.Native.Nat.{ℕ, _-_, _≤_};
+ghost use Prim.Native.Nat.{ℕ, _-_, _*_, _≤_};
+ghost use lib.ListN.{length};
 ghost use lib.Signed.{_≤ℤ_};
 ghost use Rattle.rowset.specs.Bytes.{inRow};
 ghost use Rattle.rowset.specs.Columns.{width};
 ghost use Rattle.rowset.specs.Integers.{fromBits};
 ghost use Rattle.rowset.specs.Searches.{greaterThan, sameAs};
+ghost use Rattle.rowset.specs.Words.{columnWords};
 ghost use Rattle.slice.specs.Slices.{size, component};
 ghost use Rattle.star.specs.Cst.{cst, equalRows};
 ghost use Rattle.star.specs.Call.{Call, tableOf, callOf, workOf};
+ghost use Rattle.star.specs.Refusals.{maxVertices};
 ghost use Rattle.table.specs.Loads.{loadedRow};
 ghost use Rattle.cst.specs.steps.Paths.{weightIn, integersAfter, foundOn, exchangeOf, remembered, firstLighter, firstEqual, Walked};
 ghost use Rattle.cst.specs.steps.Records.{recordOf};
@@ -25,6 +28,11 @@ use slice::difference;
 use slice::rows::rows_among;
 use slice::rows::rows_to;
 use slice::words::rows_in_use;
+
+// A number of vertices that many tables do not exceed, and the words of a path matrix for as many.
+const FEW: u32 = 16;
+
+const FEW_WORDS: usize = 256;
 
 // The exchange that makes a claim lighter: the marked row that goes out, the unmarked row that comes in, and how much less the claim then weighs.
 pub struct Exchange {
@@ -203,8 +211,40 @@ fn record_of(answer: Outcome) -> Refusal
     refusal
 }
 
+// CST with its path matrix lent, which has a column for each vertex: MatrixPath from vertex 1 fills it, and where MatrixPath refuses, its refusal is handed on unread.
+fn check_in(
+    n: u32,
+    m: usize,
+    whole: bool,
+    rows: Slice,
+    left: &[u8],
+    right: &[u8],
+    weight: &[u8],
+    mark: &[u8],
+    own: &mut [u64],
+) -> Checked
+    requires { ⌜ (n ≤ maxVertices → columnWords * n ≤ length (now own)) ⌝ }
+    ensures verdict { λ r.
+        let c = tableOf n m whole (component rows) (now (left .entry)) (now (right .entry)) (now (weight .entry)) (now (mark .entry)) in
+        ⌜ answerOf (r .verdict) ≡ cst c ⌝ }
+    ensures rows { λ r.
+        let c = tableOf n m whole (component rows) (now (left .entry)) (now (right .entry)) (now (weight .entry)) (now (mark .entry)) in
+        ⌜ equalRowsOf r ≡ equalRows c ⌝ }
+{
+    let words = path::ALL_WORDS;
+    let answer = path::path_own(n, m, whole, rows, left, right, weight, mark, 1, words, own);
+    let Outcome::Done = answer else {
+        return Checked {
+            verdict: Verdict::Refused(record_of(answer)),
+            out: 0,
+            into: 0,
+        };
+    };
+    judge(own, m, rows, left, right, weight, mark)
+}
+
 // CST over a table of m rows, of which those of a slice are in use: the verdict on the claim, and beside a pass that is not the only one the rows of an exchange that gives another tree of the same weight.
-// Where MatrixPath refuses, its refusal is handed on unread.
+// The path matrix is CST's own, a small one where there are few vertices.
 pub fn cst_rows(
     n: u32,
     m: usize,
@@ -222,16 +262,12 @@ pub fn cst_rows(
         let c = tableOf n m whole (component rows) (now (left .entry)) (now (right .entry)) (now (weight .entry)) (now (mark .entry)) in
         ⌜ equalRowsOf r ≡ equalRows c ⌝ }
 {
+    if n <= FEW {
+        let mut small = [0u64; FEW_WORDS];
+        return check_in(n, m, whole, rows, left, right, weight, mark, &mut small);
+    }
     let mut own = [0u64; path::ALL_WORDS];
-    let answer = path::matrix_path_rows(n, m, whole, rows, left, right, weight, mark, 1, &mut own);
-    let Outcome::Done = answer else {
-        return Checked {
-            verdict: Verdict::Refused(record_of(answer)),
-            out: 0,
-            into: 0,
-        };
-    };
-    judge(&own, m, rows, left, right, weight, mark)
+    check_in(n, m, whole, rows, left, right, weight, mark, &mut own)
 }
 
 // CST with the exchange over a plain table: a row for each byte of the left column, all in use.

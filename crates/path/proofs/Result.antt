@@ -1,4 +1,5 @@
--- MatrixPath's answer and matrix, from its checks and its walk: the checks decide first, then the vertices that the walk reached, and a refusal leaves the matrix.
+-- MatrixPath's answer and matrix, from its checks and its walk: the checks decide first, then the vertices that the walk reached, and a refusal leaves the caller's matrix.
+-- The walk in a lent matrix with room for its columns answers the same, and its words are the tree paths (own-answer, own-paths).
 -- Assumes nothing.
 use Prim.Native.Nat.{ℕ, _*_, _≤_}
 use borrow.Author.Tests.{eqb-false, ltb-false}
@@ -23,14 +24,14 @@ use Rattle.star.proofs.Accepted.{Taken, taken, none-head, none-tail, cause-none
 use Rattle.table.specs.Loads.{loadedRow}
 use Rattle.table.proofs.Loads.{load-taken, loaded-taken}
 use Rattle.claim.proofs.Laws.{claimRows-marked}
-use Rattle.path.specs.steps.Walks.{State, claimWalk}
+use Rattle.path.specs.steps.Walks.{State, callWalk, ownPath, ownAfter}
 use Rattle.checks.proofs.Laws.{refusal-both, refusal-one, refused-first, done-next}
 use Rattle.path.proofs.Paths.{walked, walked-joined, walked-paths, joined-tree}
 
 -- the answer is that of the checks, or else that of the walk
-answer-in-order : (c : Call) (s : ℕ) (R : List ℕ) → matrixPath c s R ≡ orElse (refusal (beforeWalk c s (length R))) (unjoined c s)
-unfolding matrixPath matrixPathCauses
-answer-in-order c s R = refusal-both (beforeWalk c s (length R)) (unjoined c s ∷ []) ∙ ap (orElse _) (refusal-one (unjoined c s))
+answer-in-order : (c : Call) (s words : ℕ) → refusal (matrixPathCauses c s words) ≡ orElse (refusal (beforeWalk c s words)) (unjoined c s)
+unfolding matrixPathCauses
+answer-in-order c s words = refusal-both (beforeWalk c s words) (unjoined c s ∷ []) ∙ ap (orElse _) (refusal-one (unjoined c s))
 
 -- a refusal leaves the matrix as it was
 refused-keeps : (c : Call) (s : ℕ) (R : List ℕ) (o : Outcome) (r : Refusal) → o ≡ Refused r → refusalOf o ≡ matrixPath c s R → R ≡ matrixAfter c s R
@@ -80,67 +81,97 @@ checked c s words e =
     source : (eqb s 0 ≡ false) × (ltb (c .n) s ≡ false)
     source = neither _ _ (cause-none _ 7 0 (none-head _ _ (none-tail _ _ (parts .1))))
 
--- ── The three answers ──
+-- ── The walk in a matrix of its own ──
 
--- the checks refuse
-pub check-refuses : (c : Call) (s : ℕ) (R : List ℕ) (o : Outcome) (r : Refusal) → o ≡ Refused r → refusalOf o ≡ refusal (beforeWalk c s (length R)) → (refusalOf o ≡ matrixPath c s R) × (R ≡ matrixAfter c s R)
-check-refuses c s R o r told e =
-    let answer = refused-first o r _ _ told e ∙ sym (answer-in-order c s R) in
-    (answer, refused-keeps c s R o r told answer)
+-- what the checks settle where they are done
+pub settled : (c : Call) (s words : ℕ) (o : Outcome) → refusalOf o ≡ refusal (beforeWalk c s words) → o ≡ Done → Checked c s words
+unfolding refusalOf
+settled c s words o e done = checked c s words (sym e ∙ ap refusalOf done)
 
--- the checks do not refuse, and the walk over the claim's rows fills a matrix of its own
-module _ (c : Call) (s : ℕ) (R : List ℕ) (o : Outcome) (done : o ≡ Done) (e : refusalOf o ≡ refusal (beforeWalk c s (length R))) where
-  pub settled : Checked c s (length R)
-  unfolding refusalOf
-  settled = checked c s (length R) (sym e ∙ ap refusalOf done)
+-- what is answered and left: the checks refuse, or they do not and the walk decides
+module _ (c : Call) (s words : ℕ) (own : List ℕ) (o : Outcome) (e : refusalOf o ≡ refusal (beforeWalk c s words)) where
+  pub own-refused : (r : Refusal) → o ≡ Refused r → (refusalOf o ≡ ownPath c s words own) × (own ≡ ownAfter c s words own)
+  unfolding ownPath ownAfter matrixOr refusalOf
+  own-refused r told = (refused-first o r _ _ told e, rw (← e, told))
 
-  t : Taken c
-  t = settled .table
+  pub own-walked : o ≡ Done → (w : Outcome) (l : List ℕ) → refusalOf w ≡ unreached (c .n) (callWalk c s own .reached) → l ≡ callWalk c s own .words
+      → (refusalOf w ≡ ownPath c s words own) × (l ≡ ownAfter c s words own)
+  unfolding ownPath ownAfter matrixOr refusalOf
+  own-walked done w l answer filled = (done-next o _ _ _ done e answer, filled ∙ rw (← e, done))
 
-  module _ (own : List ℕ) (all : length own ≡ columnWords * maxVertices) where
-    -- the walk on the loaded columns is that on the byte columns
-    abbrev after : State
-    after = claimWalk (c .n) (c .m) (c .inUse) (c .left) (c .right) (c .mark) s own
+-- a matrix with a column for each vertex of an accepted table
+module _ (c : Call) (s words : ℕ) (own : List ℕ) (enough : Taken c → columnWords * c .n ≤ length own) where
+  -- where the checks refuse nothing
+  module _ (h : Checked c s words) where
+    t : Taken c
+    t = h .table
 
     loaded : (l : List ℕ) → length l ≡ rowsOf c → loadedRow 1 l ≡ inRow 1 l
-    loaded l h = loaded-taken 1 l (load-taken 1 l (omega (arith, t .few-rows)) (omega arith))
+    loaded l k = loaded-taken 1 l (load-taken 1 l (omega (arith, t .few-rows)) (omega arith))
 
-    same-walk : after ≡ walked c s own
+    -- the walk on the loaded columns is that on the byte columns
+    same-walk : callWalk c s own ≡ walked c s own
     unfolding claimed used
     same-walk =
         let rows = claimRows-marked (c .mark) (omega (arith, t .few-rows, t .mark-length)) in
         rw (loaded (c .left) (t .left-length), loaded (c .right) (t .right-length), rows)
 
-    room : columnWords * c .n ≤ length own
-    room = omega (arith, t .few-vertices)
-
     -- the vertices that the walk does not reach are cause 10
-    unreached-unjoined : unreached (c .n) (after .reached) ≡ unjoined c s
+    unreached-unjoined : unreached (c .n) (callWalk c s own .reached) ≡ unjoined c s
     unfolding unjoined
     unreached-unjoined =
         ap (λ (x : State). unreached (c .n) (x .reached)) same-walk
-        ∙ ap (unreached (c .n)) (walked-joined c t s (settled .low) (settled .high) own room)
+        ∙ ap (unreached (c .n)) (walked-joined c t s (h .low) (h .high) own (enough t))
 
     -- and where there is none, its words are the tree paths
-    walk-fills : unjoined c s ≡ none → take (columnWords * c .n) (after .words) ≡ matrixWords (pathColumn c s) (c .n)
+    walk-fills : unjoined c s ≡ none → take (columnWords * c .n) (callWalk c s own .words) ≡ matrixWords (pathColumn c s) (c .n)
     walk-fills joins =
         ap (λ (x : State). take (columnWords * c .n) (x .words)) same-walk
-        ∙ walked-paths c t s (settled .low) (settled .high) own room (joined-tree c t s (settled .low) (settled .high) (settled .marks) joins)
+        ∙ walked-paths c t s (h .low) (h .high) own (enough t) (joined-tree c t s (h .low) (h .high) (h .marks) joins)
 
-    module _ (w : Outcome) (answer : refusalOf w ≡ unreached (c .n) (after .reached)) where
-      -- the walk decides where the checks do not
-      decides : refusalOf w ≡ matrixPath c s R
-      decides = done-next o _ _ _ done e (answer ∙ unreached-unjoined) ∙ sym (answer-in-order c s R)
+  -- the answer is MatrixPath's
+  pub own-answer : ownPath c s words own ≡ refusal (matrixPathCauses c s words)
+  unfolding ownPath orElse
+  own-answer = go (refusal (beforeWalk c s words)) refl ∙ sym (answer-in-order c s words)
+    where
+      go : (x : Option Refusal) → refusal (beforeWalk c s words) ≡ x → orElse x (unreached (c .n) (callWalk c s own .reached)) ≡ orElse x (unjoined c s)
+      go none e = unreached-unjoined (checked c s words e)
+      go (some r) e = refl
 
-      -- the walk refuses
-      pub walk-refuses : (r : Refusal) → w ≡ Refused r → (refusalOf w ≡ matrixPath c s R) × (R ≡ matrixAfter c s R)
-      walk-refuses r told = (decides, refused-keeps c s R w r told decides)
+  -- and where it is done the first 16 · n words are the tree paths from s
+  pub own-paths : refusal (matrixPathCauses c s words) ≡ none → take (columnWords * c .n) (ownAfter c s words own) ≡ matrixWords (pathColumn c s) (c .n)
+  unfolding ownAfter matrixOr
+  own-paths e =
+      let (before, joins) = none-first _ _ (sym (answer-in-order c s words) ∙ e) in
+      rw before (walk-fills (checked c s words before) joins)
 
-      -- nothing refuses, and the walk's words are copied
-      pub walk-done : w ≡ Done → (l W : List ℕ) → l ≡ after .words → W ≡ take (columnWords * c .n) l ++ drop (columnWords * c .n) R → (refusalOf Done ≡ matrixPath c s R) × (W ≡ matrixAfter c s R)
-      unfolding refusalOf
-      walk-done told l W filled copied =
-          let nothing : none ≡ matrixPath c s R = sym (ap refusalOf told) ∙ decides in
-          let paths = walk-fills (sym (answer ∙ unreached-unjoined) ∙ ap refusalOf told) in
-          let words = ap (take (columnWords * c .n)) filled ∙ paths in
-          (nothing, copied ∙ ap (λ (k : List ℕ). k ++ drop (columnWords * c .n) R) words ∙ sym (done-fills c s R nothing))
+-- ── The caller's matrix ──
+
+module _ (c : Call) (s : ℕ) (R own : List ℕ) (all : length own ≡ columnWords * maxVertices) (o : Outcome) (e : refusalOf o ≡ ownPath c s (length R) own) where
+  enough : Taken c → columnWords * c .n ≤ length own
+  enough t = omega (arith, t .few-vertices)
+
+  answer : refusalOf o ≡ matrixPath c s R
+  unfolding matrixPath
+  answer = e ∙ own-answer c s (length R) own enough
+
+  -- a refusal leaves it
+  pub path-refuses : (r : Refusal) → o ≡ Refused r → (refusalOf o ≡ matrixPath c s R) × (R ≡ matrixAfter c s R)
+  path-refuses r told = (answer, refused-keeps c s R o r told answer)
+
+  module _ (done : o ≡ Done) where
+    nothing : none ≡ matrixPath c s R
+    unfolding refusalOf
+    nothing = sym (ap refusalOf done) ∙ answer
+
+    -- the checks are done
+    pub path-settled : Checked c s (length R)
+    unfolding matrixPath
+    path-settled = checked c s (length R) (none-first _ _ (sym (answer-in-order c s (length R)) ∙ sym nothing) .0)
+
+    -- and the walk's words are copied
+    pub path-fills : (l W : List ℕ) → l ≡ ownAfter c s (length R) own → W ≡ take (columnWords * c .n) l ++ drop (columnWords * c .n) R → (refusalOf Done ≡ matrixPath c s R) × (W ≡ matrixAfter c s R)
+    unfolding refusalOf matrixPath
+    path-fills l W filled copied =
+        let words = ap (take (columnWords * c .n)) filled ∙ own-paths c s (length R) own enough (sym nothing) in
+        (nothing, copied ∙ ap (λ (k : List ℕ). k ++ drop (columnWords * c .n) R) words ∙ sym (done-fills c s R nothing))

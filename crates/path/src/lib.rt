@@ -9,7 +9,7 @@ ghost use Rattle.star.specs.MatrixPath.{matrixPath, matrixAfter};
 ghost use Rattle.star.specs.Refusals.{wrongSource, fewWords, unreached, beforeWalk, refusal};
 ghost use Rattle.star.specs.Call.{tableOf, callOf, workOf};
 ghost use Rattle.table.specs.Loads.{loadedRow};
-ghost use Rattle.path.specs.steps.Walks.{endsIn, stateOf, arrive, pass, along, step, walk, claimWalk};
+ghost use Rattle.path.specs.steps.Walks.{endsIn, stateOf, arrive, pass, along, step, walk, claimWalk, ownPath, ownAfter};
 use checks::first;
 use checks::refused_at;
 use checks::refused_if;
@@ -202,6 +202,34 @@ fn claim_walk(
     joined_check(n, reached)
 }
 
+// MatrixPath in a matrix that is lent for the walk, where the caller's matrix has so many words: all causes, those before the walk and then cause 10. Where none applies, the first n columns of `own` are the paths.
+pub fn path_own(
+    n: u32,
+    m: usize,
+    whole: bool,
+    rows: Slice,
+    left: &[u8],
+    right: &[u8],
+    weight: &[u8],
+    mark: &[u8],
+    s: u32,
+    words: usize,
+    own: &mut [u64],
+) -> Outcome
+    ensures answer { λ o.
+        let c = tableOf n m whole (component rows) (now (left .entry)) (now (right .entry)) (now (weight .entry)) (now (mark .entry)) in
+        ⌜ refusalOf o ≡ ownPath c s words (now (own .entry)) ⌝ }
+    ensures words { λ o.
+        let c = tableOf n m whole (component rows) (now (left .entry)) (now (right .entry)) (now (weight .entry)) (now (mark .entry)) in
+        ⌜ now (own .exit) ≡ ownAfter c s words (now (own .entry)) ⌝ }
+{
+    let checked = path_check(n, m, whole, rows, left, right, weight, mark, s, words);
+    let Outcome::Done = checked else {
+        return checked;
+    };
+    claim_walk(n, m, rows, left, right, mark, s, own)
+}
+
 // MatrixPath over a table of m rows, of which those of a slice are in use: every refusal is settled, the walk's too, before the first 16 n words of r are written.
 pub fn matrix_path_rows(
     n: u32,
@@ -219,14 +247,23 @@ pub fn matrix_path_rows(
         let c = tableOf n m whole (component rows) (now (left .entry)) (now (right .entry)) (now (weight .entry)) (now (mark .entry)) in
         ⌜ (refusalOf o ≡ matrixPath c s (now (r .entry))) × (now (r .exit) ≡ matrixAfter c s (now (r .entry))) ⌝ }
 {
-    let checked = path_check(n, m, whole, rows, left, right, weight, mark, s, r.len());
-    let Outcome::Done = checked else {
-        return checked;
-    };
     let mut own = [0u64; ALL_WORDS];
-    let walked = claim_walk(n, m, rows, left, right, mark, s, &mut own);
-    let Outcome::Done = walked else {
-        return walked;
+    let words = r.len();
+    let answer = path_own(
+        n,
+        m,
+        whole,
+        rows,
+        left,
+        right,
+        weight,
+        mark,
+        s,
+        words,
+        &mut own,
+    );
+    let Outcome::Done = answer else {
+        return answer;
     };
     fill(r, &own, WORDS * n as usize);
     Outcome::Done

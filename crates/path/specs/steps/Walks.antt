@@ -3,11 +3,16 @@
 use Prim.Native.Nat.{ℕ, zero, suc, _-_}
 use mathlib.Core.Bool.{Bool, true, cond}
 use mathlib.Core.List.{List}
+use mathlib.Core.Option.{Option}
 use Rattle.rowset.specs.Columns.{inColumns}
 use Rattle.rowset.specs.Searches.{equalTo}
 use Rattle.rowset.specs.Sets.{empty, upTo, both, either, oneOf, uppermost}
 use Rattle.matrix.specs.Matrix.{matrixColumn, withColumn}
+use Rattle.refusal.specs.declared.Refusal.{Refusal}
 use Rattle.slice.specs.Slices.{size, component, written}
+use Rattle.star.specs.Call.{Call}
+use Rattle.star.specs.MatrixPath.{matrixOr}
+use Rattle.star.specs.Refusals.{unreached, beforeWalk, orElse, refusal}
 use Rattle.table.specs.Loads.{loadedRow}
 use Rattle.table.specs.Tables.{width}
 use Rattle.claim.specs.Claims.{claimRows}
@@ -74,3 +79,15 @@ walk a b T s words = steps a b T (arrive a b T (nowhere words) s empty)
 -- the walk of n steps from vertex s over those of the rows among the first m that a claim marks, with the ends that the byte columns hold
 abbrev pub claimWalk : (n m : ℕ) → (rows : ℕ → Bool) → (left right mark : List ℕ) → ℕ → List ℕ → State
 claimWalk n m rows left right mark s words = walk (loadedRow 1 left) (loadedRow 1 right) (both (both (upTo m) rows) (claimRows mark)) s words n
+
+-- the same for a call
+abbrev pub callWalk : Call → ℕ → List ℕ → State
+callWalk c s own = claimWalk (c .n) (c .m) (c .inUse) (c .left) (c .right) (c .mark) s own
+
+-- MatrixPath in the words of a matrix lent for the walk, where the caller's matrix has so many words: the first cause before the walk, else the smallest vertex that the walk does not reach
+unfoldable pub ownPath : Call → (s words : ℕ) → List ℕ → Option Refusal
+ownPath c s words own = orElse (refusal (beforeWalk c s words)) (unreached (c .n) (callWalk c s own .reached))
+
+-- and the lent words afterwards: the walk's, where no cause before the walk applies
+unfoldable pub ownAfter : Call → (s words : ℕ) → List ℕ → List ℕ
+ownAfter c s words own = matrixOr (refusal (beforeWalk c s words)) own (callWalk c s own .words)
