@@ -39,8 +39,8 @@ fn path_between(
 ) -> Slice
     ensures { λ r. ⌜ component r ≡ matrixColumn (walk (loadedRow 1 (now (left .entry))) (loadedRow 1 (now (right .entry))) (component tree) u (now (own .entry)) n .words) v ⌝ }
 {
-    let lefts = path::ends_of(left);
-    let rights = path::ends_of(right);
+    let lefts = loads::ends(left);
+    let rights = loads::ends(right);
     path::walk(&lefts.columns, &rights.columns, tree, u, n, own);
     matrix::read_column(own, v)
 }
@@ -49,8 +49,8 @@ fn path_between(
 fn heaviest_price(weight: &[u8], x: Slice) -> u32
     ensures { λ r. ⌜ r ≡ inRow 4 (now (weight .entry)) (uppermost size (largest size (λ i. signed (loadedRow 4 (now (weight .entry)) i)) (component x))) ⌝ }
 {
-    let weights = table::load_quads(weight);
-    let heaviest = slice::fnd(search::max(weights.table, x));
+    let weights = loads::prices(weight);
+    let heaviest = slice::fnd(lent::max_from(&weights.columns, 0, x));
     checks::row_weight(weight, heaviest)
 }
 

@@ -3,14 +3,13 @@ ghost use mathlib.Core.Path.{_≡_};
 ghost use Rattle.districting.specs.Districts.{badRuns, runCauses, districtsAnswer, districtsForests, districtsMarks};
 ghost use Rattle.forest.specs.Districts.{risesTo};
 ghost use Rattle.mst1.specs.Answers.{answerOf};
-ghost use Rattle.mst1.specs.steps.Growth.{graphOn, loadedGraph};
+ghost use Rattle.mst1.specs.steps.Growth.{integersAfter, graphIn, loadedGraph};
 ghost use Rattle.refusal.specs.Outcomes.{refusalOf};
 ghost use Rattle.rowset.specs.Integers.{signed};
 ghost use Rattle.slice.specs.Slices.{component};
 ghost use Rattle.star.specs.Call.{tableOf, callOf, workOf};
 ghost use Rattle.star.specs.Refusals.{refusal};
 ghost use Rattle.table.specs.Loads.{loadedRow};
-ghost use Rattle.table.specs.Tables.{row};
 ghost use Rattle.districts.specs.steps.Divided.{Divided};
 use mst1::Built;
 use refusal::Outcome;
@@ -20,7 +19,6 @@ use slice::Slice;
 use slice::WORDS;
 use slice::rows::rows_to;
 use slice::words::rows_in_use;
-use table::Table;
 
 // The largest number of ends that is taken.
 pub const MAX_ENDS: usize = 8;
@@ -80,12 +78,20 @@ pub fn call_check(
     checks::first(column, checks::first(table, runs_check(ends, m)))
 }
 
-// The forests of the runs of a slice's rows, and the tree of n vertices from the forests' rows alone.
-fn grow_city(left: Table, right: Table, weight: Table, rows: Slice, n: usize, ends: &[u32]) -> City
-    ensures { λ r. ⌜ Divided (graphOn left right rows n) (λ i. signed (row weight i)) (now (ends .entry)) (component (r .forests)) (r .whole) (component (r .chosen)) ⌝ }
+// The forests of the runs of a slice's rows, and the tree of n vertices from the forests' rows alone, over lent columns; of the weights the first columns are left out.
+fn grow_city(
+    left: &[u64],
+    right: &[u64],
+    weight: &[u64],
+    first: usize,
+    rows: Slice,
+    n: usize,
+    ends: &[u32],
+) -> City
+    ensures { λ r. ⌜ Divided (graphIn (now (left .entry)) (now (right .entry)) rows n) (integersAfter (now (weight .entry)) first) (now (ends .entry)) (component (r .forests)) (r .whole) (component (r .chosen)) ⌝ }
 {
-    let forests = forests::forests_on(left, right, weight, rows, n, ends);
-    let tree = mst1::grow_tree(left, right, weight, forests, n);
+    let forests = forests::forests_of(left, right, weight, first, rows, n, ends);
+    let tree = mst1::grow_tree(left, right, weight, first, forests, n);
     let whole = tree.whole;
     let chosen = tree.chosen;
     City {
@@ -95,7 +101,7 @@ fn grow_city(left: Table, right: Table, weight: Table, rows: Slice, n: usize, en
     }
 }
 
-// The same over the rows of a slice among the first m, grown on the columns as tables.
+// The same over the rows of a slice among the first m, grown on the columns as they are loaded.
 pub fn city_of(
     n: u32,
     m: usize,
@@ -109,14 +115,17 @@ pub fn city_of(
         let g = loadedGraph n m (component rows) (now (left .entry)) (now (right .entry)) in
         ⌜ Divided g (λ i. signed (loadedRow 4 (now (weight .entry)) i)) (now (ends .entry)) (component (r .forests)) (r .whole) (component (r .chosen)) ⌝ }
 {
-    let lefts = table::load_bytes(left);
-    let rights = table::load_bytes(right);
-    let weights = table::load_quads(weight);
+    let lefts = loads::ends(left);
+    let rights = loads::ends(right);
+    let weights = loads::prices(weight);
+    let first = loads::sign_columns(&weights.columns);
+    let used = slice::rows::rows_among(m, rows);
     grow_city(
-        lefts.table,
-        rights.table,
-        weights.table,
-        slice::rows::rows_among(m, rows),
+        &lefts.columns,
+        &rights.columns,
+        &weights.columns,
+        first,
+        used,
         n as usize,
         ends,
     )

@@ -12,7 +12,7 @@ ghost use Rattle.star.specs.Mst1.{mst1, mst1Marks};
 ghost use Rattle.star.specs.Call.{tableOf, callOf, workOf};
 ghost use Rattle.table.specs.Loads.{loadedRow};
 ghost use Rattle.table.specs.Tables.{width, column, row};
-ghost use Rattle.mst1.specs.steps.Growth.{graphOn, loadedGraph, Grows, Reached, meeting};
+ghost use Rattle.mst1.specs.steps.Growth.{endsIn, integersAfter, graphIn, loadedGraph, Grows, Reached, meeting};
 ghost use Rattle.mst1.specs.Answers.{answerOf};
 use refusal::Outcome;
 use refusal::Refusal;
@@ -22,6 +22,9 @@ use slice::WORDS;
 use slice::rows::rows_to;
 use slice::words::rows_in_use;
 use table::Table;
+
+// The number of columns on the left that MATCH leaves out of lent columns of ends: a byte stands in the last eight.
+pub const UPPER: usize = 24;
 
 // What MST1 answers: the tree's weight, as the 64 bits that stand for it in two's complement, or the refusal.
 pub enum Built {
@@ -105,41 +108,56 @@ pub fn empty_columns(t: Table) -> usize
     search::sign_columns(t) + 1
 }
 
+// The fragment of row i over lent columns of ends.
+fn begin_on(left: &[u64], right: &[u64], rows: Slice, i: usize) -> Fragment
+    ensures lefts { λ r. ⌜ component (r .lefts) ≡ meeting (endsIn (now (left .entry))) (endsIn (now (left .entry)) i) (endsIn (now (right .entry)) i) (component rows) ⌝ }
+    ensures rights { λ r. ⌜ component (r .rights) ≡ meeting (endsIn (now (right .entry))) (endsIn (now (left .entry)) i) (endsIn (now (right .entry)) i) (component rows) ⌝ }
+    ensures chosen { λ r. ⌜ component (r .chosen) ≡ written empty i true ⌝ }
+{
+    let u = lent::row_from(left, UPPER, i);
+    let v = lent::row_from(right, UPPER, i);
+    Fragment {
+        lefts: reach(lent::match_from(left, UPPER, u, rows), left, UPPER, v, rows),
+        rights: reach(
+            lent::match_from(right, UPPER, u, rows),
+            right,
+            UPPER,
+            v,
+            rows,
+        ),
+        chosen: slice::put(Slice::empty(), i, true),
+    }
+}
+
 // The tree of n vertices that grows from a fragment of two. The rows with exactly one end in the fragment are those that only one of `lefts` and `rights` has.
-// The searches leave out columns on the left: MATCH those that are empty, MIN those that only repeat the sign.
 fn grow_from(
-    left: Table,
-    right: Table,
-    weight: Table,
+    left: &[u64],
+    right: &[u64],
+    weight: &[u64],
+    first: usize,
     rows: Slice,
     n: usize,
     start: Fragment,
 ) -> Grown
-    requires { ⌜ (2 ≤ n) × Reached (graphOn left right rows n) (λ i. signed (row weight i)) 2 (component (start .lefts)) (component (start .rights)) (component (start .chosen)) ⌝ }
-    ensures { λ r. ⌜ Grows (graphOn left right rows n) (λ i. signed (row weight i)) (r .whole) (component (r .chosen)) ⌝ }
+    requires { ⌜ (2 ≤ n) × Reached (graphIn (now left) (now right) rows n) (integersAfter (now weight) first) 2 (component (start .lefts)) (component (start .rights)) (component (start .chosen)) ⌝ }
+    ensures { λ r. ⌜ Grows (graphIn (now (left .entry)) (now (right .entry)) rows n) (integersAfter (now (weight .entry)) first) (r .whole) (component (r .chosen)) ⌝ }
 {
-    let l = empty_columns(left);
-    let r = empty_columns(right);
-    let w = search::sign_columns(weight);
-    let stored_left = lent::columns_of(left);
-    let stored_right = lent::columns_of(right);
-    let stored_weight = lent::columns_of(weight);
     let mut lefts = start.lefts;
     let mut rights = start.rights;
     let mut chosen = start.chosen;
     let mut k = 2;
     while k < n {
-        let i = cheapest(&stored_weight.columns, w, slice::xor(lefts, rights));
+        let i = cheapest(weight, first, slice::xor(lefts, rights));
         if i == 0 {
             return nothing(false);
         }
         let far = if slice::get(lefts, i) {
-            lent::row_from(&stored_right.columns, r, i)
+            lent::row_from(right, UPPER, i)
         } else {
-            lent::row_from(&stored_left.columns, l, i)
+            lent::row_from(left, UPPER, i)
         };
-        lefts = reach(lefts, &stored_left.columns, l, far, rows);
-        rights = reach(rights, &stored_right.columns, r, far, rows);
+        lefts = reach(lefts, left, UPPER, far, rows);
+        rights = reach(rights, right, UPPER, far, rows);
         chosen = slice::put(chosen, i, true);
         k += 1;
     }
@@ -149,33 +167,43 @@ fn grow_from(
     }
 }
 
-// The tree of n vertices over the rows of a slice, whose ends and weights the tables hold. For one vertex no row is chosen.
-pub fn grow_tree(left: Table, right: Table, weight: Table, rows: Slice, n: usize) -> Grown
-    ensures { λ r. ⌜ Grows (graphOn left right rows n) (λ i. signed (row weight i)) (r .whole) (component (r .chosen)) ⌝ }
+// The tree of n vertices over the rows of a slice, whose ends and weights are lent as columns; of the weights the first columns are left out. For one vertex no row is chosen.
+pub fn grow_tree(
+    left: &[u64],
+    right: &[u64],
+    weight: &[u64],
+    first: usize,
+    rows: Slice,
+    n: usize,
+) -> Grown
+    ensures { λ r. ⌜ Grows (graphIn (now (left .entry)) (now (right .entry)) rows n) (integersAfter (now (weight .entry)) first) (r .whole) (component (r .chosen)) ⌝ }
 {
     if n < 2 {
         return nothing(n == 1);
     }
-    let first = first_row(weight, rows);
-    if first == 0 {
+    let i = cheapest(weight, first, rows);
+    if i == 0 {
         return nothing(false);
     }
-    let start = begin(left, right, rows, first);
-    grow_from(left, right, weight, rows, n, start)
+    let start = begin_on(left, right, rows, i);
+    grow_from(left, right, weight, first, rows, n, start)
 }
 
-// The tree of n vertices over the rows of a slice among the first m, grown on the columns as tables.
+// The tree of n vertices over the rows of a slice among the first m, grown on the columns as they are loaded. MIN leaves out the columns on the left that only repeat the sign.
 pub fn tree_of(n: u32, m: usize, rows: Slice, left: &[u8], right: &[u8], weight: &[u8]) -> Grown
     ensures { λ r. ⌜ Grows (loadedGraph n m (component rows) (now (left .entry)) (now (right .entry))) (λ i. signed (loadedRow 4 (now (weight .entry)) i)) (r .whole) (component (r .chosen)) ⌝ }
 {
-    let lefts = table::load_bytes(left);
-    let rights = table::load_bytes(right);
-    let weights = table::load_quads(weight);
+    let lefts = loads::ends(left);
+    let rights = loads::ends(right);
+    let weights = loads::prices(weight);
+    let first = loads::sign_columns(&weights.columns);
+    let used = slice::rows::rows_among(m, rows);
     grow_tree(
-        lefts.table,
-        rights.table,
-        weights.table,
-        slice::rows::rows_among(m, rows),
+        &lefts.columns,
+        &rights.columns,
+        &weights.columns,
+        first,
+        used,
         n as usize,
     )
 }

@@ -8,12 +8,10 @@ ghost use Rattle.slice.specs.Slices.{size, component};
 ghost use Rattle.star.specs.MatrixPath.{matrixPath, matrixAfter};
 ghost use Rattle.star.specs.Refusals.{wrongSource, fewWords, unreached, beforeWalk, refusal};
 ghost use Rattle.star.specs.Call.{tableOf, callOf, workOf};
-ghost use Rattle.table.specs.Loads.{loadedRow};
 ghost use Rattle.path.specs.steps.Walks.{endsIn, stateOf, arrive, pass, along, step, walk, claimWalk, ownPath, ownAfter};
 use checks::first;
 use checks::refused_at;
 use checks::refused_if;
-use lent::Stored;
 use refusal::Outcome;
 use slice::Slice;
 use slice::rows::rows_among;
@@ -172,14 +170,6 @@ fn path_check(
     first(call, checks::count_check(n, m, rows, mark))
 }
 
-// The words of the table that a column of ends gives.
-pub fn ends_of(column: &[u8]) -> Stored
-    ensures { λ r. ⌜ endsIn (r .columns) ≡ loadedRow 1 (now (column .entry)) ⌝ }
-{
-    let loaded = table::load_bytes(column);
-    lent::columns_of(loaded.table)
-}
-
 // The walk over the rows of a slice among the first m that the claim marks, and cause 10.
 fn claim_walk(
     n: u32,
@@ -195,8 +185,8 @@ fn claim_walk(
     ensures answer { λ o. ⌜ refusalOf o ≡ unreached n (claimWalk n m (component rows) (now (left .entry)) (now (right .entry)) (now (mark .entry)) s (now (own .entry)) .reached) ⌝ }
     ensures words { λ o. ⌜ now (own .exit) ≡ claimWalk n m (component rows) (now (left .entry)) (now (right .entry)) (now (mark .entry)) s (now (own .entry)) .words ⌝ }
 {
-    let lefts = ends_of(left);
-    let rights = ends_of(right);
+    let lefts = loads::ends(left);
+    let rights = loads::ends(right);
     let marked = claim::claim_rows(mark, rows_among(m, rows));
     let reached = walk(&lefts.columns, &rights.columns, marked, s, n, own);
     joined_check(n, reached)

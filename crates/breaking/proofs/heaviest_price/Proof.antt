@@ -1,13 +1,23 @@
 -- `breaking::heaviest_price` meets its contract: FND of MAX over the loaded weights, and that row's weight. Assumes nothing.
 use borrow.Author.Needs.{needs}
+use Prim.Native.Nat.{ℕ}
+use mathlib.Core.Bool.{Bool}
+use mathlib.Core.Path.{_≡_}
+use Rattle.rowset.specs.Columns.{width, inColumns}
+use Rattle.rowset.specs.Integers.{integerIn, signed}
 use Rattle.breaking.proofs.heaviest_price.Statement.{statement}
 use Rattle.breaking.proofs.heaviest_price.Tie as tie
+
+-- the integer in all columns is that of the number in them
+all-columns : (c : ℕ → ℕ → Bool) (row : ℕ → ℕ) → inColumns c 0 width ≡ row → integerIn c 0 width ≡ (λ i. signed (row i))
+unfolding integerIn
+all-columns c row e = rw (← e)
 
 returns : tie.Need-returns
 returns c =
     let f = c .before in
     let m = f .before in
-    rw (c .row-weight .ensures, f .fnd .ensures, m .max .ensures, m .before .load-quads .ensures .1)
+    rw (c .row-weight .ensures, f .fnd .ensures, m .max-from .ensures, all-columns _ _ (m .before .before .before .before .prices .ensures))
 
 pub heaviest-price-spec : {M : Type 1} → statement M
 heaviest-price-spec =

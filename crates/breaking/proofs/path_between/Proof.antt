@@ -8,7 +8,7 @@ returns : tie.Need-returns
 returns c =
     let w = c .before .before .before .before in
     let ends = w .before .before .before .before .before .before .before .before in
-    c .read-column .ensures ∙ rw (w .walk .ensures .1, ends .before .ends-of .ensures, ends .ends-of2 .ensures)
+    c .read-column .ensures ∙ rw (w .walk .ensures .1, ends .before .ends .ensures .0, ends .ends2 .ensures .0)
 
 pub path-between-spec : {M : Type 1} → statement M
 path-between-spec =

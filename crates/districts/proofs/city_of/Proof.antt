@@ -1,22 +1,23 @@
--- `districts::city_of` meets its contract, by what the loads ensure of the tables. Assumes nothing.
+-- `districts::city_of` meets its contract, by what the loads ensure of the columns: those of the weights that are left out only repeat the sign. Assumes nothing.
 use borrow.Author.Needs.{needs}
+use Rattle.loads.proofs.Signs.{sign-integer}
 use Rattle.districts.proofs.city_of.Statement.{statement}
 use Rattle.districts.proofs.city_of.Tie as tie
 
 returns : tie.Need-returns
 returns c =
-    rw (
-      ← c .before .before .before .before .load-bytes .ensures .1,
-      ← c .before .before .before .load-bytes2 .ensures .1,
-      ← c .before .before .load-quads .ensures .1,
-      ← c .before .rows-among .ensures,
-    )
-    (c .grow-city .ensures)
+    let rows = c .before .before .before .before .before .before .before .before .before .before in
+    let signs = rows .before in
+    let weights = signs .before .before .before .before in
+    let rights = weights .before in
+    rw (rights .before .ends .ensures .0, rights .ends2 .ensures .0, rows .rows-among .ensures, sign-integer _ (signs .sign-columns .ensures) (weights .prices .ensures))
+    at (c .grow-city .ensures)
 
 pub city-of-spec : {M : Type 1} → statement M
 city-of-spec =
     tie.close
     (tie.spec
+    (λ c κs. search needs)
     (λ c κs. search needs)
     (λ c κs. search needs)
     (λ c κs. search needs)

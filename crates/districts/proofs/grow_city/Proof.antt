@@ -4,7 +4,7 @@ use Rattle.districts.proofs.grow_city.Statement.{statement}
 use Rattle.districts.proofs.grow_city.Tie as tie
 
 returns : tie.Need-returns
-returns c = record { all = c .before .before .forests-on .ensures; tree = c .before .grow-tree .ensures }
+returns c = record { all = c .before .before .forests-of .ensures; tree = c .before .grow-tree .ensures }
 
 pub grow-city-spec : {M : Type 1} → statement M
 grow-city-spec = tie.close (tie.spec (λ c κs. search needs) (λ c κs. search needs) returns)

@@ -4,21 +4,17 @@ use Prim.Native.Nat.{_≤_, _<_, _-_, _^_}
 use borrow.Author.Needs.{needs}
 use native.Mathlib.Omega.{arith}
 use Rattle.forests.proofs.Growing.{Grew, grew-none, grew-ended, grew-more, grew-whole}
-use Rattle.matrix.specs.Matrix.{matrixColumn}
-use Rattle.mst1.specs.steps.Growth.{graphBy}
-use Rattle.rowset.specs.Columns.{inColumns}
-use Rattle.rowset.specs.Integers.{integerIn}
+use Rattle.mst1.specs.steps.Growth.{integersAfter, graphIn}
 use Rattle.slice.specs.Slices.{component}
-use Rattle.table.specs.Tables.{width}
 use Rattle.forests.proofs.forest_of.Statement.{statement}
 use Rattle.forests.proofs.forest_of.Tie as tie
 
 abbrev Inv-loop : tie.InvT-loop
-Inv-loop left l right r weight w rows n lefts₀ rights₀ chosen₀ k₀ lefts rights chosen k =
-    (k ≤ n) × Grew (graphBy (inColumns (matrixColumn left) l (width - l)) (inColumns (matrixColumn right) r (width - r)) rows n) (integerIn (matrixColumn weight) w (width - w)) k (component lefts) (component rights) (component chosen) × (n < 2 ^ 64)
+Inv-loop left right weight first rows n lefts₀ rights₀ chosen₀ k₀ lefts rights chosen k =
+    (k ≤ n) × Grew (graphIn left right rows n) (integersAfter weight first) k (component lefts) (component rights) (component chosen) × (n < 2 ^ 64)
 
 abbrev μ-loop : tie.MeasureT-loop
-μ-loop left l right r weight w rows n lefts₀ rights₀ chosen₀ k₀ lefts rights chosen k = n - k
+μ-loop left right weight first rows n lefts₀ rights₀ chosen₀ k₀ lefts rights chosen k = n - k
 
 loop-holds : tie.Need-loop-holds Inv-loop μ-loop
 loop-holds c = (omega arith, grew-none _ _ (c .before .before .empty .ensures) (c .before .empty2 .ensures) (c .empty3 .ensures), omega arith)

@@ -6,21 +6,17 @@ use lib.ListN.{length}
 use native.Mathlib.Omega.{arith}
 use Rattle.forests.proofs.Runs.{Gathered, gathered-none, gathered-more, gathered-all}
 use Rattle.forest.specs.Districts.{run}
-use Rattle.matrix.specs.Matrix.{matrixColumn}
-use Rattle.mst1.specs.steps.Growth.{graphBy}
-use Rattle.rowset.specs.Columns.{inColumns}
-use Rattle.rowset.specs.Integers.{integerIn}
+use Rattle.mst1.specs.steps.Growth.{integersAfter, graphIn}
 use Rattle.slice.specs.Slices.{component}
-use Rattle.table.specs.Tables.{width}
 use Rattle.forests.proofs.forests_of.Statement.{statement}
 use Rattle.forests.proofs.forests_of.Tie as tie
 
 abbrev Inv-loop : tie.InvT-loop
-Inv-loop left l right r weight w rows n ends all₀ p₀ j₀ all p j =
-    (j ≤ length ends) × Gathered (graphBy (inColumns (matrixColumn left) l (width - l)) (inColumns (matrixColumn right) r (width - r)) rows n) (integerIn (matrixColumn weight) w (width - w)) ends (component all) p j
+Inv-loop left right weight first rows n ends all₀ p₀ j₀ all p j =
+    (j ≤ length ends) × Gathered (graphIn left right rows n) (integersAfter weight first) ends (component all) p j
 
 abbrev μ-loop : tie.MeasureT-loop
-μ-loop left l right r weight w rows n ends all₀ p₀ j₀ all p j = length ends - j
+μ-loop left right weight first rows n ends all₀ p₀ j₀ all p j = length ends - j
 
 loop-holds : tie.Need-loop-holds Inv-loop μ-loop
 loop-holds c = (omega arith, gathered-none _ _ _ (c .empty .ensures))

@@ -15,8 +15,8 @@ nothing-requires c κs = search needs
 returns : tie.Need-returns
 returns c = grows-small _ _ (c .before .if1 .taken) (c .nothing .ensures .0) (c .nothing .ensures .1)
 
-first-row-requires : tie.Need-first-row-requires
-first-row-requires c κs = search needs
+cheapest-requires : tie.Need-cheapest-requires
+cheapest-requires c κs = search needs
 
 nothing-requires-2 : tie.Need-nothing-requires-2
 nothing-requires-2 c κs = search needs
@@ -24,16 +24,16 @@ nothing-requires-2 c κs = search needs
 returns-2 : tie.Need-returns-2
 unfolding cheapest
 returns-2 c =
-    grows-none _ _ (first-none _ _ (sym (c .before .before .first-row .ensures) ∙ c .before .if2 .taken) (c .before .before .before .if1 .left)) (c .nothing2 .ensures .0) (c .nothing2 .ensures .1)
+    grows-none _ _ (first-none _ _ (sym (c .before .before .cheapest .ensures) ∙ c .before .if2 .taken) (c .before .before .before .if1 .left)) (c .nothing2 .ensures .0) (c .nothing2 .ensures .1)
 
-begin-requires : tie.Need-begin-requires
-begin-requires c κs = search needs
+begin-on-requires : tie.Need-begin-on-requires
+begin-on-requires c κs = search needs
 
 grow-from-requires : tie.Need-grow-from-requires
 unfolding cheapest
 grow-from-requires c κs = (
   omega arith,
-  begin-reached _ _ _ _ _ (sym (c .before .before .first-row .ensures)) (omega (arith, c .before .if2 .left)) (c .begin .ensures .0) (c .begin .ensures .1 .0) (c .begin .ensures .1 .1),
+  begin-reached _ _ _ _ _ (sym (c .before .before .cheapest .ensures)) (omega (arith, c .before .if2 .left)) (c .begin-on .ensures .0) (c .begin-on .ensures .1 .0) (c .begin-on .ensures .1 .1),
 )
 
 returns-3 : tie.Need-returns-3
@@ -45,9 +45,9 @@ grow-tree-spec =
     (tie.spec
     nothing-requires
     returns
-    first-row-requires
+    cheapest-requires
     nothing-requires-2
     returns-2
-    begin-requires
+    begin-on-requires
     grow-from-requires
     returns-3)

@@ -1,41 +1,27 @@
--- `mst1::tree_of` meets its contract, by what the loads ensure of the tables.
+-- `mst1::tree_of` meets its contract, by what the loads ensure of the columns: those of the weights that are left out only repeat the sign.
 -- Assumes nothing.
 use borrow.Author.Needs.{needs}
+use Rattle.loads.proofs.Signs.{sign-integer}
 use Rattle.mst1.proofs.tree_of.Statement.{statement}
 use Rattle.mst1.proofs.tree_of.Tie as tie
 
-load-bytes-requires : tie.Need-load-bytes-requires
-load-bytes-requires c κs = search needs
-
-load-bytes-requires-2 : tie.Need-load-bytes-requires-2
-load-bytes-requires-2 c κs = search needs
-
-load-quads-requires : tie.Need-load-quads-requires
-load-quads-requires c κs = search needs
-
-rows-among-requires : tie.Need-rows-among-requires
-rows-among-requires c κs = search needs
-
-grow-tree-requires : tie.Need-grow-tree-requires
-grow-tree-requires c κs = search needs
-
 returns : tie.Need-returns
 returns c =
-    rw (
-      ← c .before .before .before .before .load-bytes .ensures .1,
-      ← c .before .before .before .load-bytes2 .ensures .1,
-      ← c .before .before .load-quads .ensures .1,
-      ← c .before .rows-among .ensures,
-    )
-    (c .grow-tree .ensures)
+    let rows = c .before .before .before .before .before .before .before .before .before .before in
+    let signs = rows .before in
+    let weights = signs .before .before .before .before in
+    let rights = weights .before in
+    rw (rights .before .ends .ensures .0, rights .ends2 .ensures .0, rows .rows-among .ensures, sign-integer _ (signs .sign-columns .ensures) (weights .prices .ensures))
+    at (c .grow-tree .ensures)
 
 pub tree-of-spec : {M : Type 1} → statement M
 tree-of-spec =
     tie.close
     (tie.spec
-    load-bytes-requires
-    load-bytes-requires-2
-    load-quads-requires
-    rows-among-requires
-    grow-tree-requires
+    (λ c κs. search needs)
+    (λ c κs. search needs)
+    (λ c κs. search needs)
+    (λ c κs. search needs)
+    (λ c κs. search needs)
+    (λ c κs. search needs)
     returns)

@@ -1,6 +1,6 @@
 -- The graph that three tables and a slice of rows describe, the tree that grows on it, and the rows by which its fragment is known.
 -- Assumes nothing.
-use Prim.Native.Nat.{ℕ, _≤_}
+use Prim.Native.Nat.{ℕ, _-_, _≤_}
 use mathlib.Core.Bool.{Bool, not, _&&_}
 use mathlib.Core.List.{List}
 use mathlib.Core.Option.{some}
@@ -8,6 +8,9 @@ use mathlib.Core.Path.{_≡_}
 use lib.IntN.{ℤ}
 use Rattle.graph.specs.Builder.{treeOf, tree}
 use Rattle.graph.specs.Graph.{Graph}
+use Rattle.matrix.specs.Matrix.{matrixColumn}
+use Rattle.rowset.specs.Columns.{inColumns}
+use Rattle.rowset.specs.Integers.{integerIn}
 use Rattle.rowset.specs.Searches.{equalTo}
 use Rattle.rowset.specs.Sets.{upTo, both, either}
 use Rattle.slice.specs.Slices.{size, component}
@@ -15,12 +18,23 @@ use Rattle.slice.specs.declared.Slice.{Slice}
 use Rattle.star.specs.Mst1.{chosenRows}
 use Rattle.star.specs.Refusals.{isNone}
 use Rattle.table.specs.Loads.{loadedRow}
-use Rattle.table.specs.Tables.{row}
+use Rattle.table.specs.Tables.{width, row}
 use Rattle.table.specs.declared.Table.{Table}
 
 -- n vertices, and of the positions 1 to 1,024 the rows that a slice selects, with their left and their right ends
 abbrev pub graphBy : (ℕ → ℕ) → (ℕ → ℕ) → Slice → ℕ → Graph
 graphBy a b rows n = record { n = n; m = size; a = a; b = b; rows = component rows }
+
+-- the ends in lent columns, those in the last eight, and the integers in the columns after the first ones
+abbrev pub endsIn : List ℕ → ℕ → ℕ
+endsIn words = inColumns (matrixColumn words) 24 (width - 24)
+
+abbrev pub integersAfter : List ℕ → ℕ → ℕ → ℤ
+integersAfter words first = integerIn (matrixColumn words) first (width - first)
+
+-- the graph whose ends the left and the right columns hold
+abbrev pub graphIn : (left right : List ℕ) → Slice → ℕ → Graph
+graphIn left right rows n = graphBy (endsIn left) (endsIn right) rows n
 
 -- the graph whose ends the left and the right table hold
 abbrev pub graphOn : Table → Table → Slice → ℕ → Graph

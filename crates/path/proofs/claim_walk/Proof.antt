@@ -11,8 +11,8 @@ returns c =
     let rows = w .before .before .before .before .before .before .before .before in
     let among = rows .before in
     let ends = among .before in (
-      rw (c .joined-check .ensures, w .walk .ensures .0, ends .before .ends-of .ensures, ends .ends-of2 .ensures, rows .claim-rows .ensures, among .rows-among .ensures),
-      w .walk .ensures .1 ∙ rw (ends .before .ends-of .ensures, ends .ends-of2 .ensures, rows .claim-rows .ensures, among .rows-among .ensures),
+      rw (c .joined-check .ensures, w .walk .ensures .0, ends .before .ends .ensures .0, ends .ends2 .ensures .0, rows .claim-rows .ensures, among .rows-among .ensures),
+      w .walk .ensures .1 ∙ rw (ends .before .ends .ensures .0, ends .ends2 .ensures .0, rows .claim-rows .ensures, among .rows-among .ensures),
     )
 
 pub claim-walk-spec : {M : Type 1} → statement M
