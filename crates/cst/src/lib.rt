@@ -125,15 +125,14 @@ fn first_found(matrix: &[u64], left: &[u8], right: &[u8], weight: &[u8], rows: S
     ensures lighter { λ r. ⌜ r .lighter ≡ firstLighter (now (matrix .entry)) (now (left .entry)) (now (right .entry)) (now (weight .entry)) (component rows) ⌝ }
     ensures equal { λ r. ⌜ (r .lighter .into ≡ 0 → r .equal ≡ firstEqual (now (matrix .entry)) (now (left .entry)) (now (right .entry)) (now (weight .entry)) (component rows)) ⌝ }
 {
-    let weights = table::load_quads(weight).table;
-    let first = search::sign_columns(weights);
-    let stored = lent::columns_of(weights);
+    let weights = loads::prices(weight);
+    let first = loads::sign_columns(&weights.columns);
     let mut z = rows;
     let mut into = 0;
     while slice::some(z) {
         let s = slice::step_value(z);
         z = s.slice;
-        let y = compared_rows(matrix, &stored.columns, first, left, right, weight, s.at);
+        let y = compared_rows(matrix, &weights.columns, first, left, right, weight, s.at);
         let heavier = y.greater;
         if slice::some(heavier) {
             return Found {
@@ -144,7 +143,7 @@ fn first_found(matrix: &[u64], left: &[u8], right: &[u8], weight: &[u8], rows: S
         let same = y.equal;
         into = remember(into, same, s.at);
     }
-    let beside = compared_rows(matrix, &stored.columns, first, left, right, weight, into);
+    let beside = compared_rows(matrix, &weights.columns, first, left, right, weight, into);
     let equal = beside.equal;
     Found {
         lighter: Exchange {

@@ -6,10 +6,10 @@ use borrow.Author.Needs.{needs}
 use Rattle.checks.proofs.Laws.{uppermost-bound}
 use Rattle.rowset.specs.Bytes.{inRow}
 use Rattle.rowset.specs.Columns.{width}
-use Rattle.rowset.specs.Integers.{fromBits, signed}
+use Rattle.rowset.specs.Integers.{fromBits}
 use Rattle.rowset.specs.Searches.{greaterThan}
 use Rattle.rowset.specs.Sets.{any, uppermost, count}
-use Rattle.search.proofs.Signs.{sign-row, sign-word}
+use Rattle.loads.proofs.Signs.{sign-integer, sign-bits}
 use Rattle.slice.specs.Slices.{size, component}
 use Rattle.cst.proofs.Paths.{heavier-out, exchange-found, none-found, comes-in, Remembered, remembered-more, remembered-all, remembered-bound, equal-found}
 use Rattle.cst.proofs.Sets.{passed-over, fewer}
@@ -18,21 +18,21 @@ use Rattle.cst.proofs.first_found.Statement.{statement}
 use Rattle.cst.proofs.first_found.Tie as tie
 
 abbrev Inv-loop : tie.InvT-loop
-Inv-loop matrix left right weight first stored z₀ into₀ z into =
-    (integersAfter (stored .columns) first ≡ weightIn weight)
+Inv-loop matrix left right weight weights first z₀ into₀ z into =
+    (integersAfter (weights .columns) first ≡ weightIn weight)
     × ((k : ℕ) → fromBits (width - first) (inRow 4 weight k) ≡ weightIn weight k)
     × (rowWith greaterThan matrix left right weight (component z) ≡ rowWith greaterThan matrix left right weight (component z₀))
     × Remembered matrix left right weight (component z₀) (component z) into
 
 abbrev μ-loop : tie.MeasureT-loop
-μ-loop matrix left right weight first stored z₀ into₀ z into = count size (component z)
+μ-loop matrix left right weight weights first z₀ into₀ z into = count size (component z)
 
 loop-holds : tie.Need-loop-holds Inv-loop μ-loop
 loop-holds c =
-    let t = c .before .before .before .load-quads .result .table in
-    let loaded = c .before .before .before .load-quads .ensures .1 ∙ c .before .before .before .before .before .before .before .before .pre in (
-      rw (c .columns-of .ensures, c .before .sign-columns .ensures) (sign-row t ∙ ap (λ f k. signed (f k)) loaded),
-      λ k. rw (c .before .sign-columns .ensures) (rw loaded at (sign-word t k)),
+    let w = c .before .before .before .before in
+    let rows = w .prices .ensures ∙ w .before .before .before .before .before .pre in (
+      sign-integer _ (c .sign-columns .ensures) rows,
+      sign-bits _ (c .sign-columns .ensures) rows,
       refl,
       record { row = refl },
     )
@@ -102,7 +102,6 @@ first-found-spec =
     (tie.spec
     Inv-loop
     μ-loop
-    (λ c κs. search needs)
     (λ c κs. search needs)
     (λ c κs. search needs)
     loop-holds
