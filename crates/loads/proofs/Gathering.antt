@@ -3,7 +3,7 @@
 use Prim.Native.Nat.{ℕ, zero, suc, _+_, _*_, _-_, _/_, _%_, _^_, _≤_, _<_}
 use mathlib.Core.List.{List}
 use mathlib.Core.Path.{_≡_, refl, sym, ap, _∙_}
-use native.Mathlib.Nat.{add-zero, mul-zero, zero-add, mul-suc, mul-le-mul, mul-le-mul-left, zero-div, zero-mod}
+use native.Mathlib.Nat.{add-zero, mul-zero, zero-add, mul-suc, mul-add, mul-comm, mul-assoc, mul-le-mul-left, zero-div, zero-mod}
 use native.Mathlib.Decide.{decLt}
 use native.Mathlib.Omega.{arith}
 use mathlib.Core.Logic.{by-cases}
@@ -23,10 +23,6 @@ digits-zero : (base : ℕ) (f : ℕ → ℕ) (s n : ℕ) → ((k : ℕ) → s �
 unfolding fromDigits
 digits-zero base f s zero h = refl
 digits-zero base f s (suc n) h = rw (h s (omega arith), digits-zero base f (suc s) n (λ k l. h k (omega arith)), mul-zero)
-
--- a column that can be loaded has at most 4,096 bytes
-pub rows-short : (column : List ℕ) (stride rows : ℕ) → Rows column stride rows → length column ≤ 4096
-rows-short column stride rows size = omega (arith, mul-le-mul (size .four) (size .most), size .whole)
 
 module _ (column : List ℕ) (stride rows : ℕ) (size : Rows column stride rows) (offset : ℕ) (o : offset < stride) where
   -- a row's bytes stand in the column, and past its last row there are none
@@ -91,3 +87,14 @@ pub plane-past : (column : List ℕ) (stride rows : ℕ) → Rows column stride 
 unfolding planeWord
 plane-past column stride rows size offset o q k h =
     digits-zero 2 (λ r. rowByte column stride offset r / 2 ^ k % 2) (64 * q) 64 (λ r l. rw (past-column column stride rows size offset o r (omega arith), zero-div, zero-mod))
+
+-- ── The index of a byte, which goes down by eight rows at a time ──
+
+-- eight rows less
+pub step-less : (step l : ℕ) → 0 < l → step * l ≡ step * (l - 1) + step
+step-less step zero h = absurd (omega arith)
+step-less step (suc l) h = let e : suc l - 1 ≡ l = omega arith in rw (e, mul-suc)
+
+-- the index of the byte of row first + 8 l
+pub step-row : (stride first l : ℕ) → stride * first + 8 * stride * l ≡ stride * (first + 8 * l)
+step-row stride first l = rw (mul-add, mul-comm 8 stride, mul-assoc)

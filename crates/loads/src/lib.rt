@@ -31,17 +31,51 @@ struct Blocks {
 
 // The bytes of row `first` and of every eighth row after it, `count` in all.
 fn block(column: &[u8], stride: usize, offset: usize, first: usize, count: usize) -> u64
-    requires { ⌜ (count ≤ 8) × (first < 1024) × (length (now column) ≤ 4096) × ((l : ℕ) → l < count → offset + stride * (first + 8 * l) < length (now column)) ⌝ }
+    requires { ⌜ (count ≤ 8) × (first < 1024) × (stride ≤ 4) × (offset < 4) × ((l : ℕ) → l < count → offset + stride * (first + 8 * l) < length (now column)) ⌝ }
     ensures { λ r. ⌜ r ≡ fromDigits 256 (λ l. rowByte (now (column .entry)) stride offset (first + 8 * l)) 0 count ⌝ }
 {
+    let step = 8 * stride;
+    let mut at = offset + stride * first + step * count;
     let mut block: u64 = 0;
     let mut l = count;
     while 0 < l {
         l -= 1;
-        let byte = column[offset + stride * (first + 8 * l)];
+        at -= step;
+        let byte = column[at];
         block = block * 256 + byte as u64;
     }
     block
+}
+
+// The blocks of 64 rows.
+fn whole(column: &[u8], stride: usize, offset: usize, q: usize, rows: usize) -> Blocks
+    requires { ⌜ Rows (now column) stride rows × (offset < stride) × (64 * q + 64 ≤ rows) ⌝ }
+    ensures { λ r. ⌜ ((g : ℕ) → g < 8 → getD (r .blocks) g 0 ≡ blockOf (now (column .entry)) stride offset (64 * q + g)) ⌝ }
+    ensures size { λ r. ⌜ length (r .blocks) ≡ 8 ⌝ }
+{
+    let mut blocks = Blocks { blocks: [0; 8] };
+    let mut g = 0;
+    while g < 8 {
+        blocks.blocks[g] = block(column, stride, offset, BITS * q + g, 8);
+        g += 1;
+    }
+    blocks
+}
+
+// The blocks of the rows from row 64 q on, where there are less than 64.
+fn part(column: &[u8], stride: usize, offset: usize, q: usize, rows: usize) -> Blocks
+    requires { ⌜ Rows (now column) stride rows × (offset < stride) × (64 * q < rows) × (rows < 64 * q + 64) ⌝ }
+    ensures { λ r. ⌜ ((g : ℕ) → g < 8 → getD (r .blocks) g 0 ≡ blockOf (now (column .entry)) stride offset (64 * q + g)) ⌝ }
+    ensures size { λ r. ⌜ length (r .blocks) ≡ 8 ⌝ }
+{
+    let left = rows - BITS * q;
+    let mut blocks = Blocks { blocks: [0; 8] };
+    let mut g = 0;
+    while g < 8 {
+        blocks.blocks[g] = block(column, stride, offset, BITS * q + g, (left + 7 - g) / 8);
+        g += 1;
+    }
+    blocks
 }
 
 // The blocks of the rows from row 64 q on, and of no row past the column's end.
@@ -50,15 +84,11 @@ fn gather(column: &[u8], stride: usize, offset: usize, q: usize, rows: usize) ->
     ensures { λ r. ⌜ ((g : ℕ) → g < 8 → getD (r .blocks) g 0 ≡ blockOf (now (column .entry)) stride offset (64 * q + g)) ⌝ }
     ensures size { λ r. ⌜ length (r .blocks) ≡ 8 ⌝ }
 {
-    let rest = rows - BITS * q;
-    let left = if rest < BITS { rest } else { BITS };
-    let mut blocks = Blocks { blocks: [0; 8] };
-    let mut g = 0;
-    while g < 8 {
-        blocks.blocks[g] = block(column, stride, offset, BITS * q + g, (left + 7 - g) / 8);
-        g += 1;
+    if BITS * q + BITS <= rows {
+        whole(column, stride, offset, q, rows)
+    } else {
+        part(column, stride, offset, q, rows)
     }
-    blocks
 }
 
 // The bits k of the bytes of eight blocks.
