@@ -14,7 +14,7 @@ use Rattle.lent.proofs.Columns.{compare-column}
 use Rattle.lent.proofs.Steps.{kept-at, bits-ahead}
 
 -- Booleans that are true together are equal
-same-truth : (a b : Bool) → (a ≡ true → b ≡ true) → (b ≡ true → a ≡ true) → a ≡ b
+pub same-truth : (a b : Bool) → (a ≡ true → b ≡ true) → (b ≡ true → a ≡ true) → a ≡ b
 same-truth true b h g = sym (h refl)
 same-truth false true h g = g refl
 same-truth false false h g = refl
@@ -33,7 +33,7 @@ and-false-where true b h = h refl
 and-false-where false b h = refl
 
 -- a choice between two sets, at a row
-cond-at : (b : Bool) (P Q : ℕ → Bool) (i : ℕ) → cond b P Q i ≡ cond b (P i) (Q i)
+pub cond-at : (b : Bool) (P Q : ℕ → Bool) (i : ℕ) → cond b P Q i ≡ cond b (P i) (Q i)
 cond-at true P Q i = refl
 cond-at false P Q i = refl
 

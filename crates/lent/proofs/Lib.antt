@@ -6,3 +6,5 @@ pub mod Signs
 pub mod Loops
 pub mod Stores
 pub mod Counts
+pub mod Words
+pub mod Preferred

@@ -5,7 +5,11 @@
 use slice::Slice;
 use table::Table;
 ghost use mathlib.Core.Path.{_≡_};
-ghost use Prim.Native.Nat.{_+_, _-_, _/_, _^_, _<_};
+ghost use mathlib.Core.Bool.{true, not, cond};
+ghost use Prim.Native.Nat.{_+_, _-_, _*_, _/_, _^_, _<_, _≤_};
+ghost use lib.Dec.{eqb};
+ghost use lib.ListN.{length};
+ghost use Rattle.rowset.specs.Sets.{any};
 ghost use Rattle.rowset.specs.Columns.{width, inColumns};
 ghost use Rattle.rowset.specs.Counts.{equalRight, readWithin};
 ghost use Rattle.rowset.specs.Integers.{fromBits, integerIn};
@@ -14,6 +18,7 @@ ghost use Rattle.matrix.specs.Matrix.{matrixColumn};
 ghost use Rattle.slice.specs.Slices.{size, component};
 ghost use Rattle.table.specs.Tables.{column};
 ghost use Rattle.lent.specs.steps.Column.{kept, preferred, grown, turned, turnedBits, extreme};
+ghost use Rattle.lent.specs.steps.Rows.{rowsOf, NonePast, AtMostOne, mask};
 
 // The number of columns of a table, the words of a column and of a table, and the bits of a word.
 const WIDTH: usize = 32;
@@ -97,14 +102,6 @@ fn keep(z: Slice, c: Slice, b: bool) -> Slice
     } else {
         slice::difference::without(z, c)
     }
-}
-
-// The rows of z whose bit in the column c is b, and all of z where there is no such row.
-fn prefer(z: Slice, c: Slice, b: bool) -> Slice
-    ensures { λ r. ⌜ component r ≡ preferred size b (component z) (component c) ⌝ }
-{
-    let y = keep(z, c, b);
-    if slice::some(y) { y } else { z }
 }
 
 // The rows found greater, g, and with them the rows of z that are greater at the column c, where the bit to compare with is b.
@@ -210,17 +207,122 @@ pub fn great_from(columns: &[u64], first: usize, w: u32, x: Slice) -> Compared
     }
 }
 
-// MAX where `high` is true and MIN where it is not.
+// How many of x's words are read: past them x has no row. A multiple of four, so that a loop over them is compiled without a rest.
+fn words_used(x: Slice) -> usize
+    ensures { λ r. ⌜ (r ≤ 16) × NonePast r (component x) ⌝ }
+{
+    let mut k = COLUMN;
+    while 0 < k {
+        if x.words[k - 1] != 0 {
+            return (k + 3) / 4 * 4;
+        }
+        k -= 1;
+    }
+    0
+}
+
+// The word that turns a column over, bit by bit, where the rows sought have 0 in it.
+fn mask_of(b: bool) -> u64
+    ensures { λ r. ⌜ r ≡ mask b ⌝ }
+{
+    if b { 0 } else { 18446744073709551615 }
+}
+
+// The rows of z whose bit in column j + 1 is b, all its words joined: 0 where there is no such row.
+fn joined_rows(z: &[u64], columns: &[u64], j: usize, b: bool, used: usize) -> u64
+    requires { ⌜ (length (now z) ≡ 16) × (16 * (j + 1) ≤ length (now columns)) × (used ≤ 16) × NonePast used (rowsOf (now z)) ⌝ }
+    ensures { λ r. ⌜ not (eqb r 0) ≡ any size (kept b (rowsOf (now (z .entry))) (matrixColumn (now (columns .entry)) (j + 1))) ⌝ }
+{
+    let mask = mask_of(b);
+    let from = COLUMN * j;
+    let mut joined: u64 = 0;
+    let mut k = 0;
+    while k < used {
+        joined = joined | (z[k] & (columns[from + k] ^ mask));
+        k += 1;
+    }
+    joined
+}
+
+// Of the rows of z only those whose bit in column j + 1 is b stay.
+fn keep_rows(z: &mut [u64], columns: &[u64], j: usize, b: bool, used: usize)
+    requires { ⌜ (length (now z) ≡ 16) × (16 * (j + 1) ≤ length (now columns)) × (used ≤ 16) × NonePast used (rowsOf (now z)) ⌝ }
+    ensures { λ r. ⌜ rowsOf (now (z .exit)) ≡ kept b (rowsOf (now (z .entry))) (matrixColumn (now (columns .entry)) (j + 1)) ⌝ }
+{
+    let mask = mask_of(b);
+    let from = COLUMN * j;
+    let mut k = 0;
+    while k < used {
+        z[k] = z[k] & (columns[from + k] ^ mask);
+        k += 1;
+    }
+}
+
+// Whether z has a single row: one word that is not 0, with one bit.
+fn single(z: &[u64], used: usize) -> bool
+    requires { ⌜ (length (now z) ≡ 16) × (used ≤ 16) × NonePast used (rowsOf (now z)) ⌝ }
+    ensures { λ r. ⌜ (r ≡ true → AtMostOne (rowsOf (now (z .entry)))) ⌝ }
+{
+    let mut found: u64 = 0;
+    let mut k = 0;
+    while k < used {
+        let w = z[k];
+        if w != 0 {
+            if found != 0 {
+                return false;
+            }
+            found = w;
+        }
+        k += 1;
+    }
+    if found == 0 {
+        return false;
+    }
+    found & (found - 1) == 0
+}
+
+// Of the rows of z those whose bit in column j + 1 is b stay, or all where there is no such row. True where a single row is left.
+fn prefer_rows(z: &mut [u64], columns: &[u64], j: usize, b: bool, used: usize) -> bool
+    requires { ⌜ (length (now z) ≡ 16) × (used ≤ 16) × NonePast used (rowsOf (now z)) ⌝ }
+    ensures rows { λ r. ⌜ rowsOf (now (z .exit)) ≡ preferred size b (rowsOf (now (z .entry))) (matrixColumn (now (columns .entry)) (j + 1)) ⌝ }
+    ensures last { λ r. ⌜ (r ≡ true → AtMostOne (rowsOf (now (z .exit)))) ⌝ }
+{
+    if columns.len() / COLUMN <= j {
+        return false;
+    }
+    let joined = joined_rows(z, columns, j, b, used);
+    if joined == 0 {
+        return false;
+    }
+    keep_rows(z, columns, j, b, used);
+    if joined & (joined - 1) != 0 {
+        return false;
+    }
+    single(z, used)
+}
+
+// The bit of column j + 1 that a row has that comes first: the other one in the first column that is read, that of the sign.
+fn wanted(first: usize, high: bool, j: usize) -> bool
+    ensures { λ r. ⌜ r ≡ cond (eqb j first) (not high) high ⌝ }
+{
+    if j == first { !high } else { high }
+}
+
+// MAX where `high` is true and MIN where it is not. It stops where a single row is left.
 fn extreme_from(columns: &[u64], first: usize, high: bool, x: Slice) -> Slice
     ensures { λ r. ⌜ component r ≡ extreme high size (inColumns (turned first (matrixColumn (now (columns .entry)))) first (width - first)) (component x) ⌝ }
 {
-    let mut z = x;
+    let used = words_used(x);
+    let mut z = x.words;
     let mut j = first;
     while j < WIDTH {
-        z = prefer(z, ordered(columns, first, j), high);
+        let b = wanted(first, high, j);
+        if prefer_rows(&mut z, columns, j, b, used) {
+            return Slice { words: z };
+        }
         j += 1;
     }
-    z
+    Slice { words: z }
 }
 
 // MIN: the selected rows than which no selected row is smaller.

@@ -1,31 +1,54 @@
--- `lent::extreme_from` meets its contract. The loop's invariant: z has the rows of x that come first in the columns read, of which the first is turned over.
+-- `lent::extreme_from` meets its contract. The loop's invariant: z has the rows of x that come first in the columns read, of which the first is turned over, and none past the words that are read.
 -- The measure is what is left of the columns. Assumes nothing.
-use Prim.Native.Nat.{_-_}
+use Prim.Native.Nat.{_+_, _-_}
 use native.Mathlib.Omega.{arith}
 use borrow.Author.Needs.{needs}
+use lib.ListN.{length}
+use mathlib.Core.Path.{_≡_}
 use Rattle.matrix.specs.Matrix.{matrixColumn}
-use Rattle.lent.proofs.Loops.{Sought, sought-start, sought-more, sought-all}
+use Rattle.lent.proofs.Loops.{Sought, sought-start, sought-all}
+use Rattle.lent.proofs.Preferred.{sought-next, sought-stopped, none-past-preferred}
 use Rattle.lent.proofs.extreme_from.Statement.{statement}
 use Rattle.lent.proofs.extreme_from.Tie as tie
 use Rattle.lent.specs.steps.Column.{turned}
+use Rattle.lent.specs.steps.Rows.{rowsOf, NonePast}
 
 abbrev Inv-loop : tie.InvT-loop
-Inv-loop words first high z₀ j₀ z j = Sought (turned first (matrixColumn words)) first high z₀ z j
+Inv-loop columns first high used z₀ j₀ z j =
+    Sought (turned first (matrixColumn columns)) first high (record { words = z₀ }) (record { words = z }) j × NonePast used (rowsOf z) × (length z ≡ 16)
 
 abbrev μ-loop : tie.MeasureT-loop
-μ-loop words first high z₀ j₀ z j = 32 - j
+μ-loop columns first high used z₀ j₀ z j = 32 - j
 
--- What `omega` answers: that each index is below the number of columns, that no sum or product of it wraps, and that the measure falls.
+returns : tie.Need-returns Inv-loop μ-loop
+returns c =
+    let call = c .before .before in
+    let l = call .before .before .before .before .loop in
+    sought-stopped _ _ _ _ _ (l .j + 1) (omega arith) (call .prefer-rows .ensures .1 (c .if1 .taken))
+    (sought-next _ _ _ _ _ _ _ _ (omega arith) (call .before .before .wanted .ensures) (call .prefer-rows .ensures .0) (l .inv .0))
+
+loop-again : tie.Need-loop-again Inv-loop μ-loop
+loop-again c =
+    let call = c .before .before in
+    let l = call .before .before .before .before .loop in (
+      sought-next _ _ _ _ _ _ _ _ (omega arith) (call .before .before .wanted .ensures) (call .prefer-rows .ensures .0) (l .inv .0),
+      none-past-preferred _ _ _ _ _ _ (call .prefer-rows .ensures .0) (l .inv .1),
+      omega (arith, l .inv .2),
+    )
+
 pub extreme-from-spec : {M : Type 1} → statement M
 extreme-from-spec =
     tie.close
     (tie.spec
     Inv-loop
     μ-loop
-    (λ c. sought-start _ _ _ _)
-    (λ c κs. omega arith)
     (λ c κs. search needs)
+    (λ c. (sought-start _ _ _ _, c .before .words-used .ensures .1, search needs))
+    (λ c κs. search needs)
+    (λ c. omega (arith, c .before .before .before .loop .inv .2))
+    (λ c κs. (c .before .before .before .loop .inv .2, c .before .before .before .before .before .words-used .ensures .0, c .before .before .before .loop .inv .1))
+    returns
     (λ c. omega arith)
     (λ c. omega arith)
-    (λ c. sought-more _ _ _ _ _ _ _ (omega arith) (rw (c .before .ordered .ensures) at (c .prefer .ensures)) (c .before .before .before .loop .inv))
-    (λ c. sought-all _ _ _ _ _ _ (omega arith) (c .before .loop .inv)))
+    loop-again
+    (λ c. sought-all _ _ _ _ _ _ (omega arith) (c .before .loop .inv .0)))

@@ -1,0 +1,56 @@
+-- `lent::words_used` meets its contract. The loop's invariant: the words from k on are 0. The measure is k.
+-- Assumes nothing.
+use Prim.Native.Nat.{ℕ, _≤_, _<_, _+_, _-_, _*_, _/_}
+use native.Mathlib.Nat.{eq-or-lt-of-le}
+use native.Mathlib.Omega.{arith}
+use mathlib.Core.Logic.{_⊎_, inl, inr, ⊎-elim}
+use mathlib.Core.Path.{_≡_, sym, ap, _∙_}
+use lib.ListN.{getD}
+use Rattle.lent.proofs.Words.{none-past}
+use Rattle.lent.proofs.words_used.Statement.{statement}
+use Rattle.lent.proofs.words_used.Tie as tie
+
+abbrev Inv-loop : tie.InvT-loop
+Inv-loop x k₀ k = (k ≤ 16) × ((p : ℕ) → k ≤ p → p < 16 → getD (x .words) p 0 ≡ 0)
+
+abbrev μ-loop : tie.MeasureT-loop
+μ-loop x k₀ k = k
+
+returns : tie.Need-returns Inv-loop μ-loop
+returns c =
+    let l = c .before .before .before .loop in
+    (omega (arith, l .inv .0), none-past (c .before .before .before .before .args .t1) (l .k) ((l .k + 3) / 4 * 4) (omega arith) (l .inv .1))
+
+-- an index from k - 1 on is k - 1 or from k on
+pick : (k p : ℕ) → k - 1 ≤ p → (p ≡ k - 1) ⊎ (k ≤ p)
+pick k p h = ⊎-elim (λ e. inl (sym e)) (λ o. inr (omega arith)) (eq-or-lt-of-le h)
+
+loop-again : tie.Need-loop-again Inv-loop μ-loop
+loop-again c =
+    let l = c .before .before .before .loop in
+    let x = c .before .before .before .before .args .t1 in
+    let here : getD (x .words) (l .k - 1) 0 ≡ 0 = c .if1 .left in (
+      omega (arith, l .inv .0),
+      λ p h u. ⊎-elim (λ e. ap (λ a. getD (x .words) a 0) e ∙ here) (λ o. l .inv .1 p (omega arith) u) (pick (l .k) p h),
+    )
+
+returns-2 : tie.Need-returns-2 Inv-loop μ-loop
+returns-2 c = let l = c .before .loop in (omega arith, none-past (c .before .before .args .t1) (l .k) 0 (omega arith) (l .inv .1))
+
+pub words-used-spec : {M : Type 1} → statement M
+words-used-spec =
+    tie.close
+    (tie.spec
+    Inv-loop
+    μ-loop
+    (λ c. (omega arith, λ p h u. absurd (omega arith)))
+    (λ c. omega arith)
+    (λ c. omega arith)
+    (λ c. omega arith)
+    (λ c. omega arith)
+    (λ c. omega arith)
+    returns
+    (λ c. omega arith)
+    (λ c. omega arith)
+    loop-again
+    returns-2)
