@@ -8,3 +8,4 @@ pub mod Stores
 pub mod Counts
 pub mod Words
 pub mod Preferred
+pub mod Matching

@@ -145,12 +145,82 @@ pub fn match_right(columns: &[u64], first: usize, w: u32, x: Slice) -> Matched
     Matched { rows: z, read: k }
 }
 
+// How many of x's words are read: past them x has no row. A multiple of four, so that a loop over them is compiled without a rest.
+fn words_used(x: Slice) -> usize
+    ensures { λ r. ⌜ (r ≤ 16) × NonePast r (component x) ⌝ }
+{
+    let mut k = COLUMN;
+    while 0 < k {
+        if x.words[k - 1] != 0 {
+            return (k + 3) / 4 * 4;
+        }
+        k -= 1;
+    }
+    0
+}
+
+// The word that turns a column over, bit by bit, where the rows sought have 0 in it.
+fn mask_of(b: bool) -> u64
+    ensures { λ r. ⌜ r ≡ mask b ⌝ }
+{
+    if b { 0 } else { 18446744073709551615 }
+}
+
+// The rows of z whose bit in column j + 1 is b, all its words joined: 0 where there is no such row.
+fn joined_rows(z: &[u64], columns: &[u64], j: usize, b: bool, used: usize) -> u64
+    requires { ⌜ (length (now z) ≡ 16) × (16 * (j + 1) ≤ length (now columns)) × (used ≤ 16) × NonePast used (rowsOf (now z)) ⌝ }
+    ensures { λ r. ⌜ not (eqb r 0) ≡ any size (kept b (rowsOf (now (z .entry))) (matrixColumn (now (columns .entry)) (j + 1))) ⌝ }
+{
+    let mask = mask_of(b);
+    let from = COLUMN * j;
+    let mut joined: u64 = 0;
+    let mut k = 0;
+    while k < used {
+        joined = joined | (z[k] & (columns[from + k] ^ mask));
+        k += 1;
+    }
+    joined
+}
+
+// Of the rows of z only those whose bit in column j + 1 is b stay.
+fn keep_rows(z: &mut [u64], columns: &[u64], j: usize, b: bool, used: usize)
+    requires { ⌜ (length (now z) ≡ 16) × (16 * (j + 1) ≤ length (now columns)) × (used ≤ 16) × NonePast used (rowsOf (now z)) ⌝ }
+    ensures { λ r. ⌜ rowsOf (now (z .exit)) ≡ kept b (rowsOf (now (z .entry))) (matrixColumn (now (columns .entry)) (j + 1)) ⌝ }
+{
+    let mask = mask_of(b);
+    let from = COLUMN * j;
+    let mut k = 0;
+    while k < used {
+        z[k] = z[k] & (columns[from + k] ^ mask);
+        k += 1;
+    }
+}
+
+// The rows of MATCH where all columns are there, over the words in which x has a row, with no test between the columns.
+fn match_words(columns: &[u64], first: usize, w: u32, x: Slice) -> Slice
+    requires { ⌜ 512 ≤ length (now columns) ⌝ }
+    ensures { λ r. ⌜ component r ≡ equalRight (matrixColumn (now (columns .entry))) w (width - first) (component x) ⌝ }
+{
+    let used = words_used(x);
+    let mut z = x.words;
+    let mut j = WIDTH;
+    while first < j {
+        j -= 1;
+        keep_rows(&mut z, columns, j, (w >> (WIDTH - 1 - j)) % 2 == 1, used);
+    }
+    Slice { words: z }
+}
+
 // MATCH: the selected rows that equal w.
 pub fn match_from(columns: &[u64], first: usize, w: u32, x: Slice) -> Slice
     ensures { λ r. ⌜ component r ≡ equalTo (inColumns (matrixColumn (now (columns .entry))) first (width - first)) w (component x) ⌝ }
 {
-    let found = match_right(columns, first, w, begin(first, w, x));
-    found.rows
+    let start = begin(first, w, x);
+    if columns.len() < ALL {
+        let found = match_right(columns, first, w, start);
+        return found.rows;
+    }
+    match_words(columns, first, w, start)
 }
 
 // Column j + 1 of those that are compared: the first that is read is turned over, since a 1 there is the sign of a negative number.
@@ -204,57 +274,6 @@ pub fn great_from(columns: &[u64], first: usize, w: u32, x: Slice) -> Compared
     Compared {
         greater: g,
         equal: z,
-    }
-}
-
-// How many of x's words are read: past them x has no row. A multiple of four, so that a loop over them is compiled without a rest.
-fn words_used(x: Slice) -> usize
-    ensures { λ r. ⌜ (r ≤ 16) × NonePast r (component x) ⌝ }
-{
-    let mut k = COLUMN;
-    while 0 < k {
-        if x.words[k - 1] != 0 {
-            return (k + 3) / 4 * 4;
-        }
-        k -= 1;
-    }
-    0
-}
-
-// The word that turns a column over, bit by bit, where the rows sought have 0 in it.
-fn mask_of(b: bool) -> u64
-    ensures { λ r. ⌜ r ≡ mask b ⌝ }
-{
-    if b { 0 } else { 18446744073709551615 }
-}
-
-// The rows of z whose bit in column j + 1 is b, all its words joined: 0 where there is no such row.
-fn joined_rows(z: &[u64], columns: &[u64], j: usize, b: bool, used: usize) -> u64
-    requires { ⌜ (length (now z) ≡ 16) × (16 * (j + 1) ≤ length (now columns)) × (used ≤ 16) × NonePast used (rowsOf (now z)) ⌝ }
-    ensures { λ r. ⌜ not (eqb r 0) ≡ any size (kept b (rowsOf (now (z .entry))) (matrixColumn (now (columns .entry)) (j + 1))) ⌝ }
-{
-    let mask = mask_of(b);
-    let from = COLUMN * j;
-    let mut joined: u64 = 0;
-    let mut k = 0;
-    while k < used {
-        joined = joined | (z[k] & (columns[from + k] ^ mask));
-        k += 1;
-    }
-    joined
-}
-
-// Of the rows of z only those whose bit in column j + 1 is b stay.
-fn keep_rows(z: &mut [u64], columns: &[u64], j: usize, b: bool, used: usize)
-    requires { ⌜ (length (now z) ≡ 16) × (16 * (j + 1) ≤ length (now columns)) × (used ≤ 16) × NonePast used (rowsOf (now z)) ⌝ }
-    ensures { λ r. ⌜ rowsOf (now (z .exit)) ≡ kept b (rowsOf (now (z .entry))) (matrixColumn (now (columns .entry)) (j + 1)) ⌝ }
-{
-    let mask = mask_of(b);
-    let from = COLUMN * j;
-    let mut k = 0;
-    while k < used {
-        z[k] = z[k] & (columns[from + k] ^ mask);
-        k += 1;
     }
 }
 

@@ -19,7 +19,7 @@ abbrev μ-loop : tie.MeasureT-loop
 returns : tie.Need-returns Inv-loop μ-loop
 returns c =
     let l = c .before .before .before .loop in
-    (omega (arith, l .inv .0), none-past (c .before .before .before .before .args .t1) (l .k) ((l .k + 3) / 4 * 4) (omega arith) (l .inv .1))
+    (omega (arith, l .inv .0), none-past (c .before .before .before .before .args .t1) (l .k) _ (omega arith) (l .inv .1))
 
 -- an index from k - 1 on is k - 1 or from k on
 pick : (k p : ℕ) → k - 1 ≤ p → (p ≡ k - 1) ⊎ (k ≤ p)
