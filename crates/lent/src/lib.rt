@@ -145,13 +145,14 @@ pub fn match_right(columns: &[u64], first: usize, w: u32, x: Slice) -> Matched
     Matched { rows: z, read: k }
 }
 
-// How many of x's words are read: past them x has no row. A multiple of four, so that a loop over them is compiled without a rest.
-fn words_used(x: Slice) -> usize
-    ensures { λ r. ⌜ (r ≤ 16) × NonePast r (component x) ⌝ }
+// How many words of z are read: past them z has no row. A multiple of four, so that a loop over them is compiled without a rest.
+fn words_used(z: &[u64]) -> usize
+    requires { ⌜ length (now z) ≡ 16 ⌝ }
+    ensures { λ r. ⌜ (r ≤ 16) × NonePast r (rowsOf (now (z .entry))) ⌝ }
 {
     let mut k = COLUMN;
     while 0 < k {
-        if x.words[k - 1] != 0 {
+        if z[k - 1] != 0 {
             return (k + 3) / 4 * 4;
         }
         k -= 1;
@@ -201,8 +202,8 @@ fn match_words(columns: &[u64], first: usize, w: u32, x: Slice) -> Slice
     requires { ⌜ 512 ≤ length (now columns) ⌝ }
     ensures { λ r. ⌜ component r ≡ equalRight (matrixColumn (now (columns .entry))) w (width - first) (component x) ⌝ }
 {
-    let used = words_used(x);
     let mut z = x.words;
+    let used = words_used(&z);
     let mut j = WIDTH;
     while first < j {
         j -= 1;
@@ -331,8 +332,8 @@ fn wanted(first: usize, high: bool, j: usize) -> bool
 fn extreme_from(columns: &[u64], first: usize, high: bool, x: Slice) -> Slice
     ensures { λ r. ⌜ component r ≡ extreme high size (inColumns (turned first (matrixColumn (now (columns .entry)))) first (width - first)) (component x) ⌝ }
 {
-    let used = words_used(x);
     let mut z = x.words;
+    let used = words_used(&z);
     let mut j = first;
     while j < WIDTH {
         let b = wanted(first, high, j);

@@ -14,11 +14,11 @@ use Rattle.lent.specs.steps.Column.{turned}
 use Rattle.lent.specs.steps.Rows.{rowsOf, NonePast}
 
 abbrev Inv-loop : tie.InvT-loop
-Inv-loop columns first high used z₀ j₀ z j =
+Inv-loop columns first high z₀ used j₀ z j =
     Sought (turned first (matrixColumn columns)) first high (record { words = z₀ }) (record { words = z }) j × NonePast used (rowsOf z) × (length z ≡ 16)
 
 abbrev μ-loop : tie.MeasureT-loop
-μ-loop columns first high used z₀ j₀ z j = 32 - j
+μ-loop columns first high z₀ used j₀ z j = 32 - j
 
 returns : tie.Need-returns Inv-loop μ-loop
 returns c =
@@ -42,11 +42,12 @@ extreme-from-spec =
     (tie.spec
     Inv-loop
     μ-loop
+    (λ c. search needs)
     (λ c κs. search needs)
-    (λ c. (sought-start _ _ _ _, c .before .words-used .ensures .1, search needs))
+    (λ c. (sought-start _ _ _ _, c .words-used .ensures .1, search needs))
     (λ c κs. search needs)
     (λ c. omega (arith, c .before .before .before .loop .inv .2))
-    (λ c κs. (c .before .before .before .loop .inv .2, c .before .before .before .before .before .words-used .ensures .0, c .before .before .before .loop .inv .1))
+    (λ c κs. (c .before .before .before .loop .inv .2, c .before .before .before .before .words-used .ensures .0, c .before .before .before .loop .inv .1))
     returns
     (λ c. omega arith)
     (λ c. omega arith)

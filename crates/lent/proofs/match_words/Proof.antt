@@ -10,16 +10,16 @@ use Rattle.lent.proofs.match_words.Tie as tie
 use Rattle.lent.specs.steps.Rows.{rowsOf}
 
 abbrev Inv-loop : tie.InvT-loop
-Inv-loop columns first w used z₀ j₀ z j = Matching (matrixColumn columns) w (rowsOf z₀) first used z j
+Inv-loop columns first w z₀ used j₀ z j = Matching (matrixColumn columns) w (rowsOf z₀) first used z j
 
 abbrev μ-loop : tie.MeasureT-loop
-μ-loop columns first w used z₀ j₀ z j = j
+μ-loop columns first w z₀ used j₀ z j = j
 
 keep-rows-requires : tie.Need-keep-rows-requires Inv-loop μ-loop
 keep-rows-requires c κs =
     let l = c .before .before .loop in
-    let used = c .before .before .before .before .words-used in
-    (l .inv .full, omega (arith, l .inv .most, c .before .before .before .before .before .before .pre), used .ensures .0, l .inv .past)
+    let used = c .before .before .before .words-used in
+    (l .inv .full, omega (arith, l .inv .most, c .before .before .before .before .before .before .before .pre), used .ensures .0, l .inv .past)
 
 loop-again : tie.Need-loop-again Inv-loop μ-loop
 loop-again c =
@@ -34,8 +34,9 @@ match-words-spec =
     (tie.spec
     Inv-loop
     μ-loop
+    (λ c. search needs)
     (λ c κs. search needs)
-    (λ c. matching-none _ _ _ _ _ (c .before .words-used .ensures .1) (search needs))
+    (λ c. matching-none _ _ _ _ _ (c .words-used .ensures .1) (search needs))
     (λ c. omega arith)
     (λ c. omega (arith, c .before .before .loop .inv .full))
     (λ c. omega (arith, c .before .before .loop .inv .most))

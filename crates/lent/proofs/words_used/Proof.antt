@@ -11,15 +11,15 @@ use Rattle.lent.proofs.words_used.Statement.{statement}
 use Rattle.lent.proofs.words_used.Tie as tie
 
 abbrev Inv-loop : tie.InvT-loop
-Inv-loop x k₀ k = (k ≤ 16) × ((p : ℕ) → k ≤ p → p < 16 → getD (x .words) p 0 ≡ 0)
+Inv-loop z k₀ k = (k ≤ 16) × ((p : ℕ) → k ≤ p → p < 16 → getD z p 0 ≡ 0)
 
 abbrev μ-loop : tie.MeasureT-loop
-μ-loop x k₀ k = k
+μ-loop z k₀ k = k
 
 returns : tie.Need-returns Inv-loop μ-loop
 returns c =
     let l = c .before .before .before .loop in
-    (omega (arith, l .inv .0), none-past (c .before .before .before .before .args .t1) (l .k) _ (omega arith) (l .inv .1))
+    (omega (arith, l .inv .0), none-past (record { words = c .before .before .before .before .args .z .now }) (l .k) _ (omega arith) (l .inv .1))
 
 -- an index from k - 1 on is k - 1 or from k on
 pick : (k p : ℕ) → k - 1 ≤ p → (p ≡ k - 1) ⊎ (k ≤ p)
@@ -28,14 +28,14 @@ pick k p h = ⊎-elim (λ e. inl (sym e)) (λ o. inr (omega arith)) (eq-or-lt-of
 loop-again : tie.Need-loop-again Inv-loop μ-loop
 loop-again c =
     let l = c .before .before .before .loop in
-    let x = c .before .before .before .before .args .t1 in
-    let here : getD (x .words) (l .k - 1) 0 ≡ 0 = c .if1 .left in (
+    let z = c .before .before .before .before .args .z .now in
+    let here : getD z (l .k - 1) 0 ≡ 0 = c .if1 .left in (
       omega (arith, l .inv .0),
-      λ p h u. ⊎-elim (λ e. ap (λ a. getD (x .words) a 0) e ∙ here) (λ o. l .inv .1 p (omega arith) u) (pick (l .k) p h),
+      λ p h u. ⊎-elim (λ e. ap (λ a. getD z a 0) e ∙ here) (λ o. l .inv .1 p (omega arith) u) (pick (l .k) p h),
     )
 
 returns-2 : tie.Need-returns-2 Inv-loop μ-loop
-returns-2 c = let l = c .before .loop in (omega arith, none-past (c .before .before .args .t1) (l .k) 0 (omega arith) (l .inv .1))
+returns-2 c = let l = c .before .loop in (omega arith, none-past (record { words = c .before .before .args .z .now }) (l .k) 0 (omega arith) (l .inv .1))
 
 pub words-used-spec : {M : Type 1} → statement M
 words-used-spec =
@@ -46,7 +46,7 @@ words-used-spec =
     (λ c. (omega arith, λ p h u. absurd (omega arith)))
     (λ c. omega arith)
     (λ c. omega arith)
-    (λ c. omega arith)
+    (λ c. omega (arith, c .before .before .loop .inv .0, c .before .before .before .pre))
     (λ c. omega arith)
     (λ c. omega arith)
     returns
