@@ -1,21 +1,12 @@
 -- `claim::claim_rows` meets its contract. Assumes nothing.
+use mathlib.Core.Path.{ap, _∙_}
 use borrow.Author.Needs.{needs}
-use Rattle.claim.proofs.Laws.{match-claim}
-use Rattle.slice.specs.Slices.{component}
+use Rattle.rowset.specs.Sets.{both}
 use Rattle.claim.proofs.claim_rows.Statement.{statement}
 use Rattle.claim.proofs.claim_rows.Tie as tie
 
-load-bytes-requires : tie.Need-load-bytes-requires
-load-bytes-requires c κs = search needs
-
-match-rows-requires : tie.Need-match-rows-requires
-match-rows-requires c κs = search needs
-
 returns : tie.Need-returns
-returns c =
-    let a = c .before .before .before .args in
-    cc (match-claim (a .mark .now) (component (a .rows)))
+returns c = c .and .ensures ∙ ap (both _) (c .before .mark-rows .ensures)
 
 pub claim-rows-spec : {M : Type 1} → statement M
-claim-rows-spec =
-    tie.close (tie.spec load-bytes-requires match-rows-requires returns)
+claim-rows-spec = tie.close (tie.spec (λ c κs. search needs) (λ c κs. search needs) returns)

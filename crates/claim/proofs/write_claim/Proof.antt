@@ -3,10 +3,9 @@
 use Prim.Native.Nat.{ℕ, suc, _+_, _-_, _<_}
 use borrow.Author.Needs.{needs}
 use lib.ListN.{length, getD}
-use mathlib.Core.Bool.{Bool, true, false, cond}
+use mathlib.Core.Bool.{Bool, cond}
 use mathlib.Core.List.{List, [], _∷_}
 use mathlib.Core.Path.{_≡_, refl, ap, ap₂, _∙_}
-use mir.Val.{boolByte}
 use native.Mathlib.Nat.{zero-add}
 use native.Mathlib.Omega.{arith}
 use Rattle.slice.specs.Slices.{component}
@@ -25,11 +24,6 @@ unfolding claimFrom
 claim-bytes S i [] h = refl
 claim-bytes S i (x ∷ l) h = ap₂ _∷_ (h 0 (omega arith) ∙ ap (λ k. cond (S k) 1 0) (omega arith)) (claim-bytes S (suc i) l (λ k q. h (suc k) (omega arith) ∙ ap (λ j. cond (S j) 1 0) (omega arith)))
 
--- a truth value as a byte
-as-byte : (b s : Bool) → b ≡ s → boolByte b ≡ cond s 1 0
-as-byte b true e = rw e
-as-byte b false e = rw e
-
 abbrev Inv-loop : tie.InvT-loop
 Inv-loop mark₀ rows i₀ mark i = Filled (length mark₀) 0 (Byte (component rows)) mark i
 
@@ -39,14 +33,8 @@ abbrev μ-loop : tie.MeasureT-loop
 loop-holds : tie.Need-loop-holds Inv-loop μ-loop
 loop-holds c = filled-none refl
 
-add-get : tie.Need-add-get Inv-loop μ-loop
-add-get c = omega arith
-
-get-requires : tie.Need-get-requires Inv-loop μ-loop
-get-requires c κs = search needs
-
-cast-mark : tie.Need-cast-mark Inv-loop μ-loop
-cast-mark c = search needs
+row-mark-requires : tie.Need-row-mark-requires Inv-loop μ-loop
+row-mark-requires c κs = search needs
 
 slice-write-mark : tie.Need-slice-write-mark Inv-loop μ-loop
 slice-write-mark c = omega arith
@@ -58,7 +46,7 @@ loop-less : tie.Need-loop-less Inv-loop μ-loop
 loop-less c = omega arith
 
 loop-again : tie.Need-loop-again Inv-loop μ-loop
-loop-again c = filled-more (c .before .before .loop .inv) (omega arith) (as-byte _ _ (c .get .ensures))
+loop-again c = filled-more (c .before .before .loop .inv) (omega arith) (c .row-mark .ensures)
 
 same-length : tie.Need-same-length Inv-loop μ-loop
 same-length c = c .before .loop .inv .full
@@ -75,9 +63,7 @@ write-claim-spec =
     Inv-loop
     μ-loop
     loop-holds
-    add-get
-    get-requires
-    cast-mark
+    row-mark-requires
     slice-write-mark
     add-i
     loop-less
