@@ -1,14 +1,14 @@
 // Between the bytes of a claim and slices of rows: the rows that a claim marks, the claim that marks a slice's rows, and the weight of a slice's rows, an integer, in the 64 bits that stand for it.
 ghost use mathlib.Core.Path.{_≡_};
-ghost use mathlib.Core.Bool.{cond};
-ghost use Prim.Native.Nat.{_+_, _*_, _≤_, _<_};
+ghost use mathlib.Core.Bool.{Bool, cond};
+ghost use Prim.Native.Nat.{ℕ, _+_, _*_, _≤_, _<_};
 ghost use lib.ListN.{length};
 ghost use Rattle.rowset.specs.Bytes.{inRow};
 ghost use Rattle.rowset.specs.Integers.{fromBits, signed, total};
 ghost use Rattle.rowset.specs.Sets.{both};
-ghost use Rattle.rowset.specs.Words.{wordAt};
+ghost use Rattle.rowset.specs.Words.{wordAt, inWords};
 ghost use Rattle.rowset.specs.steps.Flipped.{flipped};
-ghost use Rattle.slice.specs.Slices.{size, component};
+ghost use Rattle.slice.specs.Slices.{size, bit, component};
 ghost use Rattle.star.specs.Call.{marked, claimOf};
 ghost use Rattle.claim.specs.Claims.{claimRows};
 ghost use Rattle.claim.specs.steps.Added.{Added};
@@ -58,15 +58,18 @@ pub fn claim_rows(mark: &[u8], rows: Slice) -> Slice
     slice::and(rows, mark_rows(mark))
 }
 
-// The byte of the claim for the row at index i of a slice, 0 past its end.
-fn row_mark(rows: Slice, i: usize) -> u8
-    ensures { λ r. ⌜ r ≡ cond (component rows (i + 1)) 1 0 ⌝ }
+// The byte of the claim for the row at index i of a slice's words, 0 past their end. The words are lent, so that the slice is not copied for each row.
+fn row_mark(words: &[u64], i: usize) -> u8
+    ensures { λ r. ⌜ r ≡ cond (inWords (now (words .entry)) (i + 1)) 1 0 ⌝ }
 {
     if slice::SIZE <= i {
         return 0;
     }
-    let w = rows.words[i / 64];
-    ((w >> (i % 64)) % 2) as u8
+    let k = i / 64;
+    if words.len() <= k {
+        return 0;
+    }
+    ((words[k] >> (i % 64)) % 2) as u8
 }
 
 // The claim is written anew: 1 for each row of the slice, 0 for every other.
@@ -75,7 +78,7 @@ pub fn write_claim(mark: &mut [u8], rows: Slice)
 {
     let mut i = 0;
     while i < mark.len() {
-        mark[i] = row_mark(rows, i);
+        mark[i] = row_mark(&rows.words, i);
         i += 1;
     }
 }
@@ -93,21 +96,21 @@ struct Sums {
     taken: u64,
 }
 
-// The sums with the rows of word k of the slice, one turn of the loop for each of them.
-fn add_word(weight: &[u8], rows: Slice, k: usize, before: Sums) -> Sums
-    requires { ⌜ (k < 16) × Added (now weight) (component rows) (64 * k) (before .above) (before .taken) ⌝ }
-    ensures { λ r. ⌜ Added (now (weight .entry)) (component rows) (64 * k + 64) (r .above) (r .taken) ⌝ }
+// The sums with the rows of word k of a slice, w, one turn of the loop for each of them.
+fn add_word(weight: &[u8], w: u64, k: usize, before: Sums) -> Sums
+    requires { ⌜ (k < 16) × (before .above ≤ 64 * k * 4294967295) × (before .taken ≤ 64 * k * 2147483648) ⌝ }
+    ensures { λ r. ⌜ ((p : ℕ → Bool) → ((j : ℕ) → j < 64 → p (64 * k + j + 1) ≡ bit w j) → Added (now (weight .entry)) p (64 * k) (before .above) (before .taken) → Added (now (weight .entry)) p (64 * k + 64) (r .above) (r .taken)) ⌝ }
 {
     let mut above = before.above;
     let mut taken = before.taken;
     let mut at = 64 * k;
-    let mut w = rows.words[k];
-    while w != 0 {
-        let z = u64::trailing_zeros(w) as usize;
+    let mut left = w;
+    while left != 0 {
+        let z = u64::trailing_zeros(left) as usize;
         at = at + z + 1;
         above += flipped_weight(weight, at) as u64;
         taken += OFFSET as u64;
-        w = (w >> z) >> 1;
+        left = (left >> z) >> 1;
     }
     Sums {
         above: above,
@@ -122,7 +125,7 @@ pub fn weigh(weight: &[u8], rows: Slice) -> u64
     let mut sums = Sums { above: 0, taken: 0 };
     let mut k = 0;
     while k < slice::WORDS {
-        sums = add_word(weight, rows, k, sums);
+        sums = add_word(weight, rows.words[k], k, sums);
         k += 1;
     }
     std::num::wrapping_sub_u64(sums.above, sums.taken)

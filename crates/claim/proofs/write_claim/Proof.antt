@@ -5,10 +5,11 @@ use borrow.Author.Needs.{needs}
 use lib.ListN.{length, getD}
 use mathlib.Core.Bool.{Bool, cond}
 use mathlib.Core.List.{List, [], _∷_}
-use mathlib.Core.Path.{_≡_, refl, ap, ap₂, _∙_}
+use mathlib.Core.Path.{_≡_, refl, sym, ap, ap₂, _∙_}
 use native.Mathlib.Nat.{zero-add}
 use native.Mathlib.Omega.{arith}
 use Rattle.slice.specs.Slices.{component}
+use Rattle.slice.proofs.Laws.{same-words}
 use Rattle.slice.proofs.Stores.{Filled, filled-none, filled-more, filled-all}
 use Rattle.star.specs.Call.{claimFrom, claimOf}
 use Rattle.claim.proofs.write_claim.Statement.{statement}
@@ -46,7 +47,9 @@ loop-less : tie.Need-loop-less Inv-loop μ-loop
 loop-less c = omega arith
 
 loop-again : tie.Need-loop-again Inv-loop μ-loop
-loop-again c = filled-more (c .before .before .loop .inv) (omega arith) (c .row-mark .ensures)
+loop-again c =
+    let l = c .before .before .before .before .before .loop in
+    filled-more (l .inv) (omega arith) (c .row-mark .ensures ∙ ap (λ (p : ℕ → Bool). cond (p (l .i + 1)) 1 0) (sym (same-words _ _ (λ k q. refl))))
 
 same-length : tie.Need-same-length Inv-loop μ-loop
 same-length c = c .before .loop .inv .full
