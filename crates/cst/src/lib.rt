@@ -1,5 +1,5 @@
 // CST, the tree checker: its verdict on the claim that a table's marked rows are a least spanning tree.
-ghost use mathlib.Core.Bool.{Bool};
+ghost use mathlib.Core.Bool.{Bool, true};
 ghost use mathlib.Core.Path.{_≡_};
 ghost use Prim.Native.Nat.{ℕ, _-_, _*_, _≤_};
 ghost use lib.ListN.{length};
@@ -118,30 +118,39 @@ fn remember(found: usize, equal: Slice, i: usize) -> usize
     if slice::zero(equal) { 0 } else { i }
 }
 
-// The rows are taken from the top: the first that has a heavier row on the path between its ends comes in, and the uppermost such row goes out. All is 0 where none has; then the first with a row of equal weight on that path,
-// and the uppermost such row, are the exchange of equal rows. The weight column is one that can be loaded.
-fn first_found(matrix: &[u64], left: &[u8], right: &[u8], weight: &[u8], rows: Slice) -> Found
-    requires { ⌜ loadedRow 4 (now weight) ≡ inRow 4 (now weight) ⌝ }
+// The rows, of which none is past row m, are taken from the top: the first that has a heavier row on the path between its ends comes in, and the uppermost such row goes out. All is 0 where none has; then the first
+// with a row of equal weight on that path, and the uppermost such row, are the exchange of equal rows. The weight column is one that can be loaded.
+fn first_found(
+    matrix: &[u64],
+    left: &[u8],
+    right: &[u8],
+    weight: &[u8],
+    m: usize,
+    rows: Slice,
+) -> Found
+    requires { ⌜ (loadedRow 4 (now weight) ≡ inRow 4 (now weight)) × ((k : ℕ) → component rows k ≡ true → k ≤ m) ⌝ }
     ensures lighter { λ r. ⌜ r .lighter ≡ firstLighter (now (matrix .entry)) (now (left .entry)) (now (right .entry)) (now (weight .entry)) (component rows) ⌝ }
     ensures equal { λ r. ⌜ (r .lighter .into ≡ 0 → r .equal ≡ firstEqual (now (matrix .entry)) (now (left .entry)) (now (right .entry)) (now (weight .entry)) (component rows)) ⌝ }
 {
     let weights = loads::prices(weight);
     let first = loads::sign_columns(&weights.columns);
-    let mut z = rows;
     let mut into = 0;
-    while slice::some(z) {
-        let s = slice::step_value(z);
-        z = s.slice;
-        let y = compared_rows(matrix, &weights.columns, first, left, right, weight, s.at);
-        let heavier = y.greater;
-        if slice::some(heavier) {
-            return Found {
-                lighter: exchange_of(weight, slice::fnd(heavier), s.at),
-                equal: Equal { out: 0, into: 0 },
-            };
+    let mut i = 0;
+    while i < m {
+        let at = i + 1;
+        if slice::get(rows, at) {
+            let y = compared_rows(matrix, &weights.columns, first, left, right, weight, at);
+            let heavier = y.greater;
+            if slice::some(heavier) {
+                return Found {
+                    lighter: exchange_of(weight, slice::fnd(heavier), at),
+                    equal: Equal { out: 0, into: 0 },
+                };
+            }
+            let same = y.equal;
+            into = remember(into, same, at);
         }
-        let same = y.equal;
-        into = remember(into, same, s.at);
+        i += 1;
     }
     let beside = compared_rows(matrix, &weights.columns, first, left, right, weight, into);
     let equal = beside.equal;
@@ -176,7 +185,7 @@ fn judge(
     let used = rows_among(m, rows);
     let marked = claim::claim_rows(mark, used);
     let unmarked = difference::without(used, marked);
-    let found = first_found(matrix, left, right, weight, unmarked);
+    let found = first_found(matrix, left, right, weight, m, unmarked);
     let lighter = found.lighter;
     if lighter.into != 0 {
         return Checked {

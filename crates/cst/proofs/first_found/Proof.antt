@@ -1,96 +1,118 @@
--- `cst::first_found` meets its contract. The loop's invariant: the columns read hold the weights, as many last bits of a row stand for its weight, the row sought among the rows still to be looked at
--- is the one sought among all, and so is what is remembered of equal rows. The measure is how many rows are still to be looked at. Assumes nothing.
-use Prim.Native.Nat.{ℕ, _-_}
+-- `cst::first_found` meets its contract. The loop's invariant: the columns read hold the weights, as many last bits of a row stand for its weight, the row sought among the rows still to be looked at,
+-- those after row i, is the one sought among all, and so is what is remembered of equal rows. The measure is how many rows are left. Assumes nothing.
+use Prim.Native.Nat.{ℕ, _+_, _-_, _≤_}
+use mathlib.Core.Bool.{true}
+use mathlib.Core.Logic.{⊎-elim}
 use mathlib.Core.Path.{_≡_, refl, sym, ap, _∙_}
 use borrow.Author.Needs.{needs}
+use native.Mathlib.Omega.{arith}
 use Rattle.checks.proofs.Laws.{uppermost-bound}
 use Rattle.rowset.specs.Bytes.{inRow}
 use Rattle.rowset.specs.Columns.{width}
 use Rattle.rowset.specs.Integers.{fromBits}
 use Rattle.rowset.specs.Searches.{greaterThan}
-use Rattle.rowset.specs.Sets.{any, uppermost, count}
+use Rattle.rowset.specs.Sets.{any, uppermost}
 use Rattle.loads.proofs.Signs.{sign-integer, sign-bits}
 use Rattle.slice.specs.Slices.{size, component}
+use Rattle.cst.proofs.Sets.{component-position}
 use Rattle.cst.proofs.Paths.{heavier-out, exchange-found, none-found, comes-in, Remembered, remembered-more, remembered-all, remembered-bound, equal-found}
-use Rattle.cst.proofs.Sets.{passed-over, fewer}
+use Rattle.cst.proofs.Sets.{passed-over, later, later-all, later-none, later-next, later-skip, later-some, later-first}
 use Rattle.cst.specs.steps.Paths.{weightIn, integersAfter, someOn, firstOn, rowWith}
 use Rattle.cst.proofs.first_found.Statement.{statement}
 use Rattle.cst.proofs.first_found.Tie as tie
 
 abbrev Inv-loop : tie.InvT-loop
-Inv-loop matrix left right weight weights first z₀ into₀ z into =
+Inv-loop matrix left right weight m rows weights first into₀ i₀ into i =
     (integersAfter (weights .columns) first ≡ weightIn weight)
     × ((k : ℕ) → fromBits (width - first) (inRow 4 weight k) ≡ weightIn weight k)
-    × (rowWith greaterThan matrix left right weight (component z) ≡ rowWith greaterThan matrix left right weight (component z₀))
-    × Remembered matrix left right weight (component z₀) (component z) into
+    × (rowWith greaterThan matrix left right weight (later (component rows) i) ≡ rowWith greaterThan matrix left right weight (component rows))
+    × Remembered matrix left right weight (component rows) (later (component rows) i) into
+    × (i ≤ m)
 
 abbrev μ-loop : tie.MeasureT-loop
-μ-loop matrix left right weight weights first z₀ into₀ z into = count size (component z)
+μ-loop matrix left right weight m rows weights first into₀ i₀ into i = m - i
 
 loop-holds : tie.Need-loop-holds Inv-loop μ-loop
 loop-holds c =
     let w = c .before .before .before .before in
-    let rows = w .prices .ensures ∙ w .before .before .before .before .before .pre in (
+    let s = w .before .before .before .before .before in
+    let rows = w .prices .ensures ∙ s .pre .0 in
+    let all = later-all (component (s .args .rows)) (λ k e. component-position (s .args .rows) k e .0) in (
       sign-integer _ (c .sign-columns .ensures) rows,
       sign-bits _ (c .sign-columns .ensures) rows,
-      refl,
-      record { row = refl },
+      ap (rowWith greaterThan _ _ _ _) all,
+      rw all (record { row = refl }),
+      omega arith,
     )
 
 exchange-of-requires : tie.Need-exchange-of-requires Inv-loop μ-loop
 unfolding someOn firstOn
 exchange-of-requires c κs =
-    let y = c .before .before .before .before .compared-rows in
-    let s = c .before .before .before .before .before .before .before .before .before .step-value in
-    let l = c .before .before .before .before .before .before .before .before .before .before .before .before .loop in
-    let heavy = rw (l .inv .0, l .inv .1) at (y .ensures .0) in
-    let found = ap (any size) (sym heavy) ∙ sym (c .before .before .some2 .ensures) ∙ c .before .if2 .taken in (
+    let y = c .before .before .before .before in
+    let g = y .before .before .before .before in
+    let l = g .before .before .before .loop in
+    let heavy = rw (l .inv .0, l .inv .1) at (y .compared-rows .ensures .0) in
+    let found = ap (any size) (sym heavy) ∙ sym (c .before .before .some .ensures) ∙ c .before .if2 .taken in (
       uppermost-bound size _ _ (c .fnd .ensures),
-      uppermost-bound size _ _ (s .ensures .0),
+      component-position _ _ (sym (g .before .get .ensures) ∙ g .if1 .taken) .1,
       rw (c .fnd .ensures, heavy) (heavier-out _ _ _ _ _ found),
     )
 
 returns : tie.Need-returns Inv-loop μ-loop
 unfolding someOn firstOn
 returns c =
-    let s = c .before .before .before .before .before .before .before .before .before .before .step-value in
-    let some = sym (c .before .before .before .before .before .before .before .before .before .before .before .before .some .ensures) ∙ c .before .before .before .before .before .before .before .before .before .before .before .if1 .taken in
-    let l = c .before .before .before .before .before .before .before .before .before .before .before .before .before .loop in
-    let heavy = rw (l .inv .0, l .inv .1) at (c .before .before .before .before .before .compared-rows .ensures .0) in
-    let found = ap (any size) (sym heavy) ∙ sym (c .before .before .before .some2 .ensures) ∙ c .before .before .if2 .taken in
-    (c .exchange-of .ensures ∙ exchange-found _ _ _ _ _ _ (l .inv .2) _ _ (s .ensures .0) found (c .before .fnd .ensures ∙ ap (uppermost size) heavy), λ e. absurd (comes-in _ _ _ _ _ some (s .ensures .0) (c .exchange-of .ensures) e))
-
-loop-less : tie.Need-loop-less Inv-loop μ-loop
-loop-less c = rw (c .before .before .before .before .before .before .before .before .before .before .step-value .ensures .1) (fewer size _ (cc))
+    let y = c .before .before .before .before .before in
+    let g = y .before .before .before .before in
+    let l = g .before .before .before .loop in
+    let rows = component (g .before .before .before .before .before .before .before .before .before .before .before .before .before .args .rows) in
+    let row : rows (l .i + 1) ≡ true = sym (g .before .get .ensures) ∙ g .if1 .taken in
+    let inside = component-position _ _ row .1 in
+    let first = later-first rows (l .i) size inside row in
+    let heavy = rw (l .inv .0, l .inv .1) at (y .compared-rows .ensures .0) in
+    let found = ap (any size) (sym heavy) ∙ sym (c .before .before .before .some .ensures) ∙ c .before .before .if2 .taken in (
+      c .exchange-of .ensures ∙ exchange-found _ _ _ _ _ _ (l .inv .2) _ _ first found (c .before .fnd .ensures ∙ ap (uppermost size) heavy),
+      λ e. absurd (comes-in _ _ _ _ _ (later-some rows (l .i) size inside row) first (c .exchange-of .ensures) e),
+    )
 
 loop-again : tie.Need-loop-again Inv-loop μ-loop
 unfolding someOn rowWith
 loop-again c =
-    let s = c .before .before .before .before .before .before .before .before .before .before .step-value in
-    let some = sym (c .before .before .before .before .before .before .before .before .before .before .before .before .some .ensures) ∙ c .before .before .before .before .before .before .before .before .before .before .before .if1 .taken in
-    let l = c .before .before .before .before .before .before .before .before .before .before .before .before .before .loop in
-    let y = c .before .before .before .before .before .compared-rows in
-    let heavy = rw (l .inv .0, l .inv .1) at (y .ensures .0) in
-    let same = rw (l .inv .0, l .inv .1) at (y .ensures .1) in
-    let none = ap (any size) (sym heavy) ∙ sym (c .before .before .before .some2 .ensures) ∙ c .before .before .if2 .left in (
+    let l = c .before .before .before .loop in
+    let rows = component (c .before .before .before .before .before .before .before .before .before .before .before .before .before .args .rows) in (
       l .inv .0,
       l .inv .1,
-      rw (s .ensures .1) (ap (uppermost size) (passed-over _ _ _ (rw (s .ensures .0) at none)) ∙ l .inv .2),
-      rw (s .ensures .1, c .remember .ensures, same) (remembered-more _ _ _ _ _ _ _ (l .inv .3) _ (s .ensures .0) some),
+      ⊎-elim
+          (λ w. ap (rowWith greaterThan _ _ _ _) (sym (later-next rows (l .i))) ∙ ap (uppermost size) (passed-over _ _ _ (ap (any size) (sym (rw (l .inv .0, l .inv .1) at (w .4 .ensures .0))) ∙ sym (w .6 .ensures) ∙ w .7 .left)) ∙ l .inv .2)
+          (λ w. ap (rowWith greaterThan _ _ _ _) (sym (later-skip rows (l .i) (sym (c .before .get .ensures) ∙ w .0 .left))) ∙ l .inv .2)
+          (c .if1 .came),
+      ⊎-elim
+          (λ w.
+          let row : rows (l .i + 1) ≡ true = sym (c .before .get .ensures) ∙ w .0 .taken in
+          let inside = component-position _ _ row .1 in
+          let first = later-first rows (l .i) size inside row in
+          let same = rw (l .inv .0, l .inv .1) at (w .4 .ensures .1) in
+          rw (w .10, w .9 .ensures, same) (rw (← first, later-next rows (l .i)) at (remembered-more _ _ _ _ _ _ _ (l .inv .3) _ first (later-some rows (l .i) size inside row))))
+          (λ w. rw (w .1, ← later-skip rows (l .i) (sym (c .before .get .ensures) ∙ w .0 .left)) (l .inv .3))
+          (c .if1 .came),
+      omega arith,
     )
 
 -- the row that is remembered is one of 1 to 1,024, or 0
-remembered-row : tie.Need-cast-t31 Inv-loop μ-loop
+remembered-row : tie.Need-cast-t33 Inv-loop μ-loop
 remembered-row c =
-    let l = c .before .before .before .before .before .before .before .before .loop in
-    let none = sym (c .before .before .before .before .before .before .before .some .ensures) ∙ c .before .before .before .before .before .before .if1 .left in
+    let t = c .before .before .before .before .before .before in
+    let l = t .before .loop in
+    let s = t .before .before .before .before .before .before .before .before .before .before .before in
+    let none = later-none size (l .i) (component (s .args .rows)) (λ k e. let h = s .pre .1 k e in omega arith) in
     search (needs, remembered-bound _ _ _ _ _ _ _ (l .inv .3) none)
 
 returns-2 : tie.Need-returns-2 Inv-loop μ-loop
 unfolding firstOn
 returns-2 c =
-    let l = c .before .before .before .before .before .before .before .before .loop in
-    let none = sym (c .before .before .before .before .before .before .before .some .ensures) ∙ c .before .before .before .before .before .before .if1 .left in
+    let t = c .before .before .before .before .before .before in
+    let l = t .before .loop in
+    let s = t .before .before .before .before .before .before .before .before .before .before .before in
+    let none = later-none size (l .i) (component (s .args .rows)) (λ k e. let h = s .pre .1 k e in omega arith) in
     let same = rw (l .inv .0, l .inv .1) at (c .before .before .compared-rows2 .ensures .1) in (
       none-found _ _ _ _ _ _ (l .inv .2) none,
       λ e. equal-found _ _ _ _ _ _ _ (remembered-all _ _ _ _ _ _ _ (l .inv .3) none) (c .fnd2 .ensures ∙ ap (uppermost size) same),
@@ -105,7 +127,7 @@ first-found-spec =
     (λ c κs. search needs)
     (λ c κs. search needs)
     loop-holds
-    (λ c κs. search needs)
+    (λ c. omega arith)
     (λ c κs. search needs)
     (λ c κs. search needs)
     (λ c κs. search needs)
@@ -113,7 +135,8 @@ first-found-spec =
     exchange-of-requires
     returns
     (λ c κs. search needs)
-    loop-less
+    (λ c. omega arith)
+    (λ c. omega arith)
     loop-again
     (λ c κs. search needs)
     (λ c κs. search needs)
