@@ -15,10 +15,10 @@ use Rattle.star.specs.Call.{used, graphOf, weightOf, marked, claimed}
 use Rattle.star.specs.Door.{bytesOf, fieldBytes, wellLent, answerAfter}
 use Rattle.star.specs.Refusals.{cause, causeAt, badVertices, tooManyRows, badLengths, wrongRow, badEnds, badRow, repeatsAbove, repeats, repeatedRow, wrongByte, badClaim, isNone, noTree, tableCauses, orElse, refusal}
 use Rattle.drawings.specs.Door.{mendFields, mendDoor, mendDoorMarks, mendDoorList}
-use Rattle.drawings.specs.Means.{recordsIn, byteWritten, appliedTo}
-use Rattle.drawings.specs.Mend.{recordCount, shortList, mendCauses, drawn, numbersOf, listed, redrawnFrom, redrawn, answerOr, mend, marksOr, mendMarks, listOr, mendList}
+use Rattle.drawings.specs.Means.{byteWritten, appliedTo}
+use Rattle.drawings.specs.Mend.{shortList, mendCauses, drawn, listed, redrawnFrom, redrawn, answerOr, mend, marksOr, mendMarks, listOr, mendList}
 use Rattle.drawings.specs.Trials.{TrialsHold}
 
 pub trials-hold : TrialsHold
-unfolding xor cheapest choose first next fragment treeOf tree crosses withEnds step grow joined onPath unmarkRow markRow apply done down joinsEnds dropAt addAt heavierThan rowOut exchangeFor exchangeAt old ringless gapless exchanged little inRow fromBits toBits greaterThan smallest largest empty upTo both put takeOut any firstOf uppermost these used graphOf weightOf marked claimed bytesOf fieldBytes wellLent answerAfter cause causeAt badVertices tooManyRows badLengths wrongRow badEnds badRow repeatsAbove repeats repeatedRow wrongByte badClaim isNone noTree tableCauses orElse refusal mendFields mendDoor mendDoorMarks mendDoorList recordsIn byteWritten appliedTo recordCount shortList mendCauses drawn numbersOf listed redrawnFrom redrawn answerOr mend marksOr mendMarks listOr mendList
+unfolding xor cheapest choose first next fragment treeOf tree crosses withEnds step grow joined onPath unmarkRow markRow apply done down joinsEnds dropAt addAt heavierThan rowOut exchangeFor exchangeAt old ringless gapless exchanged little inRow fromBits toBits greaterThan smallest largest empty upTo both put takeOut any firstOf uppermost these used graphOf weightOf marked claimed bytesOf fieldBytes wellLent answerAfter cause causeAt badVertices tooManyRows badLengths wrongRow badEnds badRow repeatsAbove repeats repeatedRow wrongByte badClaim isNone noTree tableCauses orElse refusal mendFields mendDoor mendDoorMarks mendDoorList byteWritten appliedTo shortList mendCauses drawn listed redrawnFrom redrawn answerOr mend marksOr mendMarks listOr mendList
 trials-hold = ((refl, refl, refl, refl, refl, refl, refl), (refl, refl, refl, refl, refl, refl, refl, refl, refl), (refl, refl), (refl, refl, refl, refl, refl, refl), refl)

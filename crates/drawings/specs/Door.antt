@@ -4,6 +4,7 @@ use lib.IntN.{pos}
 use mathlib.Core.Bool.{cond}
 use mathlib.Core.List.{List}
 use Prim.Native.Nat.{ℕ}
+use Rattle.record.specs.declared.Record.{Record}
 use Rattle.star.specs.Call.{Call}
 use Rattle.star.specs.Door.{Fields, answerAfter, wellLent}
 use Rattle.drawings.specs.Mend.{MendAnswer, unmended, mendedBy, mend, mendMarks, mendList}
@@ -13,13 +14,13 @@ unfoldable pub mendFields : MendAnswer → Fields
 mendFields (unmended r) = record { kind = 0; number = r .number; out = r .place; into = 0; only = 0; amount = pos 0 }
 mendFields (mendedBy records) = record { kind = 1; number = 0; out = 0; into = 0; only = 0; amount = pos records }
 
--- the lent answer afterwards
-unfoldable pub mendDoor : Call → List ℕ → List ℕ → List ℕ
-mendDoor c l answer = answerAfter answer (mendFields (mend c l))
+-- the lent answer afterwards, where the lent list has so many records
+unfoldable pub mendDoor : Call → (records : ℕ) → List ℕ → List ℕ
+mendDoor c records answer = answerAfter answer (mendFields (mend c records))
 
 -- the claim and the list afterwards: as they were where the lent answer has not sixteen bytes
-unfoldable pub mendDoorMarks : Call → List ℕ → List ℕ → List ℕ
-mendDoorMarks c l answer = cond (wellLent answer) (mendMarks c l) (c .mark)
+unfoldable pub mendDoorMarks : Call → (records : ℕ) → List ℕ → List ℕ
+mendDoorMarks c records answer = cond (wellLent answer) (mendMarks c records) (c .mark)
 
-unfoldable pub mendDoorList : Call → List ℕ → List ℕ → List ℕ
+unfoldable pub mendDoorList : Call → List Record → List ℕ → List Record
 mendDoorList c l answer = cond (wellLent answer) (mendList c l) l

@@ -16,7 +16,8 @@ use Rattle.mending.proofs.Drawing.{done-length}
 use Rattle.mending.proofs.Groups.{Labels, relabelled, labels-start, labels-put}
 use Rattle.mending.proofs.Rings.{above-put, above-same}
 use Rattle.mending.specs.Mending as D
-use Rattle.mending.specs.Mending.{Change, Drawing, drop, addition, unmarkRow, markRow, apply, done, down, joinsEnds, old, ringless, gapless}
+use Rattle.mending.specs.Mending.{Drawing, drop, addition, unmarkRow, markRow, apply, done, down, joinsEnds, old, ringless, gapless}
+use Rattle.record.specs.declared.Record.{Record}
 use Rattle.rowset.proofs.Laws.{clash, put-cases, takeOut-same, takeOut-other, takeOut-in, upTo-in, in-upTo, both-inside}
 use Rattle.rowset.proofs.Members.{put-all, both-in, in-both}
 use Rattle.rowset.specs.Bytes.{inRow}

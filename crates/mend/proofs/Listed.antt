@@ -8,7 +8,8 @@ use mathlib.Core.List.{List, [], _∷_, _++_, append-assoc}
 use mathlib.Core.Path.{_≡_, refl, sym, _∙_, ap, ap₂}
 use native.Mathlib.Omega.{arith}
 use Rattle.drawings.specs.Mend.{numbersOf, listed}
-use Rattle.mending.specs.Mending.{Change, Drawing, apply, done}
+use Rattle.mending.specs.Mending.{Drawing, apply, done}
+use Rattle.record.specs.declared.Record.{Record}
 use Rattle.mend.specs.steps.Machine.{State, stored, noted}
 
 -- a record stored past the first one
@@ -22,7 +23,7 @@ stored-past x y z l n a b c =
     ap (λ (i : ℕ). set (set (set (x ∷ y ∷ z ∷ l) i a) (3 * suc n + 1) b) (3 * suc n + 2) c) e
     ∙ ap₂ (λ (i j : ℕ). set (set (set (x ∷ y ∷ z ∷ l) (suc (suc (suc (3 * n)))) a) i b) j c) f h
 
-numbers-stored : (rs : List Change) (l : List ℕ) (a b c : ℕ) → stored (numbersOf rs ++ l) (length rs) a b c ≡ numbersOf rs ++ stored l 0 a b c
+numbers-stored : (rs : List Record) (l : List ℕ) (a b c : ℕ) → stored (numbersOf rs ++ l) (length rs) a b c ≡ numbersOf rs ++ stored l 0 a b c
 unfolding numbersOf
 numbers-stored [] l a b c = refl
 numbers-stored (r ∷ rs) l a b c =
@@ -36,18 +37,18 @@ stored-first (x ∷ []) a b c h = absurd (omega arith)
 stored-first (x ∷ y ∷ []) a b c h = absurd (omega arith)
 stored-first (x ∷ y ∷ z ∷ l) a b c h = refl
 
-numbers-append : (rs : List Change) (r : Change) → numbersOf (rs ++ (r ∷ [])) ≡ numbersOf rs ++ (r .kind ∷ r .out ∷ r .into ∷ [])
+numbers-append : (rs : List Record) (r : Record) → numbersOf (rs ++ (r ∷ [])) ≡ numbersOf rs ++ (r .kind ∷ r .out ∷ r .into ∷ [])
 unfolding numbersOf
 numbers-append [] r = refl
 numbers-append (q ∷ rs) r = ap (λ (t : List ℕ). q .kind ∷ q .out ∷ q .into ∷ t) (numbers-append rs r)
 
-pub length-numbers : (rs : List Change) → length (numbersOf rs) ≡ 3 * length rs
+pub length-numbers : (rs : List Record) → length (numbersOf rs) ≡ 3 * length rs
 unfolding numbersOf
 length-numbers [] = refl
 length-numbers (r ∷ rs) = omega (arith, length-numbers rs)
 
 -- one record more
-pub listed-more : (rs : List Change) (l : List ℕ) (r : Change) → 3 * length rs + 3 ≤ length l → stored (listed rs l) (length rs) (r .kind) (r .out) (r .into) ≡ listed (rs ++ (r ∷ [])) l
+pub listed-more : (rs : List Record) (l : List ℕ) (r : Record) → 3 * length rs + 3 ≤ length l → stored (listed rs l) (length rs) (r .kind) (r .out) (r .into) ≡ listed (rs ++ (r ∷ [])) l
 unfolding listed
 listed-more rs l r h =
     let three : 3 ≤ length (drop (3 * length rs) l) = omega (arith, length-drop (3 * length rs) l) in
@@ -63,7 +64,7 @@ pub record Shows (l : List ℕ) (s : State) (d : Drawing) : Type 0 where
   pub count : s .count ≡ length (d .records)
   pub list : s .list ≡ listed (d .records) l
 
-pub shows-noted : {l : List ℕ} {s : State} {d : Drawing} → Shows l s d → (r : Change) (marks : ℕ → Bool) (own : List ℕ) → marks ≡ apply (d .marks) r → 3 * length (d .records) + 3 ≤ length l → Shows l (noted s marks own (r .kind) (r .out) (r .into)) (done d r)
+pub shows-noted : {l : List ℕ} {s : State} {d : Drawing} → Shows l s d → (r : Record) (marks : ℕ → Bool) (own : List ℕ) → marks ≡ apply (d .marks) r → 3 * length (d .records) + 3 ≤ length l → Shows l (noted s marks own (r .kind) (r .out) (r .into)) (done d r)
 unfolding noted done
 shows-noted {l} {s} {d} h r marks own e room =
     record {

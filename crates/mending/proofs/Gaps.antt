@@ -16,7 +16,8 @@ use Rattle.graph.specs.Tree.{SpanningTree}
 use Rattle.mending.proofs.Drawing.{cond-cases, down-keeps, Applied, done-applied, done-length, done-all}
 use Rattle.mending.proofs.Forest.{Extended, extended-fewer, extend-tree, around-tree}
 use Rattle.mending.proofs.Rings.{Kept, DropMeant}
-use Rattle.mending.specs.Mending.{Change, Drawing, addition, unmarkRow, markRow, apply, done, down, joinsEnds, addAt}
+use Rattle.mending.specs.Mending.{Drawing, addition, unmarkRow, markRow, apply, done, down, joinsEnds, addAt}
+use Rattle.record.specs.declared.Record.{Record}
 use Rattle.rowset.proofs.Laws.{clash, refuted, put-same, put-other, put-keeps, upTo-in, in-upTo, count-put}
 use Rattle.rowset.proofs.Members.{put-all, both-in, in-both, either-in, in-either}
 use Rattle.rowset.specs.Sets.{upTo, both, either, put, count}
@@ -30,7 +31,7 @@ module _ (g : Graph) (ok : Sound g) (M : ℕ → Bool) (inside : Inside g M) (s�
   kept-inside i t = inside i (kept .within i t)
 
   -- a record of an addition among the positions 1 to k, while the marks are S
-  abbrev pub AddMeant : ℕ → (ℕ → Bool) → Change → Type 0
+  abbrev pub AddMeant : ℕ → (ℕ → Bool) → Record → Type 0
   AddMeant k S c = (j : ℕ) × (c ≡ addition (suc j)) × (suc j ≤ k) × (g .rows (suc j) ≡ true) × (Walk g (either (s₀ .marks) (both (upTo j) S)) (g .a (suc j)) (g .b (suc j)) → ⊥)
 
   -- after the positions 1 to k
@@ -41,7 +42,7 @@ module _ (g : Graph) (ok : Sound g) (M : ℕ → Bool) (inside : Inside g M) (s�
     pub fresh : (i : ℕ) → s .marks i ≡ true → s₀ .marks i ≡ false → joinsEnds g (s₀ .marks) i ≡ false
     pub number : length (s .records) ≤ length (s₀ .records) + count (g .m) (s .marks)
     pub applied : Applied M s
-    pub meant : (c : Change) → List·Memᴰ c (s .records) → DropMeant g ok M inside (g .m) (s₀ .marks) c ⊎ AddMeant k (s .marks) c
+    pub meant : (c : Record) → List·Memᴰ c (s .records) → DropMeant g ok M inside (g .m) (s₀ .marks) c ⊎ AddMeant k (s .marks) c
     pub extended : (B : ℕ → Bool) → SpanningTree g B → Extended g (s .marks)
 
   filled-kept : Filled 0 s₀
@@ -94,7 +95,7 @@ module _ (g : Graph) (ok : Sound g) (M : ℕ → Bool) (inside : Inside g M) (s�
         shrinks : (j : ℕ) → j ≤ k → (i : ℕ) → either K (both (upTo j) S′) i ≡ true → either K (both (upTo j) S) i ≡ true
         shrinks j l i e = in-either K (both (upTo j) S) i (⊎-elim inl (λ b. inr (in-both (upTo j) S i (both-in (upTo j) S′ i b .0) (before j l i e))) (either-in K (both (upTo j) S′) i e))
 
-        earlier : (c : Change) → List·Memᴰ c (s .records) → DropMeant g ok M inside (g .m) K c ⊎ AddMeant (suc k) S′ c
+        earlier : (c : Record) → List·Memᴰ c (s .records) → DropMeant g ok M inside (g .m) K c ⊎ AddMeant (suc k) S′ c
         earlier c m = ⊎-elim inl (λ (j, q, l, rj, no-walk). inr (j, q, omega arith, rj, λ x. no-walk (walk-over-more (shrinks j (omega arith)) x))) (h .meant c m)
 
     -- another row is not

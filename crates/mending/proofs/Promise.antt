@@ -17,7 +17,8 @@ use Rattle.graph.specs.Tree.{SpanningTree}
 use Rattle.mending.proofs.Gaps.{Filled, filled-after, filled-tree, filled-number}
 use Rattle.mending.proofs.Rings.{Kept, kept-after}
 use Rattle.mending.proofs.Visits.{visited-after, visited-good}
-use Rattle.mending.specs.Mending.{Change, Drawing, ringless, gapless, exchanged, unjoined, mended}
+use Rattle.mending.specs.Mending.{Drawing, ringless, gapless, exchanged, unjoined, mended}
+use Rattle.record.specs.declared.Record.{Record}
 use Rattle.mending.specs.Promise.{Meant, dropped, added, Mends, Mendings}
 use Rattle.rowset.proofs.Laws.{any-none, none-any}
 
@@ -31,7 +32,7 @@ module _ (g : Graph) (ok : Sound g) (w : ℕ → ℤ) (M : ℕ → Bool) (inside
   filled = filled-after g ok M inside (ringless g M) kept (g .m)
 
   -- each record of the first two passes says what was done
-  meant : (c : Change) → List·Memᴰ c (gapless g M .records) → Meant g w M c
+  meant : (c : Record) → List·Memᴰ c (gapless g M .records) → Meant g w M c
   meant c m = ⊎-elim (λ (j, q, _, t, off, ring). subst (Meant g w M) (sym q) (dropped j t off ring)) (λ (j, q, _, r, apart). subst (Meant g w M) (sym q) (added j r apart)) (filled .meant c m)
 
   -- where there is a spanning tree, no vertex is left unjoined

@@ -14,7 +14,8 @@ use Rattle.graph.specs.Graph.{Graph, Sound, Inside, Walk}
 use Rattle.graph.specs.Tree.{SpanningTree}
 use Rattle.mending.proofs.Drawing.{cond-cases, down-keeps, Applied, done-applied, done-length, done-all}
 use Rattle.mending.proofs.Forest.{Extended, extended-fewer, extend-tree}
-use Rattle.mending.specs.Mending.{Change, Drawing, drop, unmarkRow, markRow, apply, applyAll, done, down, joinsEnds, dropAt, old}
+use Rattle.mending.specs.Mending.{Drawing, drop, unmarkRow, markRow, apply, applyAll, done, down, joinsEnds, dropAt, old}
+use Rattle.record.specs.declared.Record.{Record}
 use Rattle.rowset.proofs.Laws.{clash, put-same, put-other, put-keeps, put-cases, takeOut-same, takeOut-other, takeOut-in, upTo-in, in-upTo, count-put, count-bound}
 use Rattle.rowset.proofs.Members.{put-all, both-in, in-both}
 use Rattle.rowset.specs.Sets.{upTo, both, put, takeOut, count}
@@ -43,7 +44,7 @@ module _ (k : ℕ) (S : ℕ → Bool) where
 
 module _ (g : Graph) (ok : Sound g) (M : ℕ → Bool) (inside : Inside g M) where
   -- a record of a drop among the positions 1 to k, while the marks are S
-  abbrev pub DropMeant : ℕ → (ℕ → Bool) → Change → Type 0
+  abbrev pub DropMeant : ℕ → (ℕ → Bool) → Record → Type 0
   DropMeant k S c = (j : ℕ) × (c ≡ drop (suc j)) × (suc j ≤ k) × (M (suc j) ≡ true) × (S (suc j) ≡ false) × Walk g (both (upTo j) S) (g .a (suc j)) (g .b (suc j))
 
   -- after the positions 1 to k
@@ -52,7 +53,7 @@ module _ (g : Graph) (ok : Sound g) (M : ℕ → Bool) (inside : Inside g M) whe
     pub ring : (i : ℕ) → M i ≡ true → s .marks i ≡ false → Walk g (both (upTo k) (s .marks)) (g .a i) (g .b i)
     pub number : (X : ℕ → Bool) → ((i : ℕ) → M i ≡ true → s .marks i ≡ false → X i ≡ false) → length (s .records) + count (g .m) X ≤ g .m
     pub applied : Applied M s
-    pub meant : (c : Change) → List·Memᴰ c (s .records) → DropMeant k (s .marks) c
+    pub meant : (c : Record) → List·Memᴰ c (s .records) → DropMeant k (s .marks) c
     pub extended : (B : ℕ → Bool) → SpanningTree g B → Extended g (both (upTo k) (s .marks))
 
   kept-old : Kept 0 (old M)
@@ -109,7 +110,7 @@ module _ (g : Graph) (ok : Sound g) (M : ℕ → Bool) (inside : Inside g M) whe
             let (m, ne) = takeOut-in S (suc k) i t in
             ⊎-elim (λ q. absurd (ne q)) (λ l. in-both (upTo k) S i (in-upTo k i lo (omega arith)) m) (eq-or-lt-of-le hi)
 
-        earlier : (c : Change) → List·Memᴰ c (s .records) → DropMeant (suc k) S′ c
+        earlier : (c : Record) → List·Memᴰ c (s .records) → DropMeant (suc k) S′ c
         earlier c m =
             let (j, e, l, t, off, p) = h .meant c m in
             (j, e, omega arith, t, off-still (suc j) off, walk-over-more (above-more j j S S′ (omega arith) (λ i li. less i (omega arith))) p)

@@ -22,7 +22,8 @@ use Rattle.graph.specs.Graph.{Graph, Sound}
 use Rattle.graph.specs.Least.{Good}
 use Rattle.graph.specs.Tree.{SpanningTree, onPath, exchange}
 use Rattle.mending.proofs.Drawing.{cond-cases, down-keeps, Applied, done-applied, done-length, done-all}
-use Rattle.mending.specs.Mending.{Change, Drawing, exchangeOf, unmarkRow, markRow, apply, done, down, heavierThan, rowOut, exchangeFor, exchangeAt}
+use Rattle.mending.specs.Mending.{Drawing, exchangeOf, unmarkRow, markRow, apply, done, down, heavierThan, rowOut, exchangeFor, exchangeAt}
+use Rattle.record.specs.declared.Record.{Record}
 use Rattle.mending.specs.Promise.{Meant, swapped}
 use Rattle.rowset.proofs.Integers.{integers, ltZ-true, ltZ-false, lt-ltZ, le-ltZ}
 use Rattle.rowset.proofs.Laws.{clash, refuted, put-same, put-keeps, put-cases, takeOut-other, takeOut-in, any-some, any-found, uppermost-some, uppermost-ext, false-xor, upTo-in, in-upTo}
@@ -159,7 +160,7 @@ module _ (g : Graph) (ok : Sound g) (w : ℕ → ℤ) (M : ℕ → Bool) (s₀ :
     pub good : GoodOver g w (reached k) (s .marks)
     pub number : length (s .records) ≤ length (s₀ .records) + k
     pub applied : Applied M s
-    pub meant : (c : Change) → List·Memᴰ c (s .records) → Meant g w M c
+    pub meant : (c : Record) → List·Memᴰ c (s .records) → Meant g w M c
 
   module _ (k : ℕ) (s : Drawing) (h : Visited k s) where
     -- a row that no row goes out for
@@ -197,7 +198,7 @@ module _ (g : Graph) (ok : Sound g) (w : ℕ → ℤ) (M : ℕ → Bool) (s₀ :
         go r off zero q = stays (λ _ _. rowOut-none g ok w (s .marks) (h .tree) (suc k) q)
         go r off (suc e) q = swaps r off e q
 
-  module _ (tree₀ : SpanningTree g (s₀ .marks)) (applied₀ : Applied M s₀) (meant₀ : (c : Change) → List·Memᴰ c (s₀ .records) → Meant g w M c) where
+  module _ (tree₀ : SpanningTree g (s₀ .marks)) (applied₀ : Applied M s₀) (meant₀ : (c : Record) → List·Memᴰ c (s₀ .records) → Meant g w M c) where
     visited-first : Visited 0 s₀
     visited-first =
         record {

@@ -7,22 +7,18 @@ use mathlib.Core.List.{List, [], _∷_, _++_}
 use mathlib.Core.Option.{Option, none, some}
 use Rattle.graph.specs.Graph.{Graph, joined}
 use Rattle.graph.specs.Tree.{onPath}
+use Rattle.record.specs.declared.Record.{Record}
 use Rattle.rowset.specs.Searches.{greaterThan, largest}
 use Rattle.rowset.specs.Sets.{upTo, both, put, takeOut, any, uppermost}
 
--- a record: the kind (1 drop, 2 addition, 3 exchange), the row that goes out and the row that comes in, 0 where there is none
-pub record Change : Type 0 where
-  pub kind : ℕ
-  pub out : ℕ
-  pub into : ℕ
-
-abbrev pub drop : ℕ → Change
+-- A record has the kind (1 drop, 2 addition, 3 exchange), the row that goes out and the row that comes in, 0 where there is none.
+abbrev pub drop : ℕ → Record
 drop i = record { kind = 1; out = i; into = 0 }
 
-abbrev pub addition : ℕ → Change
+abbrev pub addition : ℕ → Record
 addition i = record { kind = 2; out = 0; into = i }
 
-abbrev pub exchangeOf : ℕ → ℕ → Change
+abbrev pub exchangeOf : ℕ → ℕ → Record
 exchangeOf e f = record { kind = 3; out = e; into = f }
 
 -- the marks without row i, and with row i; position 0 is no row
@@ -35,21 +31,21 @@ markRow S zero = S
 markRow S (suc j) = put S (suc j)
 
 -- a record applied to a set of marks: the row that goes out loses its mark, and the row that comes in gets one
-unfoldable pub apply : (ℕ → Bool) → Change → ℕ → Bool
+unfoldable pub apply : (ℕ → Bool) → Record → ℕ → Bool
 apply S c = markRow (unmarkRow S (c .out)) (c .into)
 
 -- records applied in order
-unfoldable pub applyAll : (ℕ → Bool) → List Change → ℕ → Bool
+unfoldable pub applyAll : (ℕ → Bool) → List Record → ℕ → Bool
 applyAll S [] = S
 applyAll S (c ∷ l) = applyAll (apply S c) l
 
 -- the drawing while it is mended: the rows marked by now, and the records of what was done
 pub record Drawing : Type 0 where
   pub marks : ℕ → Bool
-  pub records : List Change
+  pub records : List Record
 
 -- the drawing with one thing more done, and recorded
-unfoldable pub done : Drawing → Change → Drawing
+unfoldable pub done : Drawing → Record → Drawing
 done s c = record { marks = apply (s .marks) c; records = s .records ++ (c ∷ []) }
 
 -- what is done to the drawing at the positions 1 to k, one after the other

@@ -12,11 +12,12 @@ use mathlib.Core.Path.{_≡_}
 use Rattle.graph.specs.Graph.{Graph, Sound, Inside, Walk}
 use Rattle.graph.specs.Least.{Least, Good}
 use Rattle.graph.specs.Tree.{SpanningTree, onPath}
-use Rattle.mending.specs.Mending.{Change, Drawing, drop, addition, exchangeOf, applyAll, ringless, gapless, mended}
+use Rattle.mending.specs.Mending.{Drawing, drop, addition, exchangeOf, applyAll, ringless, gapless, mended}
+use Rattle.record.specs.declared.Record.{Record}
 use Rattle.rowset.specs.Sets.{upTo, both, either}
 
 -- what a record says of the marks M
-pub data Meant (g : Graph) (w : ℕ → ℤ) (M : ℕ → Bool) : Change → Type 0 where
+pub data Meant (g : Graph) (w : ℕ → ℤ) (M : ℕ → Bool) : Record → Type 0 where
   -- a dropped row was marked, was not kept, and closed a ring: a walk over kept marks above it joins its ends
   dropped : (j : ℕ) → M (suc j) ≡ true → ringless g M .marks (suc j) ≡ false → Walk g (both (upTo j) (ringless g M .marks)) (g .a (suc j)) (g .b (suc j)) → Meant g w M (drop (suc j))
   -- an added row is a row of the graph and joined two groups: no walk over the kept marks and the rows added above it joins its ends
@@ -34,7 +35,7 @@ pub record Mends (g : Graph) (w : ℕ → ℤ) (M : ℕ → Bool) (s : Drawing) 
   -- they are at most twice as many as the positions
   pub few : length (s .records) ≤ 2 * g .m
   -- and each of them says what was done
-  pub meant : (c : Change) → List·Memᴰ c (s .records) → Meant g w M c
+  pub meant : (c : Record) → List·Memᴰ c (s .records) → Meant g w M c
 
 -- of the marks M
 pub record MendingMeans (g : Graph) (w : ℕ → ℤ) (M : ℕ → Bool) : Type 0 where

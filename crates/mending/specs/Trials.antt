@@ -6,14 +6,15 @@ use mathlib.Core.List.{List, [], _∷_}
 use mathlib.Core.Option.{Option, none, some}
 use mathlib.Core.Path.{_≡_}
 use Rattle.graph.specs.Yard.{graphFrom, pricesFrom, yard, yardPrices, setOf, listed}
-use Rattle.mending.specs.Mending.{Change, Drawing, drop, addition, exchangeOf, mended}
+use Rattle.mending.specs.Mending.{Drawing, drop, addition, exchangeOf, mended}
+use Rattle.record.specs.declared.Record.{Record}
 
 -- the records, and the rows that are marked then
-unfoldable pub shown : ℕ → Option Drawing → Option (List Change × List ℕ)
+unfoldable pub shown : ℕ → Option Drawing → Option (List Record × List ℕ)
 shown m none = none
 shown m (some s) = some (s .records, listed m (s .marks))
 
-abbrev pub mends : List ℕ → Option (List Change × List ℕ)
+abbrev pub mends : List ℕ → Option (List Record × List ℕ)
 mends rows = shown 5 (mended yard yardPrices (setOf rows))
 
 abbrev pub TrialsHold : Type 0

@@ -1,14 +1,13 @@
 -- Laws of the mended claim and of the list of records: their lengths, their bytes, and the records that are read back.
 -- Assumes nothing.
 use Prim.Native.Nat.{ℕ, zero, suc, _+_, _*_, _<_}
-use lib.ListN.{length, getD}
+use lib.ListN.{length, getD, take, drop}
 use mathlib.Core.Bool.{Bool, cond}
 use mathlib.Core.List.{List, [], _∷_, _++_}
 use mathlib.Core.Path.{_≡_, refl, _∙_, ap}
 use native.Mathlib.Omega.{arith}
-use Rattle.mending.specs.Mending.{Change}
-use Rattle.drawings.specs.Means.{recordsIn}
-use Rattle.drawings.specs.Mend.{numbersOf, redrawnFrom}
+use Rattle.record.specs.declared.Record.{Record}
+use Rattle.drawings.specs.Mend.{redrawnFrom}
 
 -- the byte of row i
 abbrev pub byteOf : (U S : ℕ → Bool) → ℕ → ℕ → ℕ
@@ -27,13 +26,11 @@ getD-redrawn U S i (x ∷ l) (suc k) h =
     let e : suc i + k + 1 ≡ i + suc k + 1 = omega arith in
     getD-redrawn U S (suc i) l k (omega arith) ∙ ap (λ (j : ℕ). byteOf U S j (getD l k 0)) e
 
-pub length-numbers : (rs : List Change) → length (numbersOf rs) ≡ 3 * length rs
-unfolding numbersOf
-length-numbers [] = refl
-length-numbers (r ∷ rs) = omega (arith, length-numbers rs)
-
--- the records written are read back
-pub records-back : (rs : List Change) (l : List ℕ) → recordsIn (length rs) (numbersOf rs ++ l) ≡ rs
-unfolding recordsIn numbersOf
+-- the records written are the first of the list, and those past the last of them are as they were
+pub records-back : (rs l : List Record) → take (length rs) (rs ++ l) ≡ rs
 records-back [] l = refl
-records-back (r ∷ rs) l = ap (λ (t : List Change). r ∷ t) (records-back rs l)
+records-back (r ∷ rs) l = ap (λ (t : List Record). r ∷ t) (records-back rs l)
+
+pub records-rest : (rs l : List Record) → drop (length rs) (rs ++ l) ≡ l
+records-rest [] l = refl
+records-rest (r ∷ rs) l = records-rest rs l

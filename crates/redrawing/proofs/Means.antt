@@ -4,8 +4,8 @@ use Prim.Native.Nat.{ℕ, zero, suc, _+_, _*_, _≤_, _<_}
 use borrow.Author.Tests.{le-ltb, eq-eqb, ne-eqb}
 use lib.Dec.{eqb}
 use lib.IntN.{ℤ}
-use lib.ListN.{length, getD, set, drop, length-set}
-use lib.Seq.{ext-getD, drop-at, getD-set-same, getD-set-other}
+use lib.ListN.{length, getD, set, take, drop, length-set}
+use lib.Seq.{ext-getD, getD-set-same, getD-set-other}
 use mathlib.Core.Bool.{Bool, true, false, cond, _&&_}
 use mathlib.Core.List.{List, [], _∷_, _++_, List·Memᴰ, List·Memᴰ·head, List·Memᴰ·tail}
 use mathlib.Core.Logic.{_⊎_, inl, inr, _≢_}
@@ -23,7 +23,8 @@ use Rattle.graph.specs.Least.{Least}
 use Rattle.graph.specs.Tree.{SpanningTree}
 use Rattle.refusal.specs.declared.Refusal.{Refusal}
 use Rattle.mending.proofs.Promise.{spanned, mends}
-use Rattle.mending.specs.Mending.{Change, unmarkRow, markRow, apply, applyAll, exchanged}
+use Rattle.mending.specs.Mending.{unmarkRow, markRow, apply, applyAll, exchanged}
+use Rattle.record.specs.declared.Record.{Record}
 use Rattle.mending.specs.Promise.{Mends, Meant, dropped, added, swapped}
 use Rattle.rowset.proofs.Laws.{clash, uppermost-zero, put-same, put-other, takeOut-same, takeOut-other}
 use Rattle.rowset.proofs.Members.{both-in}
@@ -35,9 +36,9 @@ use Rattle.star.specs.Accepted.{Row, AcceptedTable}
 use Rattle.star.specs.Call.{Call, rowsOf, used, graphOf, weightOf, marked, claimed, withClaim}
 use Rattle.star.specs.Cst.{passed, cst}
 use Rattle.star.specs.Refusals.{Accepted, cause, isNone, noTree, tableCauses, wrongByte, badClaim, orElse, refusal}
-use Rattle.redrawing.proofs.Laws.{byteOf, length-redrawn, getD-redrawn, length-numbers, records-back}
-use Rattle.drawings.specs.Means.{recordsIn, byteWritten, appliedTo, Mended, MendingMeans}
-use Rattle.drawings.specs.Mend.{recordCount, shortList, mendCauses, drawn, numbersOf, listed, redrawnFrom, redrawn, unmended, mendedBy, MendAnswer, answerOr, mend, marksOr, mendMarks, listOr, mendList}
+use Rattle.redrawing.proofs.Laws.{byteOf, length-redrawn, getD-redrawn, records-back, records-rest}
+use Rattle.drawings.specs.Means.{byteWritten, appliedTo, Mended, MendingMeans}
+use Rattle.drawings.specs.Mend.{shortList, mendCauses, drawn, listed, redrawnFrom, redrawn, unmended, mendedBy, MendAnswer, answerOr, mend, marksOr, mendMarks, listOr, mendList}
 
 -- a byte of 0 or 1 is told by whether it is 1
 zero-one : (x : ℕ) → x ≤ 1 → cond (eqb x 1) 1 0 ≡ x
@@ -45,7 +46,7 @@ zero-one zero h = refl
 zero-one (suc zero) h = refl
 zero-one (suc (suc x)) h = absurd (omega arith)
 
-module _ (c : Call) (a : Accepted c) (small : ZeroOrOne c) (l : List ℕ) (room : 2 * rowsOf c ≤ recordCount l) where
+module _ (c : Call) (a : Accepted c) (small : ZeroOrOne c) (l : List Record) (room : 2 * rowsOf c ≤ length l) where
   t : Taken c
   t = taken c a
 
@@ -68,12 +69,12 @@ module _ (c : Call) (a : Accepted c) (small : ZeroOrOne c) (l : List ℕ) (room 
   single none = refl
   single (some r) = refl
 
-  last-cause : refusal (mendCauses c l) ≡ noTree c
+  last-cause : refusal (mendCauses c (length l)) ≡ noTree c
   unfolding mendCauses shortList
   last-cause =
-      refusal-append (tableCauses c) (badClaim c ∷ shortList c l ∷ noTree c ∷ []) a
-      ∙ none-cons (badClaim c) (shortList c l ∷ noTree c ∷ []) clean
-      ∙ none-cons (shortList c l) (noTree c ∷ []) (none-cause _ 16 0 (le-ltb (recordCount l) (2 * rowsOf c) room))
+      refusal-append (tableCauses c) (badClaim c ∷ shortList c (length l) ∷ noTree c ∷ []) a
+      ∙ none-cons (badClaim c) (shortList c (length l) ∷ noTree c ∷ []) clean
+      ∙ none-cons (shortList c (length l)) (noTree c ∷ []) (none-cause _ 16 0 (le-ltb (length l) (2 * rowsOf c) room))
       ∙ single (noTree c)
 
   -- the two answers that are left
@@ -93,11 +94,11 @@ module _ (c : Call) (a : Accepted c) (small : ZeroOrOne c) (l : List ℕ) (room 
       go none e = rw e
       go (some f) e = absurd (apart (tree-connected (built-least g ok (weightOf c) f e .tree)))
 
-  answer-connected : Connected g → mend c l ≡ mendedBy (length (drawn c .records))
+  answer-connected : Connected g → mend c (length l) ≡ mendedBy (length (drawn c .records))
   unfolding mend answerOr
   answer-connected joins = rw (last-cause, tree-none joins)
 
-  answer-unconnected : (Connected g → ⊥) → mend c l ≡ unmended (record { number = 11; place = 0 })
+  answer-unconnected : (Connected g → ⊥) → mend c (length l) ≡ unmended (record { number = 11; place = 0 })
   unfolding mend answerOr
   answer-unconnected apart = rw (last-cause, tree-some apart)
 
@@ -111,10 +112,10 @@ module _ (c : Call) (a : Accepted c) (small : ZeroOrOne c) (l : List ℕ) (room 
       go none e = no-case (not-connected g ok (weightOf c) e)
       go (some f) e = yes-case (tree-connected (built-least g ok (weightOf c) f e .tree))
 
-  mended-connected : (k : ℕ) → mend c l ≡ mendedBy k → Connected g
+  mended-connected : (k : ℕ) → mend c (length l) ≡ mendedBy k → Connected g
   mended-connected k e = decided (λ joins. joins) (λ apart. absurd (told-apart (answer-unconnected apart) e))
 
-  kept-marks : noTree c ≡ some (record { number = 11; place = 0 }) → mendMarks c l ≡ c .mark
+  kept-marks : noTree c ≡ some (record { number = 11; place = 0 }) → mendMarks c (length l) ≡ c .mark
   unfolding mendMarks marksOr
   kept-marks e = rw (last-cause, e)
 
@@ -133,11 +134,11 @@ module _ (c : Call) (a : Accepted c) (small : ZeroOrOne c) (l : List ℕ) (room 
     unfolding graphOf
     few-rows k n = omega (arith, n, all .few)
 
-    marks-are : mendMarks c l ≡ redrawn (used c) (drawn c .marks) (c .mark)
+    marks-are : mendMarks c (length l) ≡ redrawn (used c) (drawn c .marks) (c .mark)
     unfolding mendMarks marksOr
     marks-are = rw (last-cause, tree-none joins)
 
-    list-is : mendList c l ≡ numbersOf (drawn c .records) ++ drop (3 * length (drawn c .records)) l
+    list-is : mendList c l ≡ drawn c .records ++ drop (length (drawn c .records)) l
     unfolding mendList listOr listed
     list-is = rw (last-cause, tree-none joins)
 
@@ -235,7 +236,7 @@ module _ (c : Call) (a : Accepted c) (small : ZeroOrOne c) (l : List ℕ) (room 
     in-byte p (suc j) (inr row) = set-byte p (put p (suc j)) j true row (put-same p (suc j)) (put-other p (suc j))
 
     -- the records applied to the bytes of a claim are the records applied to its rows
-    applied-bytes : (rs : List Change) (p : ℕ → Bool) → ((r : Change) → List·Memᴰ r rs → RowOrNone (r .out) × RowOrNone (r .into)) → appliedTo (at p) rs ≡ at (applyAll p rs)
+    applied-bytes : (rs : List Record) (p : ℕ → Bool) → ((r : Record) → List·Memᴰ r rs → RowOrNone (r .out) × RowOrNone (r .into)) → appliedTo (at p) rs ≡ at (applyAll p rs)
     unfolding appliedTo applyAll apply
     applied-bytes [] p h = refl
     applied-bytes (r ∷ rs) p h =
@@ -245,7 +246,7 @@ module _ (c : Call) (a : Accepted c) (small : ZeroOrOne c) (l : List ℕ) (room 
         ∙ applied-bytes rs (apply p r) (λ q m. h q (List·Memᴰ·tail m))
 
     -- each record's rows are rows in use
-    record-rows : (r : Change) → Meant g (weightOf c) (claimed c) r → RowOrNone (r .out) × RowOrNone (r .into)
+    record-rows : (r : Record) → Meant g (weightOf c) (claimed c) r → RowOrNone (r .out) × RowOrNone (r .into)
     unfolding graphOf
     record-rows r (dropped j m off w) = (inr (used-row c (suc j) (inside (suc j) m)), inl refl)
     record-rows r (added j row w) = (inl refl, inr (used-row c (suc j) row))
@@ -268,24 +269,24 @@ module _ (c : Call) (a : Accepted c) (small : ZeroOrOne c) (l : List ℕ) (room 
             let n : 0 + k + 1 ≡ suc k = omega arith in
             getD-redrawn (used c) (claimed c) 0 (c .mark) k h ∙ ap (λ (i : ℕ). byteOf (used c) (claimed c) i (getD (c .mark) k 0)) n ∙ same k (used c (suc k)) refl
 
-    back : (k : ℕ) → mend c l ≡ mendedBy k → recordsIn k (mendList c l) ≡ drawn c .records
+    back : (k : ℕ) → mend c (length l) ≡ mendedBy k → take k (mendList c l) ≡ drawn c .records
     back k e =
         let q = answer-connected joins in
         let n : length (drawn c .records) ≡ k = cc in
-        rw (← n, list-is) (records-back (drawn c .records) (drop (3 * length (drawn c .records)) l))
+        rw (← n, list-is) (records-back (drawn c .records) (drop (length (drawn c .records)) l))
 
-    applied : (k : ℕ) → mend c l ≡ mendedBy k → appliedTo (c .mark) (recordsIn k (mendList c l)) ≡ mendMarks c l
+    applied : (k : ℕ) → mend c (length l) ≡ mendedBy k → appliedTo (c .mark) (take k (mendList c l)) ≡ mendMarks c (length l)
     applied k e =
         rw (back k e, marks-are)
         (ap (λ (b : List ℕ). appliedTo b (drawn c .records)) (sym old-bytes)
         ∙ applied-bytes (drawn c .records) (claimed c) (λ r m. record-rows r (all .meant r m))
         ∙ ap at (all .applied))
 
-    rest : (k : ℕ) → mend c l ≡ mendedBy k → drop (3 * k) (mendList c l) ≡ drop (3 * k) l
+    rest : (k : ℕ) → mend c (length l) ≡ mendedBy k → drop k (mendList c l) ≡ drop k l
     rest k e =
         let q = answer-connected joins in
         let n : length (drawn c .records) ≡ k = cc in
-        rw (← n, list-is) (drop-at (numbersOf (drawn c .records)) (drop (3 * length (drawn c .records)) l) (3 * length (drawn c .records)) (length-numbers (drawn c .records)))
+        rw (← n, list-is) (records-rest (drawn c .records) (drop (length (drawn c .records)) l))
 
   whole : Mended c l
   whole =
@@ -300,10 +301,10 @@ module _ (c : Call) (a : Accepted c) (small : ZeroOrOne c) (l : List ℕ) (room 
         meant = λ k e r m. all (mended-connected k e) .meant r (subst (List·Memᴰ r) (back (mended-connected k e) k e) m);
       }
     where
-      kept-both : noTree c ≡ some (record { number = 11; place = 0 }) → (mendMarks c l ≡ c .mark) × (mendList c l ≡ l)
+      kept-both : noTree c ≡ some (record { number = 11; place = 0 }) → (mendMarks c (length l) ≡ c .mark) × (mendList c l ≡ l)
       kept-both e = (kept-marks e, kept-list e)
 
-      few-records : (k : ℕ) → mend c l ≡ mendedBy k → k ≤ 2 * rowsOf c
+      few-records : (k : ℕ) → mend c (length l) ≡ mendedBy k → k ≤ 2 * rowsOf c
       few-records k e =
           let joins = mended-connected k e in
           let q = answer-connected joins in
