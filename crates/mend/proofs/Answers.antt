@@ -1,10 +1,9 @@
 -- The mender's answer, the claim and the list in each of its three cases: the call is refused, there is no tree, or the claim is mended.
 -- Assumes nothing.
-use Prim.Native.Nat.{ℕ, _+_, _*_, _/_, _≤_}
+use Prim.Native.Nat.{ℕ, _+_, _*_, _≤_}
 use borrow.Author.Tests.{ltb-false}
 use lib.Dec.{ltb}
-use lib.ListN.{length, take, drop, length-append}
-use lib.Seq.{take-at}
+use lib.ListN.{length, drop, length-append}
 use mathlib.Core.Bool.{Bool, true, false}
 use mathlib.Core.List.{List, [], _∷_, _++_}
 use mathlib.Core.Option.{Option, none, some}
@@ -16,7 +15,7 @@ use Rattle.cst.proofs.Paths.{refused-walk, done-walk, done-loads}
 use Rattle.cst.specs.steps.Paths.{Walked}
 use Rattle.demand3.proofs.Demand3.{demand3}
 use Rattle.demand3.specs.Demand3.{ClaimTree}
-use Rattle.drawings.specs.Mend.{recordCount, fewRecords, shortList, claimCauses, mendCauses, drawn, numbersOf, listed, redrawn, unmended, mendedBy, answerOr, mend, marksOr, mendMarks, listOr, mendList}
+use Rattle.drawings.specs.Mend.{fewRecords, shortList, claimCauses, mendCauses, drawn, redrawn, unmended, mendedBy, answerOr, mend, marksOr, mendMarks, listOr, mendList}
 use Rattle.exchange.specs.Turned.{PathsFrom}
 use Rattle.graph.proofs.Builder.{tree-connected, built-least, not-connected}
 use Rattle.graph.specs.Builder.{Fragment, tree}
@@ -26,6 +25,8 @@ use Rattle.matrix.proofs.Laws.{length-matrixWords}
 use Rattle.mending.proofs.Promise.{joined-tree, spanned, mends}
 use Rattle.mending.specs.Mending.{Drawing, gapless, exchanged}
 use Rattle.path.proofs.Paths as P
+use Rattle.record.specs.declared.Record.{Record}
+use Rattle.recordlist.specs.Stored.{storedTo}
 use Rattle.refusal.specs.declared.Refusal.{Refusal}
 use Rattle.rowset.proofs.Laws.{both-subset}
 use Rattle.rowset.proofs.Members.{both-in}
@@ -42,9 +43,9 @@ use Rattle.star.specs.MatrixPath.{pathColumn, matrixPath, matrixOr, matrixAfter
 use Rattle.star.specs.Refusals.{Accepted, maxVertices, cause, isNone, noTree, tableCauses, badClaim, badCount, unjoined, cstCauses, orElse, refusal}
 use Rattle.table.specs.Loads.{loadedRow}
 use Rattle.mend.proofs.Joining.{Second, passes-shown}
-use Rattle.mend.proofs.Listed.{Shows, length-numbers}
+use Rattle.mend.proofs.Listed.{Shows, stored-all}
 use Rattle.mend.proofs.Third.{Third, third-after}
-use Rattle.mend.specs.steps.Machine.{State, swapAt, visits, twoPasses}
+use Rattle.mend.specs.steps.Machine.{State, numbered, swapAt, visits, twoPasses}
 
 -- the causes in order
 refusal-thrice : (xs : List (Option Refusal)) (a b d : Option Refusal) → refusal (xs ++ (a ∷ b ∷ d ∷ [])) ≡ orElse (orElse (refusal (xs ++ (a ∷ []))) b) d
@@ -70,18 +71,18 @@ orElse-none (some r) y e = absurd (apart e)
     apart : _≡_ {A = Option Refusal} (some r) none → ⊥
     apart q = let z : _≡_ {A = ℕ} 0 1 = cc in omega arith
 
-module _ (c : Call) (l : List ℕ) where
-  pub causes-in-order : refusal (mendCauses c l) ≡ orElse (orElse (refusal (claimCauses c)) (fewRecords (c .m) (length l / 3))) (noTree c)
-  unfolding mendCauses claimCauses shortList recordCount
-  causes-in-order = refusal-thrice (tableCauses c) (badClaim c) (shortList c l) (noTree c)
+module _ (c : Call) (records : ℕ) where
+  pub causes-in-order : refusal (mendCauses c records) ≡ orElse (orElse (refusal (claimCauses c)) (fewRecords (c .m) records)) (noTree c)
+  unfolding mendCauses claimCauses shortList
+  causes-in-order = refusal-thrice (tableCauses c) (badClaim c) (shortList c records) (noTree c)
 
   -- a call that the checks refuse
-  pub call-refused : (r : Refusal) → orElse (refusal (claimCauses c)) (fewRecords (c .m) (length l / 3)) ≡ some r → (unmended r ≡ mend c l) × (c .mark ≡ mendMarks c l) × (l ≡ mendList c l)
+  pub call-refused : (r : Refusal) → orElse (refusal (claimCauses c)) (fewRecords (c .m) records) ≡ some r → (unmended r ≡ mend c records) × (c .mark ≡ mendMarks c records) × ((l : List Record) → length l ≡ records → l ≡ mendList c l)
   unfolding mend mendMarks mendList answerOr marksOr listOr orElse
-  call-refused r h = (rw (causes-in-order, h), rw (causes-in-order, h), rw (causes-in-order, h))
+  call-refused r h = (rw (causes-in-order, h), rw (causes-in-order, h), λ l e. rw (e, causes-in-order, h))
 
   -- a call that they accept
-  module _ (checked : orElse (refusal (claimCauses c)) (fewRecords (c .m) (length l / 3)) ≡ none) where
+  module _ (checked : orElse (refusal (claimCauses c)) (fewRecords (c .m) records) ≡ none) where
     accepted : Accepted c
     unfolding claimCauses
     accepted = refusal-before (tableCauses c) (badClaim c ∷ []) (orElse-none _ _ checked .0)
@@ -93,10 +94,10 @@ module _ (c : Call) (l : List ℕ) where
     few-rows = t .few-rows
 
     -- the list has room
-    pub long-list : 2 * c .m ≤ length l / 3
-    long-list = ltb-false (length l / 3) (2 * c .m) (cause-none _ 16 0 (orElse-none _ _ checked .1))
+    pub long-list : 2 * c .m ≤ records
+    long-list = ltb-false records (2 * c .m) (cause-none _ 16 0 (orElse-none _ _ checked .1))
 
-    last-cause : refusal (mendCauses c l) ≡ noTree c
+    last-cause : refusal (mendCauses c records) ≡ noTree c
     unfolding orElse
     last-cause = rw (causes-in-order, checked)
 
@@ -180,9 +181,9 @@ module _ (c : Call) (l : List ℕ) where
                 go (some f) q = absurd (never (f .chosen) (built-least g ok (weightOf c) f q .tree))
 
             -- where MatrixPath refuses the plan there is no tree
-            pub no-tree : (unmended (record { number = 11; place = 0 }) ≡ mend c l) × (c .mark ≡ mendMarks c l) × (l ≡ mendList c l)
+            pub no-tree : (unmended (record { number = 11; place = 0 }) ≡ mend c records) × (c .mark ≡ mendMarks c records) × ((l : List Record) → length l ≡ records → l ≡ mendList c l)
             unfolding mend mendMarks mendList answerOr marksOr listOr
-            no-tree = (rw (last-cause, eleven), rw (last-cause, eleven), rw (last-cause, eleven))
+            no-tree = (rw (last-cause, eleven), rw (last-cause, eleven), λ l z. rw (z, last-cause, eleven))
 
           -- where it is done the plan is a tree, and its matrix has the paths
           module _ (own : List ℕ) (e : none ≡ matrixPath plan 1 R) (q : own ≡ matrixAfter plan 1 R) where
@@ -235,10 +236,10 @@ module _ (c : Call) (l : List ℕ) where
               unfolding drawn graphOf
               few = omega (arith, third .shows .count, mends g ok (weightOf c) (claimed c) inside (spanned g ok (weightOf c) (claimed c) inside marks spans) .few)
 
-              pub mended : (mendedBy (s .count) ≡ mend c l) × (redrawn U (s .marks) (c .mark) ≡ mendMarks c l) × (take (3 * s .count) (s .list) ++ drop (3 * s .count) l ≡ mendList c l)
-              unfolding mend mendMarks mendList answerOr marksOr listOr listed
+              pub mended : (mendedBy (s .count) ≡ mend c records) × (redrawn U (s .marks) (c .mark) ≡ mendMarks c records) × ((l : List Record) → length l ≡ records → storedTo (s .count) (s .list) l ≡ mendList c l)
+              unfolding mend mendMarks mendList answerOr marksOr listOr numbered
               mended = (
                 rw (last-cause, twelve) (ap mendedBy (third .shows .count)),
                 rw (last-cause, twelve) (ap₂ (λ (p r : ℕ → Bool). redrawn p r (c .mark)) are-used (third .shows .marks)),
-                rw (last-cause, twelve, third .shows .list, third .shows .count) (ap (λ (a : List ℕ). a ++ drop (3 * length (drawn c .records)) l) (take-at (numbersOf (drawn c .records)) (drop (3 * length (drawn c .records)) l₀) (3 * length (drawn c .records)) (length-numbers (drawn c .records)))),
+                λ l z. rw (z, last-cause, twelve, third .shows .list, third .shows .count) (stored-all (drawn c .records) (drop (3 * length (drawn c .records)) l₀) l (omega (arith, z, long-list, few, third .shows .count)) (omega (arith, few-rows, few, third .shows .count))),
               )

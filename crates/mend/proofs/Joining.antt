@@ -8,7 +8,6 @@ use mathlib.Core.Bool.{Bool, true, false, not, cond, _&&_}
 use mathlib.Core.List.{List}
 use mathlib.Core.Path.{_≡_, refl, sym, _∙_, ap, subst, fun-ext}
 use native.Mathlib.Omega.{arith}
-use Rattle.drawings.specs.Mend.{numbersOf, listed}
 use Rattle.graph.proofs.Reach.{same-truth}
 use Rattle.graph.specs.Graph.{Graph, Sound, Inside, joined}
 use Rattle.graph.specs.Meaning.{Vertex}
@@ -27,7 +26,7 @@ use Rattle.star.proofs.Claims.{inRow-byte}
 use Rattle.mend.proofs.Groups.{length-renamed, getD-renamed, length-labels, getD-labels, joined-same, joined-two}
 use Rattle.mend.proofs.Listed.{Shows, shows-noted, shows-own}
 use Rattle.mend.proofs.Steps.{drop-unmarked, drop-joins, drop-drops, add-unused, add-joined, add-adds}
-use Rattle.mend.specs.steps.Machine.{State, noted, renamed, allRenamed, labelsFrom, apart, joinedLabels, dropAt, addAt, visits, twoPasses}
+use Rattle.mend.specs.steps.Machine.{State, numbersOf, numbered, noted, renamed, allRenamed, labelsFrom, apart, joinedLabels, dropAt, addAt, visits, twoPasses}
 
 eqb-swap : (x y : ℕ) → eqb x y ≡ eqb y x
 eqb-swap x y = same-truth _ _ (λ t. eq-eqb y x (sym (eqb-true x y t))) (λ t. eq-eqb x y (sym (eqb-true y x t)))
@@ -224,7 +223,7 @@ module _ (n m : ℕ) (left right : List ℕ) (U : ℕ → Bool) where
           go i false e = refl
 
       first-start : First 0 start (old M)
-      unfolding old listed numbersOf
+      unfolding old numbered numbersOf
       first-start =
           record {
             shows = record { marks = refl; count = refl; list = refl };

@@ -1,16 +1,19 @@
--- The list of records: one record stored after the others is one record more of the list (listed-more), and the machine's state shows a drawing (Shows).
+-- The list of records: one record stored after the others is one record more of the list (numbered-more), and the machine's state shows a drawing (Shows).
 -- Assumes nothing.
-use Prim.Native.Nat.{ℕ, zero, suc, _+_, _*_, _≤_}
-use lib.ListN.{length, set, drop, length-append, length-drop}
-use lib.Seq.{drop-drop}
+use Prim.Native.Nat.{ℕ, zero, suc, _+_, _*_, _≤_, _<_}
+use borrow.Author.Tests.{lt-ltb}
+use lib.ListN.{length, getD, set, drop, length-append, length-drop}
+use lib.Seq.{drop-drop, take-length, paste, paste-zero, paste-suc}
 use mathlib.Core.Bool.{Bool}
 use mathlib.Core.List.{List, [], _∷_, _++_, append-assoc}
 use mathlib.Core.Path.{_≡_, refl, sym, _∙_, ap, ap₂}
+use native.Mathlib.Nat.{zero-add}
 use native.Mathlib.Omega.{arith}
-use Rattle.drawings.specs.Mend.{numbersOf, listed}
+use Rattle.drawings.specs.Mend.{listed}
 use Rattle.mending.specs.Mending.{Drawing, apply, done}
 use Rattle.record.specs.declared.Record.{Record}
-use Rattle.mend.specs.steps.Machine.{State, stored, noted}
+use Rattle.recordlist.specs.Stored.{recordAt, storedTo}
+use Rattle.mend.specs.steps.Machine.{State, numbersOf, numbered, stored, noted}
 
 -- a record stored past the first one
 stored-past : (x y z : ℕ) (l : List ℕ) (n a b c : ℕ) → stored (x ∷ y ∷ z ∷ l) (suc n) a b c ≡ x ∷ y ∷ z ∷ stored l n a b c
@@ -48,9 +51,9 @@ length-numbers [] = refl
 length-numbers (r ∷ rs) = omega (arith, length-numbers rs)
 
 -- one record more
-pub listed-more : (rs : List Record) (l : List ℕ) (r : Record) → 3 * length rs + 3 ≤ length l → stored (listed rs l) (length rs) (r .kind) (r .out) (r .into) ≡ listed (rs ++ (r ∷ [])) l
-unfolding listed
-listed-more rs l r h =
+pub numbered-more : (rs : List Record) (l : List ℕ) (r : Record) → 3 * length rs + 3 ≤ length l → stored (numbered rs l) (length rs) (r .kind) (r .out) (r .into) ≡ numbered (rs ++ (r ∷ [])) l
+unfolding numbered
+numbered-more rs l r h =
     let three : 3 ≤ length (drop (3 * length rs) l) = omega (arith, length-drop (3 * length rs) l) in
     let end : 3 * length rs + 3 ≡ 3 * length (rs ++ (r ∷ [])) = omega (arith, length-append rs (r ∷ [])) in
     numbers-stored rs (drop (3 * length rs) l) (r .kind) (r .out) (r .into)
@@ -62,7 +65,7 @@ listed-more rs l r h =
 pub record Shows (l : List ℕ) (s : State) (d : Drawing) : Type 0 where
   pub marks : s .marks ≡ d .marks
   pub count : s .count ≡ length (d .records)
-  pub list : s .list ≡ listed (d .records) l
+  pub list : s .list ≡ numbered (d .records) l
 
 pub shows-noted : {l : List ℕ} {s : State} {d : Drawing} → Shows l s d → (r : Record) (marks : ℕ → Bool) (own : List ℕ) → marks ≡ apply (d .marks) r → 3 * length (d .records) + 3 ≤ length l → Shows l (noted s marks own (r .kind) (r .out) (r .into)) (done d r)
 unfolding noted done
@@ -70,9 +73,42 @@ shows-noted {l} {s} {d} h r marks own e room =
     record {
       marks = e;
       count = omega (arith, h .count, length-append (d .records) (r ∷ []));
-      list = ap₂ (λ (t : List ℕ) (k : ℕ). stored t k (r .kind) (r .out) (r .into)) (h .list) (h .count) ∙ listed-more (d .records) l r room;
+      list = ap₂ (λ (t : List ℕ) (k : ℕ). stored t k (r .kind) (r .out) (r .into)) (h .list) (h .count) ∙ numbered-more (d .records) l r room;
     }
 
 -- other labels or words
 pub shows-own : {l : List ℕ} {s : State} {d : Drawing} → Shows l s d → (own : List ℕ) → Shows l (record { marks = s .marks; count = s .count; list = s .list; own = own }) d
 shows-own h own = record { marks = h .marks; count = h .count; list = h .list }
+
+-- a record of the numbers is that record
+numbers-at : (rs : List Record) (l : List ℕ) (k : ℕ) (d : Record) → k < length rs → record { kind = getD (numbersOf rs ++ l) (3 * k) 0; out = getD (numbersOf rs ++ l) (3 * k + 1) 0; into = getD (numbersOf rs ++ l) (3 * k + 2) 0 } ≡ getD rs k d
+unfolding numbersOf
+numbers-at [] l k d h = absurd (omega arith)
+numbers-at (r ∷ rs) l zero d h = refl
+numbers-at (r ∷ rs) l (suc k) d h =
+    let e : 3 * suc k ≡ suc (suc (suc (3 * k))) = omega arith in
+    let f : 3 * suc k + 1 ≡ suc (suc (suc (3 * k + 1))) = omega arith in
+    let t : 3 * suc k + 2 ≡ suc (suc (suc (3 * k + 2))) = omega arith in
+    let all : List ℕ = r .kind ∷ r .out ∷ r .into ∷ (numbersOf rs ++ l) in
+    (λ i. record { kind = getD all (e i) 0; out = getD all (f i) 0; into = getD all (t i) 0 }) ∙ numbers-at rs l k d (omega arith)
+
+record-is : (rs : List Record) (l : List ℕ) (k : ℕ) (d : Record) → k < length rs → k < 3072 → recordAt (numbersOf rs ++ l) k ≡ getD rs k d
+unfolding recordAt
+record-is rs l k d h small = rw (lt-ltb k 3072 small) (numbers-at rs l k d h)
+
+-- the records of the numbers stored in a list that has room for them
+stored-records : (rs : List Record) (numbers : List ℕ) (l : List Record) (k : ℕ) → k ≤ length rs → length rs ≤ length l → length rs ≤ 3072 → storedTo k (numbersOf rs ++ numbers) l ≡ paste l 0 rs k
+unfolding storedTo
+stored-records rs numbers l zero h room small = paste-zero l 0 rs
+stored-records rs numbers l (suc k) h room small =
+    let d : Record = record { kind = 0; out = 0; into = 0 } in
+    ap₂ (λ (t : List Record) (r : Record). set t k r) (stored-records rs numbers l k (omega arith) room small) (record-is rs numbers k d (omega arith) (omega arith))
+    ∙ ap (λ (n : ℕ). set (paste l 0 rs k) n (getD rs k d)) (sym (zero-add k))
+    ∙ paste-suc l 0 rs k d (rw zero-add (omega arith)) (omega arith)
+
+-- all of them
+pub stored-all : (rs : List Record) (numbers : List ℕ) (l : List Record) → length rs ≤ length l → length rs ≤ 3072 → storedTo (length rs) (numbersOf rs ++ numbers) l ≡ listed rs l
+unfolding listed
+stored-all rs numbers l room small =
+    stored-records rs numbers l (length rs) (omega arith) room small
+    ∙ ap₂ (λ (t : List Record) (n : ℕ). t ++ drop n l) (take-length rs) (zero-add (length rs))

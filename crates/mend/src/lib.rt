@@ -1,10 +1,11 @@
 // Mending an old claim: marks that close a ring are dropped, rows that join two groups are added, and each unmarked row from the top is exchanged for the heaviest row of its path where that is heavier.
-// Each drop, addition and exchange becomes a record, three numbers of a lent list. Claim and list are written once nothing can be refused any more.
-ghost use Prim.Native.Nat.{ℕ, _+_, _*_, _^_, _-_, _/_, _<_, _≤_};
+// Each drop, addition and exchange becomes a record of a lent list. Claim and list are written once nothing can be refused any more.
+// The records are kept in numbers of the mender's own, three a record; `mend` and `work_mend`, which alone see the lent list, write them there through the crate recordlist.
+ghost use Prim.Native.Nat.{ℕ, _+_, _*_, _^_, _-_, _<_, _≤_};
 ghost use lib.Dec.{ltb};
-ghost use lib.ListN.{length, take, drop};
+ghost use lib.ListN.{length};
 ghost use mathlib.Core.Bool.{Bool, true, cond};
-ghost use mathlib.Core.List.{List, _++_};
+ghost use mathlib.Core.List.{List};
 ghost use mathlib.Core.Option.{none};
 ghost use mathlib.Core.Path.{_≡_};
 ghost use Rattle.matrix.specs.Matrix.{matrixColumn};
@@ -19,10 +20,15 @@ ghost use Rattle.star.specs.MatrixPath.{matrixPath, matrixAfter};
 ghost use Rattle.star.specs.Refusals.{orElse, refusal};
 ghost use Rattle.table.specs.Loads.{loadedRow};
 ghost use Rattle.drawings.specs.Mend.{claimCauses, fewRecords, redrawn, unmended, mend, mendMarks, mendList};
+ghost use Rattle.record.specs.declared.Record.{Record};
+ghost use Rattle.recordlist.specs.Stored.{storedTo};
 ghost use Rattle.mend.specs.Answers.{answerOf};
 ghost use Rattle.mend.specs.steps.Machine.{stateOf, stored, renamed, allRenamed, labelsFrom, apart, joinedLabels, dropAt, addAt, pathOf, outOf, swapped, swapAt, visits, twoPasses};
 use checks::row_byte;
 use claim::flipped_weight;
+use record::Record;
+use recordlist::NUMBERS;
+use recordlist::write_records;
 use refusal::Outcome;
 use refusal::Refusal;
 use slice::SIZE;
@@ -32,10 +38,8 @@ use slice::rows::rows_among;
 use slice::rows::rows_to;
 use slice::words::rows_in_use;
 
-// The vertices that can be, and the numbers of the records of three passes over 1,024 rows.
+// The vertices that can be.
 const VERTICES: usize = 255;
-
-const NUMBERS: usize = 9216;
 
 // The numbers of a record.
 const FIELDS: usize = 3;
@@ -53,6 +57,13 @@ pub enum Mended {
     Refused(Refusal),
 }
 
+// What mending gives: the answer, and the records to be written, as the first `count` of numbers, three a record.
+pub struct Mending {
+    pub list: [u32; NUMBERS],
+    pub count: usize,
+    pub answer: Mended,
+}
+
 // The drawing while it is mended: the rows marked by now, and the number of records.
 struct Drawn {
     marks: Slice,
@@ -64,8 +75,8 @@ struct Labels {
     labels: [u8; VERTICES],
 }
 
-// Writes record k of the list, counted from 0: the one place where a record is stored.
-fn store(list: &mut [u32], k: usize, kind: u32, out: u32, into: u32)
+// Notes record k of the mender's own numbers, counted from 0.
+fn note(list: &mut [u32], k: usize, kind: u32, out: u32, into: u32)
     requires { ⌜ 3 * k + 3 ≤ length (now list) ⌝ }
     ensures { λ r. ⌜ now (list .exit) ≡ stored (now (list .entry)) k kind out into ⌝ }
 {
@@ -139,7 +150,7 @@ fn drop_at(
         return s;
     }
     let count = s.count;
-    store(list, count, DROP, i as u32, 0);
+    note(list, count, DROP, i as u32, 0);
     Drawn {
         marks: slice::put(s.marks, i, false),
         count: count + 1,
@@ -191,7 +202,7 @@ fn add_at(
         return s;
     }
     let count = s.count;
-    store(list, count, ADDITION, 0, i as u32);
+    note(list, count, ADDITION, 0, i as u32);
     Drawn {
         marks: slice::put(s.marks, i, true),
         count: count + 1,
@@ -277,7 +288,7 @@ fn swap(
 {
     exchange::turn_columns(own, n, out, slice::put(path, i, true));
     let count = s.count;
-    store(list, count, EXCHANGE, out as u32, i as u32);
+    note(list, count, EXCHANGE, out as u32, i as u32);
     Drawn {
         marks: slice::put(slice::put(s.marks, out, false), i, true),
         count: count + 1,
@@ -431,20 +442,7 @@ fn write_marks(mark: &mut [u8], used: Slice, marks: Slice)
     }
 }
 
-// The first `count` records of the list become the first of the lent records.
-fn write_records(records: &mut [u32], list: &[u32], count: usize)
-    requires { ⌜ (3 * count ≤ length (now records)) × (3 * count ≤ length (now list)) ⌝ }
-    ensures { λ u. ⌜ now (records .exit) ≡ take (3 * count) (now (list .entry)) ++ drop (3 * count) (now (records .entry)) ⌝ }
-{
-    let numbers = FIELDS * count;
-    let mut k = 0;
-    while k < numbers {
-        records[k] = list[k];
-        k += 1;
-    }
-}
-
-// Causes 1 to 4, 15 and 6, and 16 where a list of so many numbers has fewer than two records a row.
+// Causes 1 to 4, 15 and 6, and 16 where a list of so many records has fewer than two a row.
 fn mend_check(
     n: u32,
     m: usize,
@@ -454,27 +452,38 @@ fn mend_check(
     right: &[u8],
     weight: &[u8],
     mark: &[u8],
-    numbers: usize,
+    records: usize,
 ) -> Outcome
     ensures { λ r.
         let c = tableOf n m whole (component rows) (now (left .entry)) (now (right .entry)) (now (weight .entry)) (now (mark .entry)) in
-        ⌜ refusalOf r ≡ orElse (refusal (claimCauses c)) (fewRecords m (numbers / 3)) ⌝ }
+        ⌜ refusalOf r ≡ orElse (refusal (claimCauses c)) (fewRecords m records) ⌝ }
 {
     let claim = checks::claim_check(n, m, whole, rows, left, right, weight, mark);
-    checks::first(claim, checks::refused_if(numbers / (2 * FIELDS) < m, 16))
+    checks::first(claim, checks::refused_if(records / 2 < m, 16))
+}
+
+// A refusal: no record is to be written.
+fn refused(r: Refusal) -> Mending
+    ensures { λ z. ⌜ (answerOf (z .answer) ≡ unmended r) × (z .count ≡ 0) ⌝ }
+{
+    Mending {
+        list: [0u32; NUMBERS],
+        count: 0,
+        answer: Mended::Refused(r),
+    }
 }
 
 // Refused 11: no spanning tree exists.
-fn no_tree() -> Mended
-    ensures { λ r. ⌜ answerOf r ≡ unmended (record { number = 11; place = 0 }) ⌝ }
+fn no_tree() -> Mending
+    ensures { λ z. ⌜ (answerOf (z .answer) ≡ unmended (record { number = 11; place = 0 })) × (z .count ≡ 0) ⌝ }
 {
-    Mended::Refused(Refusal {
+    refused(Refusal {
         number: 11,
         place: 0,
     })
 }
 
-// The three passes over a call that nothing but cause 11 can refuse: the records are kept in a list of the mender's own, and claim and records are written once a tree is known to exist.
+// The three passes over a call that nothing but cause 11 can refuse: the claim is written once a tree is known to exist.
 fn redraw(
     n: u32,
     m: usize,
@@ -484,12 +493,12 @@ fn redraw(
     right: &[u8],
     weight: &[u8],
     mark: &mut [u8],
-    records: &mut [u32],
-) -> Mended
-    requires { ⌜ orElse (refusal (claimCauses (tableOf n m whole (component rows) (now left) (now right) (now weight) (now mark)))) (fewRecords m (length (now records) / 3)) ≡ none ⌝ }
+    records: usize,
+) -> Mending
+    requires { ⌜ orElse (refusal (claimCauses (tableOf n m whole (component rows) (now left) (now right) (now weight) (now mark)))) (fewRecords m records) ≡ none ⌝ }
     ensures { λ r.
         let c = tableOf n m whole (component rows) (now (left .entry)) (now (right .entry)) (now (weight .entry)) (now (mark .entry)) in
-        ⌜ (answerOf r ≡ mend c (now (records .entry))) × (now (mark .exit) ≡ mendMarks c (now (records .entry))) × (now (records .exit) ≡ mendList c (now (records .entry))) ⌝ }
+        ⌜ (answerOf (r .answer) ≡ mend c records) × (now (mark .exit) ≡ mendMarks c records) × ((l : List Record) → length l ≡ records → storedTo (r .count) (r .list) l ≡ mendList c l) ⌝ }
 {
     let used = rows_among(m, rows);
     let marked = claim::claim_rows(mark, used);
@@ -513,12 +522,15 @@ fn redraw(
     );
     let count = least.count;
     write_marks(mark, used, least.marks);
-    write_records(records, &list, count);
-    Mended::Records(count as u32)
+    Mending {
+        list: list,
+        count: count,
+        answer: Mended::Records(count as u32),
+    }
 }
 
-// Mending over a table of m rows, of which those of a slice are in use.
-pub fn mend_rows(
+// Mending over a table of m rows, of which those of a slice are in use, but for the lent list, which has so many records.
+pub fn mend_claim_rows(
     n: u32,
     m: usize,
     whole: bool,
@@ -527,13 +539,12 @@ pub fn mend_rows(
     right: &[u8],
     weight: &[u8],
     mark: &mut [u8],
-    records: &mut [u32],
-) -> Mended
+    records: usize,
+) -> Mending
     ensures { λ r.
         let c = tableOf n m whole (component rows) (now (left .entry)) (now (right .entry)) (now (weight .entry)) (now (mark .entry)) in
-        ⌜ (answerOf r ≡ mend c (now (records .entry))) × (now (mark .exit) ≡ mendMarks c (now (records .entry))) × (now (records .exit) ≡ mendList c (now (records .entry))) ⌝ }
+        ⌜ (answerOf (r .answer) ≡ mend c records) × (now (mark .exit) ≡ mendMarks c records) × ((l : List Record) → length l ≡ records → storedTo (r .count) (r .list) l ≡ mendList c l) ⌝ }
 {
-    let numbers = records.len();
     if let Outcome::Refused(refusal) = mend_check(
         n,
         m,
@@ -543,46 +554,46 @@ pub fn mend_rows(
         right,
         weight,
         mark,
-        numbers,
+        records,
     ) {
-        return Mended::Refused(refusal);
+        return refused(refusal);
     }
     redraw(n, m, whole, rows, left, right, weight, mark, records)
 }
 
-// Mending over a plain table: a row for each byte of the left column, all in use.
-pub fn mend(
+// Mending over a plain table, a row for each byte of the left column, all in use, but for the lent list, which has so many records.
+pub fn mend_claim(
     n: u32,
     left: &[u8],
     right: &[u8],
     weight: &[u8],
     mark: &mut [u8],
-    records: &mut [u32],
-) -> Mended
+    records: usize,
+) -> Mending
     ensures { λ r.
         let c = callOf n (now (left .entry)) (now (right .entry)) (now (weight .entry)) (now (mark .entry)) in
-        ⌜ (answerOf r ≡ mend c (now (records .entry))) × (now (mark .exit) ≡ mendMarks c (now (records .entry))) × (now (records .exit) ≡ mendList c (now (records .entry))) ⌝ }
+        ⌜ (answerOf (r .answer) ≡ mend c records) × (now (mark .exit) ≡ mendMarks c records) × ((l : List Record) → length l ≡ records → storedTo (r .count) (r .list) l ≡ mendList c l) ⌝ }
 {
     let m = left.len();
-    mend_rows(n, m, true, rows_to(m), left, right, weight, mark, records)
+    mend_claim_rows(n, m, true, rows_to(m), left, right, weight, mark, records)
 }
 
-// Mending over a working table: 1,024 rows, and the rows in use lent as sixteen words.
-pub fn work_mend(
+// Mending over a working table, 1,024 rows and the rows in use lent as sixteen words, but for the lent list, which has so many records.
+pub fn work_mend_claim(
     n: u32,
     words: &[u64],
     left: &[u8],
     right: &[u8],
     weight: &[u8],
     mark: &mut [u8],
-    records: &mut [u32],
-) -> Mended
+    records: usize,
+) -> Mending
     ensures { λ r.
         let c = workOf n (now (words .entry)) (now (left .entry)) (now (right .entry)) (now (weight .entry)) (now (mark .entry)) in
-        ⌜ (answerOf r ≡ mend c (now (records .entry))) × (now (mark .exit) ≡ mendMarks c (now (records .entry))) × (now (records .exit) ≡ mendList c (now (records .entry))) ⌝ }
+        ⌜ (answerOf (r .answer) ≡ mend c records) × (now (mark .exit) ≡ mendMarks c records) × ((l : List Record) → length l ≡ records → storedTo (r .count) (r .list) l ≡ mendList c l) ⌝ }
 {
     let whole = words.len() == WORDS;
-    mend_rows(
+    mend_claim_rows(
         n,
         SIZE,
         whole,
@@ -593,4 +604,41 @@ pub fn work_mend(
         mark,
         records,
     )
+}
+
+// Mending over a plain table, with its records written into the lent list.
+pub fn mend(
+    n: u32,
+    left: &[u8],
+    right: &[u8],
+    weight: &[u8],
+    mark: &mut [u8],
+    records: &mut [Record],
+) -> Mended
+    ensures { λ r.
+        let c = callOf n (now (left .entry)) (now (right .entry)) (now (weight .entry)) (now (mark .entry)) in
+        ⌜ (answerOf r ≡ mend c (length (now (records .entry)))) × (now (mark .exit) ≡ mendMarks c (length (now (records .entry)))) × (now (records .exit) ≡ mendList c (now (records .entry))) ⌝ }
+{
+    let m = mend_claim(n, left, right, weight, mark, records.len());
+    write_records(records, m.list, m.count);
+    m.answer
+}
+
+// Mending over a working table, with its records written into the lent list.
+pub fn work_mend(
+    n: u32,
+    words: &[u64],
+    left: &[u8],
+    right: &[u8],
+    weight: &[u8],
+    mark: &mut [u8],
+    records: &mut [Record],
+) -> Mended
+    ensures { λ r.
+        let c = workOf n (now (words .entry)) (now (left .entry)) (now (right .entry)) (now (weight .entry)) (now (mark .entry)) in
+        ⌜ (answerOf r ≡ mend c (length (now (records .entry)))) × (now (mark .exit) ≡ mendMarks c (length (now (records .entry)))) × (now (records .exit) ≡ mendList c (now (records .entry))) ⌝ }
+{
+    let m = work_mend_claim(n, words, left, right, weight, mark, records.len());
+    write_records(records, m.list, m.count);
+    m.answer
 }

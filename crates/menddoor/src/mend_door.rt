@@ -1,20 +1,35 @@
 // The mender's doors: the claim and the list are written where the claim is mended, and stay as they are otherwise.
-use answer::Record;
+// All but the lent list is written by `mend_answer` and `work_mend_answer`; the doors write the records there through the crate recordlist.
 use answer::write_answer;
 use mend::Mended;
+use mend::Mending;
+use record::Record;
+use recordlist::NUMBERS;
+use recordlist::write_records;
+ghost use lib.ListN.{length};
+ghost use mathlib.Core.List.{List};
 ghost use mathlib.Core.Path.{_≡_};
 ghost use Rattle.answer.specs.Records.{fieldsOf};
 ghost use Rattle.drawings.specs.Door.{mendFields, mendDoor, mendDoorMarks, mendDoorList};
 ghost use Rattle.mend.specs.Answers.{answerOf};
+ghost use Rattle.record.specs.declared.Record.{Record};
+ghost use Rattle.recordlist.specs.Stored.{storedTo};
 ghost use Rattle.star.specs.Call.{callOf, workOf};
-ghost use Rattle.star.specs.Door.{doorReturns};
+ghost use Rattle.star.specs.Door.{answerAfter, doorReturns};
+
+// What a call gives: the records to be written, as the first `count` of numbers, three a record, and the number returned.
+pub struct Told {
+    pub list: [u32; NUMBERS],
+    pub count: usize,
+    pub returned: u32,
+}
 
 // The fields of what was mended: the number of records is the amount.
-pub fn of_mended(x: Mended) -> Record
+pub fn of_mended(x: Mended) -> answer::Record
     ensures { λ r. ⌜ fieldsOf r ≡ mendFields (answerOf x) ⌝ }
 {
     match x {
-        Mended::Records(count) => Record {
+        Mended::Records(count) => answer::Record {
             kind: 1,
             number: 0,
             out: 0,
@@ -22,7 +37,7 @@ pub fn of_mended(x: Mended) -> Record
             only: 0,
             amount: count as u64,
         },
-        Mended::Refused(r) => Record {
+        Mended::Refused(r) => answer::Record {
             kind: 0,
             number: r.number,
             out: r.place,
@@ -33,6 +48,75 @@ pub fn of_mended(x: Mended) -> Record
     }
 }
 
+// The lent answer has not sixteen bytes: no record is to be written.
+fn not_lent() -> Told
+    ensures { λ r. ⌜ (r .returned ≡ 0) × (r .count ≡ 0) ⌝ }
+{
+    Told {
+        list: [0u32; NUMBERS],
+        count: 0,
+        returned: 0,
+    }
+}
+
+// The answer is written, and what mending gave is handed on.
+fn tell(answer: &mut [u8], m: Mending) -> Told
+    ensures { λ r. ⌜ (r .returned ≡ 1) × (r .count ≡ m .count) × (r .list ≡ m .list) × (now (answer .exit) ≡ answerAfter (now (answer .entry)) (mendFields (answerOf (m .answer)))) ⌝ }
+{
+    let list = m.list;
+    let count = m.count;
+    let x = m.answer;
+    write_answer(answer, of_mended(x));
+    Told {
+        list: list,
+        count: count,
+        returned: 1,
+    }
+}
+
+// Mending of a plain table through the door, but for the lent list, which has so many records.
+pub fn mend_answer(
+    n: u32,
+    left: &[u8],
+    right: &[u8],
+    weight: &[u8],
+    mark: &mut [u8],
+    records: usize,
+    answer: &mut [u8],
+) -> Told
+    ensures { λ r.
+        let c = callOf n (now (left .entry)) (now (right .entry)) (now (weight .entry)) (now (mark .entry)) in
+        ⌜ (r .returned ≡ doorReturns (now (answer .entry))) × (now (answer .exit) ≡ mendDoor c records (now (answer .entry))) × (now (mark .exit) ≡ mendDoorMarks c records (now (answer .entry))) × ((l : List Record) → length l ≡ records → storedTo (r .count) (r .list) l ≡ mendDoorList c l (now (answer .entry))) ⌝ }
+{
+    if answer.len() != 16 {
+        return not_lent();
+    }
+    let m = mend::mend_claim(n, left, right, weight, mark, records);
+    tell(answer, m)
+}
+
+// Mending of a working table through the door, but for the lent list, which has so many records.
+pub fn work_mend_answer(
+    n: u32,
+    words: &[u64],
+    left: &[u8],
+    right: &[u8],
+    weight: &[u8],
+    mark: &mut [u8],
+    records: usize,
+    answer: &mut [u8],
+) -> Told
+    ensures { λ r.
+        let c = workOf n (now (words .entry)) (now (left .entry)) (now (right .entry)) (now (weight .entry)) (now (mark .entry)) in
+        ⌜ (r .returned ≡ doorReturns (now (answer .entry))) × (now (answer .exit) ≡ mendDoor c records (now (answer .entry))) × (now (mark .exit) ≡ mendDoorMarks c records (now (answer .entry))) × ((l : List Record) → length l ≡ records → storedTo (r .count) (r .list) l ≡ mendDoorList c l (now (answer .entry))) ⌝ }
+{
+    if answer.len() != 16 {
+        return not_lent();
+    }
+    let m = mend::work_mend_claim(n, words, left, right, weight, mark, records);
+    tell(answer, m)
+}
+
 // Mending through the door.
 #[no_mangle]
 pub extern "C" fn star_mend(
@@ -41,21 +125,17 @@ pub extern "C" fn star_mend(
     right: &[u8],
     weight: &[u8],
     mark: &mut [u8],
-    numbers: &mut [u32],
+    records: &mut [Record],
     answer: &mut [u8],
 ) -> u32
     ensures returned { λ r. ⌜ r ≡ doorReturns (now (answer .entry)) ⌝ }
     ensures written { λ r.
         let c = callOf n (now (left .entry)) (now (right .entry)) (now (weight .entry)) (now (mark .entry)) in
-        ⌜ (now (answer .exit) ≡ mendDoor c (now (numbers .entry)) (now (answer .entry))) × (now (mark .exit) ≡ mendDoorMarks c (now (numbers .entry)) (now (answer .entry))) × (now (numbers .exit) ≡ mendDoorList c (now (numbers .entry)) (now (answer .entry))) ⌝ }
+        ⌜ (now (answer .exit) ≡ mendDoor c (length (now (records .entry))) (now (answer .entry))) × (now (mark .exit) ≡ mendDoorMarks c (length (now (records .entry))) (now (answer .entry))) × (now (records .exit) ≡ mendDoorList c (now (records .entry)) (now (answer .entry))) ⌝ }
 {
-    if answer.len() != 16 {
-        return 0;
-    }
-    let d = mend::mend(n, left, right, weight, mark, numbers);
-    let x = of_mended(d);
-    write_answer(answer, x);
-    1
+    let m = mend_answer(n, left, right, weight, mark, records.len(), answer);
+    write_records(records, m.list, m.count);
+    m.returned
 }
 
 // Mending of a working table, whose rows in use are lent as sixteen words, through the door.
@@ -67,19 +147,15 @@ pub extern "C" fn star_work_mend(
     right: &[u8],
     weight: &[u8],
     mark: &mut [u8],
-    numbers: &mut [u32],
+    records: &mut [Record],
     answer: &mut [u8],
 ) -> u32
     ensures returned { λ r. ⌜ r ≡ doorReturns (now (answer .entry)) ⌝ }
     ensures written { λ r.
         let c = workOf n (now (words .entry)) (now (left .entry)) (now (right .entry)) (now (weight .entry)) (now (mark .entry)) in
-        ⌜ (now (answer .exit) ≡ mendDoor c (now (numbers .entry)) (now (answer .entry))) × (now (mark .exit) ≡ mendDoorMarks c (now (numbers .entry)) (now (answer .entry))) × (now (numbers .exit) ≡ mendDoorList c (now (numbers .entry)) (now (answer .entry))) ⌝ }
+        ⌜ (now (answer .exit) ≡ mendDoor c (length (now (records .entry))) (now (answer .entry))) × (now (mark .exit) ≡ mendDoorMarks c (length (now (records .entry))) (now (answer .entry))) × (now (records .exit) ≡ mendDoorList c (now (records .entry)) (now (answer .entry))) ⌝ }
 {
-    if answer.len() != 16 {
-        return 0;
-    }
-    let d = mend::work_mend(n, words, left, right, weight, mark, numbers);
-    let x = of_mended(d);
-    write_answer(answer, x);
-    1
+    let m = work_mend_answer(n, words, left, right, weight, mark, records.len(), answer);
+    write_records(records, m.list, m.count);
+    m.returned
 }

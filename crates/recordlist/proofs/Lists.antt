@@ -3,7 +3,7 @@
 use Prim.Native.Nat.{ℕ, zero, suc, _<_}
 use native.Mathlib.Omega.{arith}
 use lib.ListN.{length, set, length-set}
-use mathlib.Core.List.{List, [], _∷_}
+use mathlib.Core.List.{List, [], _∷_, map}
 use mathlib.Core.Path.{_≡_, refl, ap, _∙_}
 use Rattle.record.specs.declared.Record.{Record}
 use Rattle.recordlist.specs.Stored.{recordAt, storedTo}
@@ -18,3 +18,8 @@ pub stored-length : (k : ℕ) (numbers : List ℕ) (l : List Record) → length 
 unfolding storedTo
 stored-length zero numbers l = refl
 stored-length (suc k) numbers l = length-set (storedTo k numbers l) k (recordAt numbers k) ∙ stored-length k numbers l
+
+-- the numbers of a field that is an array
+pub map-same : (l : List ℕ) → map (λ (x : ℕ). x) l ≡ l
+map-same [] = refl
+map-same (x ∷ l) = ap (λ (t : List ℕ). x ∷ t) (map-same l)

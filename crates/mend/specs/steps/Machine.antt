@@ -3,11 +3,12 @@
 use Prim.Native.Nat.{ℕ, zero, suc, _+_, _*_}
 use lib.Dec.{eqb, ltb}
 use lib.IntN.{ℤ}
-use lib.ListN.{set}
+use lib.ListN.{length, set, drop}
 use mathlib.Core.Bool.{Bool, true, false, not, cond}
-use mathlib.Core.List.{List, [], _∷_}
+use mathlib.Core.List.{List, [], _∷_, _++_}
 use Rattle.exchange.specs.Turned.{columnsTurned}
 use Rattle.matrix.specs.Matrix.{matrixColumn}
+use Rattle.record.specs.declared.Record.{Record}
 use Rattle.rowset.specs.Bytes.{inRow}
 use Rattle.rowset.specs.Searches.{largest}
 use Rattle.rowset.specs.Sets.{oneOf, uppermost}
@@ -26,7 +27,16 @@ pub record State : Type 0 where
 abbrev pub stateOf : Drawn → (list own : List ℕ) → State
 stateOf s list own = record { marks = component (s .marks); count = s .count; list = list; own = own }
 
--- record k of the list, counted from 0, written
+-- records as numbers, three a record
+unfoldable pub numbersOf : List Record → List ℕ
+numbersOf [] = []
+numbersOf (r ∷ rs) = r .kind ∷ r .out ∷ r .into ∷ numbersOf rs
+
+-- the numbers with these records from their top on
+unfoldable pub numbered : List Record → List ℕ → List ℕ
+numbered rs l = numbersOf rs ++ drop (3 * length rs) l
+
+-- record k of the numbers, counted from 0, written
 unfoldable pub stored : List ℕ → (k kind out into : ℕ) → List ℕ
 stored l k kind out into = set (set (set l (3 * k) kind) (3 * k + 1) out) (3 * k + 2) into
 

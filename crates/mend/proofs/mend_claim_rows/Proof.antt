@@ -1,0 +1,36 @@
+-- `mend::mend_claim_rows` meets its contract: the call is refused, or the three passes are made.
+-- Assumes nothing.
+use borrow.Author.Needs.{needs}
+use mathlib.Core.Path.{sym, _∙_, ap}
+use Rattle.recordlist.specs.Stored.{storedTo}
+use Rattle.refusal.specs.Outcomes.{refusalOf}
+use Rattle.mend.proofs.Answers.{call-refused}
+use Rattle.mend.proofs.mend_claim_rows.Statement.{statement}
+use Rattle.mend.proofs.mend_claim_rows.Tie as tie
+
+returns : tie.Need-returns
+unfolding refusalOf storedTo
+returns c =
+    let (answer, marks, list) = call-refused _ _ _ (sym (c .before .before .before .before .mend-check .ensures) ∙ ap refusalOf (c .before .before .refusal .given .1)) in
+    (c .refused .ensures .0 ∙ answer, marks, λ l e. rw (c .refused .ensures .1) (list l e))
+
+redraw-requires : tie.Need-redraw-requires
+unfolding refusalOf
+redraw-requires c κs = sym (c .before .before .before .mend-check .ensures) ∙ ap refusalOf (c .before .enum-told .given .1)
+
+returns-2 : tie.Need-returns-2
+returns-2 c = c .before .before .redraw .ensures
+
+pub mend-claim-rows-spec : {M : Type 1} → statement M
+mend-claim-rows-spec =
+    tie.close
+    (tie.spec
+    (λ c κs. search needs)
+    (λ c. search needs)
+    (λ c κs. search needs)
+    (λ c. search needs)
+    returns
+    (λ c. search needs)
+    redraw-requires
+    (λ c. search needs)
+    returns-2)
