@@ -101,7 +101,7 @@ void add_outlets(Rows &rows, const char *name, uint32_t r, uint32_t count) {
 void measure_plans() {
     Table t = make(255, STAR_MAX_ROWS, 0, STAR_MAX_PRICE), boiler = boiler_house();
     std::vector<uint8_t> claim(t.rows()), forests(t.rows());
-    std::vector<uint32_t> list(2 * STAR_RECORD_NUMBERS * t.rows());
+    std::vector<star_record> records(2 * t.rows());
     uint32_t ends[STAR_MAX_RUNS];
     uint8_t answer[16];
     for (auto &mark : claim) mark = uint8_t(any(2));
@@ -112,7 +112,7 @@ void measure_plans() {
     };
     auto mend = [&](Table &of) { // the same claim each time; the number of records is what the first call gives
         of.mark = claim;
-        star_mend(of.n, of.left.data(), of.rows(), of.right.data(), of.rows(), of.weight.data(), of.weight.size(), of.mark.data(), of.rows(), list.data(), list.size(), answer, 16);
+        star_mend(of.n, of.left.data(), of.rows(), of.right.data(), of.rows(), of.weight.data(), of.weight.size(), of.mark.data(), of.rows(), records.data(), records.size(), answer, 16);
         return amount(answer);
     };
     std::printf("n %u, m %zu: eight districts; a claim of random marks mended; the fewest rows at a junction\n", t.n, t.rows());

@@ -109,12 +109,12 @@ struct star_answer table_districts(struct table *t, const uint32_t *ends, size_t
     return star_read_answer(answer);
 }
 
-struct star_answer table_mend(struct table *t, uint32_t list[LIST]) {
+struct star_answer table_mend(struct table *t, struct star_record records[RECORDS]) {
     uint8_t answer[STAR_ANSWER_BYTES];
     uint64_t in_use[STAR_COLUMN_WORDS];
     if (working(t, in_use))
-        star_work_mend(t->n, in_use, STAR_COLUMN_WORDS, COLUMNS(t, STAR_MAX_ROWS), t->mark, STAR_MAX_ROWS, list, LIST, answer, sizeof answer);
-    else star_mend(t->n, COLUMNS(t, kept(t)), t->mark, kept(t), list, LIST, answer, sizeof answer);
+        star_work_mend(t->n, in_use, STAR_COLUMN_WORDS, COLUMNS(t, STAR_MAX_ROWS), t->mark, STAR_MAX_ROWS, records, RECORDS, answer, sizeof answer);
+    else star_mend(t->n, COLUMNS(t, kept(t)), t->mark, kept(t), records, RECORDS, answer, sizeof answer);
     return star_read_answer(answer);
 }
 

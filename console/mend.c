@@ -6,7 +6,7 @@
 #include "verdict.h"
 
 static struct edit edit;
-static uint32_t list[LIST];
+static struct star_record records[RECORDS];
 
 static void say_step(struct message *to, const struct table *t, struct star_record step) {
     char saving[FIGURES];
@@ -34,7 +34,7 @@ static void tell(const struct table *t, size_t steps, int64_t before) {
     size_t i;
     for (i = 0; i < steps; i++) {
         struct message words = {{0}, 0};
-        say_step(&words, t, star_get_record(list, i));
+        say_step(&words, t, records[i]);
         fprintf(stderr, "%s\n", words.text);
     }
     amount_figures(figures[0], before);
@@ -50,7 +50,7 @@ static void tell(const struct table *t, size_t steps, int64_t before) {
 
 int command_mend(struct table *t, const struct options *with, struct output *o) {
     int64_t before = table_total(t);
-    struct star_answer a = table_mend(t, list);
+    struct star_answer a = table_mend(t, records);
     int status;
     (void)with;
     if (a.kind != STAR_PASSED) {

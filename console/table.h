@@ -12,7 +12,7 @@
 enum { KEPT = STAR_MAX_ROWS + 1 };
 
 /* The numbers of the longest list of steps. */
-enum { LIST = 2 * STAR_MAX_ROWS * STAR_RECORD_NUMBERS };
+enum { RECORDS = 2 * STAR_MAX_ROWS };
 
 /* A trench that is entered. */
 struct trench {
@@ -64,7 +64,7 @@ uint32_t table_which(const struct table *first, const struct table *second, stru
 /* The doors that make a plan, whose marks the table has afterwards: of at most eight districts, given by the numbers of their last trenches, with the
    trenches of each in forests; of any marks, with the steps; with exactly `count` trenches at a junction. */
 struct star_answer table_districts(struct table *t, const uint32_t *ends, size_t count, uint8_t forests[KEPT]);
-struct star_answer table_mend(struct table *t, uint32_t list[LIST]);
+struct star_answer table_mend(struct table *t, struct star_record records[RECORDS]);
 struct star_answer table_outlets(struct table *t, uint32_t junction, uint32_t count);
 
 /* The doors that change a table, over a copy of it: numbers has 1,024. A struck trench is remembered in the table. */

@@ -40,8 +40,8 @@
  * The caller owes that each pointer has as many readable bytes behind it as its length says (writable
  * ones behind answer, and behind every other pointer that is not to const), and that a column that is written
  * overlaps no other. The length of a matrix and of the rows in use counts words of eight bytes, that of a list
- * of numbers, ends or records the numbers. An empty column may be lent as a null pointer with length 0. The calling thread has
- * stack left, 1 MiB for star_import and star_digs_text, 256 KiB for star_mend and star_work_mend, and 128 KiB for each of the
+ * of numbers or ends the numbers, that of a list of records the records. An empty column may be lent as a null pointer with length 0. The calling thread has
+ * stack left, 1 MiB for star_import and star_digs_text, 320 KiB for star_mend and star_work_mend, and 128 KiB for each of the
  * others, whatever is lent. Nothing else is asked.
  */
 #ifndef STAR_H
@@ -277,33 +277,24 @@ enum star_step {
     STAR_EXCHANGED = 3 /* row out goes and row in, which costs less, comes: out was the dearest on the path between the ends of in, the uppermost of them */
 };
 
-/* A record of star_mend. In the list it is three numbers, in this order; star_get_record reads one at an index from 0 on. */
+/* A record of star_mend: a step, and its rows. */
 struct star_record {
     uint32_t kind, out, in; /* out and in: 0 where a kind lacks one */
 };
 
-enum { STAR_RECORD_NUMBERS = 3 };
-
-static inline struct star_record star_get_record(const uint32_t *list, size_t index) {
-    struct star_record r;
-    r.kind = list[STAR_RECORD_NUMBERS * index];
-    r.out = list[STAR_RECORD_NUMBERS * index + 1];
-    r.in = list[STAR_RECORD_NUMBERS * index + 2];
-    return r;
-}
-
 /* Turns any marks, 0 and 1, into a least network: going down the marks, those are dropped whose ends earlier ones join; going down the rows, those
  * are added that join two groups; then each row unmarked by now is visited once, from the top, and exchanged for the dearest row on its path where that
- * one costs more. The steps stand in the list in their order; the answer's amount is their number, at most 2 m, and records past the last one keep their
- * content. star_cst passes the marks. count counts the numbers that are lent, three for each of 2 m records or more. A refusal is 1, 2, 3, 4, 15, 6,
- * 16 or 11, in this order, and leaves marks and list as they were. */
+ * one costs more. The steps stand in records in their order; the answer's amount is their number, at most 2 m, and records past the last one keep their
+ * content. star_cst passes the marks. count counts the records that are lent, 2 m or more. A refusal is 1, 2, 3, 4, 15, 6,
+ * 16 or 11, in this order, and leaves marks and records as they were. */
 uint32_t star_mend(uint32_t n, const uint8_t *left, size_t left_len, const uint8_t *right, size_t right_len, const uint8_t *weight,
-                   size_t weight_len, uint8_t *mark, size_t mark_len, uint32_t *list, size_t count, uint8_t *answer, size_t answer_len);
+                   size_t weight_len, uint8_t *mark, size_t mark_len, struct star_record *records, size_t count, uint8_t *answer,
+                   size_t answer_len);
 
-/* The list has 2,048 records or more, 6,144 numbers. Marks at rows not in use are neither read nor written. */
+/* 2,048 records or more are lent. Marks at rows not in use are neither read nor written. */
 uint32_t star_work_mend(uint32_t n, const uint64_t *in_use, size_t in_use_words, const uint8_t *left, size_t left_len, const uint8_t *right,
                         size_t right_len, const uint8_t *weight, size_t weight_len, uint8_t *mark, size_t mark_len,
-                        uint32_t *list, size_t count, uint8_t *answer, size_t answer_len);
+                        struct star_record *records, size_t count, uint8_t *answer, size_t answer_len);
 
 /* Builds a network with exactly t rows at junction r, and marks its rows: every other one with exactly t rows at r costs at least as much. The answer's
  * amount is its total; the marks lent are not read. A refusal is 1, 2, 3, 4, 15, 7, 11 or 19, in this order. */

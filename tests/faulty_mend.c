@@ -2,7 +2,7 @@
  * 'none'. The test is compiled with the doors' names replaced by those below; the environment's FAULT names the fault. */
 #include "faulty.h"
 
-#define RECORDS uint32_t *list, size_t count
+#define RECORDS struct star_record *list, size_t count
 
 uint32_t faulty_mend(uint32_t n, COLUMNS, MARK, RECORDS, ANSWER);
 uint32_t faulty_work_mend(uint32_t n, IN_USE, COLUMNS, MARK, RECORDS, ANSWER);
@@ -19,38 +19,33 @@ static uint32_t asked_mend(int working, uint32_t n, IN_USE, COLUMNS, MARK, RECOR
     return star_mend(n, LENT, mark, mark_len, list, count, answer, answer_len);
 }
 
-static void put_record(uint32_t *list, size_t index, uint32_t kind, uint32_t out, uint32_t in) {
-    list[3 * index] = kind;
-    list[3 * index + 1] = out;
-    list[3 * index + 2] = in;
-}
-
-static void undo_last(const uint32_t *list, size_t *steps, uint8_t *mark) {
-    struct star_record last = star_get_record(list, --*steps);
+static void undo_last(const struct star_record *list, size_t *steps, uint8_t *mark) {
+    struct star_record last = list[--*steps];
     if (last.out) mark[last.out - 1] = 1;
     if (last.in) mark[last.in - 1] = 0;
 }
 
 /* What a mend leaves, spoilt. */
-static void spoil_mend(const struct lent *l, const uint8_t *before, uint8_t *mark, uint32_t *list, size_t count, uint8_t *answer) {
+static void spoil_mend(const struct lent *l, const uint8_t *before, uint8_t *mark, struct star_record *list, size_t count, uint8_t *answer) {
     size_t steps = (size_t)star_read_answer(answer).amount, i;
     struct star_answer o;
     for (i = 0; i < steps; i++) {
-        struct star_record r = star_get_record(list, i);
-        if (fault("mend-out-and-in-swapped")) put_record(list, i, r.kind, r.in, r.out);
-        if (fault("mend-kind-of-exchange") && r.kind == STAR_EXCHANGED) list[3 * i] = STAR_ADDED;
+        struct star_record r = list[i];
+        if (fault("mend-out-and-in-swapped")) list[i].out = r.in, list[i].in = r.out;
+        if (fault("mend-kind-of-exchange") && r.kind == STAR_EXCHANGED) list[i].kind = STAR_ADDED;
     }
     for (i = 0; fault("mend-in-another-order") && i < steps / 2; i++) {
-        struct star_record r = star_get_record(list, i), last = star_get_record(list, steps - 1 - i);
-        put_record(list, i, last.kind, last.out, last.in);
-        put_record(list, steps - 1 - i, r.kind, r.out, r.in);
+        struct star_record r = list[i];
+        list[i] = list[steps - 1 - i];
+        list[steps - 1 - i] = r;
     }
-    if (fault("mend-one-exchange-too-few") && steps > 0 && list[3 * steps - 3] == STAR_EXCHANGED) undo_last(list, &steps, mark);
-    if (fault("mend-cleared-past-the-end") && 3 * steps < count) list[3 * steps] = 0;
+    if (fault("mend-one-exchange-too-few") && steps > 0 && list[steps - 1].kind == STAR_EXCHANGED) undo_last(list, &steps, mark);
+    if (fault("mend-cleared-past-the-end") && steps < count) list[steps].kind = 0;
     o = other(l, mark);
-    if (fault("mend-on-equal-price") && o.kind == STAR_PASSED && !o.only && 3 * steps + 3 <= count) {
+    if (fault("mend-on-equal-price") && o.kind == STAR_PASSED && !o.only && steps < count) {
         mark[o.out - 1] = 0, mark[o.in - 1] = 1;
-        put_record(list, steps++, STAR_EXCHANGED, o.out, o.in);
+        list[steps].kind = STAR_EXCHANGED, list[steps].out = o.out, list[steps].in = o.in;
+        steps++;
     }
     if (fault("mend-another-tree") && o.kind == STAR_PASSED && !o.only) mark[o.out - 1] = 0, mark[o.in - 1] = 1;
     for (i = 0; i < l->m; i++) {
@@ -63,22 +58,22 @@ static void spoil_mend(const struct lent *l, const uint8_t *before, uint8_t *mar
 }
 
 /* The refusals of a mend, spoilt. */
-static void misrefuse_mend(const struct lent *l, uint8_t *mark, uint32_t *list, size_t count, uint8_t *answer) {
+static void misrefuse_mend(const struct lent *l, uint8_t *mark, struct star_record *list, size_t count, uint8_t *answer) {
     uint8_t scratch[STAR_MAX_ROWS + 64], second[STAR_ANSWER_BYTES];
     if (fault("mend-11-before-16") && answer[1] == STAR_SHORT_RECORDS && mst1(l, l->weight, scratch, second) && second[1] == STAR_NO_NETWORK) answer[1] = STAR_NO_NETWORK;
-    if (fault("mend-16-before-6") && answer[1] == STAR_BAD_MARK && count / 3 < 2 * l->m) answer[1] = STAR_SHORT_RECORDS, answer[2] = answer[3] = 0;
-    if (fault("mend-written-and-refused") && answer[1] == STAR_NO_NETWORK && count > 0) list[0] ^= 1;
+    if (fault("mend-16-before-6") && answer[1] == STAR_BAD_MARK && count < 2 * l->m) answer[1] = STAR_SHORT_RECORDS, answer[2] = answer[3] = 0;
+    if (fault("mend-written-and-refused") && answer[1] == STAR_NO_NETWORK && count > 0) list[0].kind ^= 1;
     if (fault("mend-marks-and-refused") && answer[1] == STAR_NO_NETWORK && mark) mark[0] ^= 1;
 }
 
 static uint32_t mend(int working, uint32_t n, IN_USE, COLUMNS, MARK, RECORDS, ANSWER) {
-    static uint32_t own[6 * STAR_MAX_ROWS];
+    static struct star_record own[2 * STAR_MAX_ROWS];
     struct lent l = {n, working ? in_use : NULL, left, right, weight, working ? STAR_MAX_ROWS : left_len};
     uint8_t before[STAR_MAX_ROWS + 64];
-    int few = fault("mend-m-records-are-enough") && count / 3 >= l.m && count / 3 < 2 * l.m && l.m <= STAR_MAX_ROWS;
+    int few = fault("mend-m-records-are-enough") && count >= l.m && count < 2 * l.m && l.m <= STAR_MAX_ROWS;
     uint32_t said;
     if (mark && mark_len <= sizeof before) memcpy(before, mark, mark_len);
-    if (few) return asked_mend(working, n, in_use, in_use_words, LENT, mark, mark_len, own, 6 * l.m, answer, answer_len);
+    if (few) return asked_mend(working, n, in_use, in_use_words, LENT, mark, mark_len, own, 2 * l.m, answer, answer_len);
     said = asked_mend(working, n, in_use, in_use_words, LENT, mark, mark_len, list, count, answer, answer_len);
     if (!said) return said;
     if (answer[0] == STAR_PASSED) spoil_mend(&l, before, mark, list, count, answer);

@@ -12,12 +12,13 @@ static unsigned long done, steps[4], none;
 
 static uint32_t ask(struct lent *t) {
     struct columns c;
-    uint32_t *list = lend(t->list, 4 * t->list_count), said;
+    struct star_record *list = lend(t->list, sizeof *list * t->list_count);
+    uint32_t said;
     plan_lend_columns(t, &c);
     if (t->working) said = star_work_mend(t->n, c.in_use, t->words, PLAN_COLUMNS(t, c), c.mark, t->mark_len, list, t->list_count, c.answer, t->answer_len);
     else said = star_mend(t->n, PLAN_COLUMNS(t, c), c.mark, t->mark_len, list, t->list_count, c.answer, t->answer_len);
     plan_back_columns(t, &c);
-    back(t->list, list, 4 * t->list_count);
+    back(t->list, list, sizeof *list * t->list_count);
     return said;
 }
 
@@ -30,20 +31,20 @@ static struct star_answer expected(const struct lent *t) {
     plan_rows(t, &r);
     for (k = 0; k < r.m; k++)
         if (t->mark[r.row[k] - 1] > 1) return (struct star_answer){STAR_REFUSED, STAR_BAD_MARK, (unsigned)r.row[k], 0, 0, 0};
-    if (t->list_count / 3 < 2 * plan_m(t)) return (struct star_answer){STAR_REFUSED, STAR_SHORT_RECORDS, 0, 0, 0, 0};
+    if (t->list_count < 2 * plan_m(t)) return (struct star_answer){STAR_REFUSED, STAR_SHORT_RECORDS, 0, 0, 0, 0};
     return a;
 }
 
 /* Applies records to marks, each to rows that it can be applied to. */
-static int apply(uint8_t *mark, size_t m, const uint32_t *list, size_t count) {
+static int apply(uint8_t *mark, size_t m, const struct star_record *list, size_t count) {
     size_t i;
     for (i = 0; i < count; i++) {
-        uint32_t kind = list[3 * i], out = list[3 * i + 1], in = list[3 * i + 2];
+        uint32_t kind = list[i].kind, out = list[i].out, in = list[i].in;
         if (kind < 1 || kind > 3 || out > m || in > m || (kind == STAR_ADDED) != (out == 0) || (kind == STAR_DROPPED) != (in == 0)) return 0;
         if ((out && mark[out - 1] != 1) || (in && mark[in - 1] != 0)) return 0;
         if (out) mark[out - 1] = 0;
         if (in) mark[in - 1] = 1;
-        if (i > 0 && kind < list[3 * (i - 1)]) return 0; /* drops, then additions, then exchanges */
+        if (i > 0 && kind < list[i - 1].kind) return 0; /* drops, then additions, then exchanges */
     }
     return 1;
 }
@@ -68,7 +69,7 @@ static void held(struct lent *t) {
     tell(count <= 2 * plan_m(t) && apply(before.mark, plan_m(t), t->list, count) && !memcmp(before.mark, t->mark, sizeof before.mark), "the records applied to the old marks");
     done++;
     none += count == 0;
-    for (i = 0; i < count && count <= 2 * STAR_MAX_ROWS; i++) steps[star_get_record(t->list, i).kind % 4]++;
+    for (i = 0; i < count && count <= 2 * STAR_MAX_ROWS; i++) steps[t->list[i].kind % 4]++;
 }
 
 /* The yard with a claim, and its records, three digits each. */
@@ -80,9 +81,12 @@ static void known(const char *in_use, const char *marked, const char *records, c
     for (; *marked; marked++) t.mark[*marked - '1'] = 1;
     held(&t);
     ok = plan_does(t.answer, (int64_t)count);
-    for (i = 0; i < 3 * count; i++) ok = ok && t.list[i] == (uint32_t)(records[i] - '0');
+    for (i = 0; i < count; i++) {
+        const char *r = records + 3 * i;
+        ok = ok && t.list[i].kind == (uint32_t)(r[0] - '0') && t.list[i].out == (uint32_t)(r[1] - '0') && t.list[i].in == (uint32_t)(r[2] - '0');
+    }
     for (i = 0; i < 5; i++) ok = ok && t.mark[i] == (strchr(mended, (int)('1' + i)) != NULL);
-    tell(ok && t.list[3 * count] == 0x07070707, "the yard's known records");
+    tell(ok && t.list[count].kind == 0x07070707, "the yard's known records");
 }
 
 /* A list may be longer than it has to be. */
@@ -112,10 +116,10 @@ static void cases(void) {
     tell(plan_does(t.answer, 3) && t.mark[1] == 9 && t.mark[3] == 9, "marks at rows not in use");
     plan_yard(&t, NULL); /* one record too few goes before 11, and after a bad mark */
     t.n = 5;
-    t.list_count = 29;
+    t.list_count = 9;
     held(&t);
     tell(plan_refuses(t.answer, STAR_SHORT_RECORDS, 0), "16 before 11");
-    t.list_count = 30;
+    t.list_count = 10;
     held(&t);
     tell(plan_refuses(t.answer, STAR_NO_NETWORK, 0), "11");
     t.list_count = 0;
@@ -123,9 +127,9 @@ static void cases(void) {
     held(&t);
     tell(plan_refuses(t.answer, STAR_BAD_MARK, 5), "6 before 16");
     plan_yard(&t, "123");
-    t.list_count = 6 * STAR_MAX_ROWS - 1;
+    t.list_count = 2 * STAR_MAX_ROWS - 1;
     held(&t);
-    tell(plan_refuses(t.answer, STAR_SHORT_RECORDS, 0), "6,143 numbers of a working table");
+    tell(plan_refuses(t.answer, STAR_SHORT_RECORDS, 0), "2,047 records of a working table");
     plan_yard(&t, NULL); /* one junction, no row, no record */
     t.n = 1;
     t.left_len = t.right_len = t.weight_len = t.mark_len = t.list_count = 0;
@@ -133,7 +137,7 @@ static void cases(void) {
     tell(plan_does(t.answer, 0), "one junction");
     for (k = 0; k < 2; k++) {
         plan_table(&t, 255, STAR_MAX_ROWS, 1, (int)k);
-        tell(plan_small_stack(ask, &t, PLAN_STACK_MEND) && t.answer[0] == STAR_PASSED, "a thread of 256 KiB");
+        tell(plan_small_stack(ask, &t, PLAN_STACK_MEND) && t.answer[0] == STAR_PASSED, "a thread of 320 KiB");
     }
     plan_lengths(held);
     list_length();
@@ -143,7 +147,7 @@ static void table(unsigned long k) {
     static struct lent t;
     plan_make(&t, k);
     plan_claim(&t);
-    if (any(20) == 0) t.list_count = any(2) ? t.list_count + any(24) : any((uint32_t)t.list_count + 1);
+    if (any(20) == 0) t.list_count = any(2) ? t.list_count + any(8) : any((uint32_t)t.list_count + 1);
     if (any(5) == 0) plan_damage(&t);
     held(&t);
 }

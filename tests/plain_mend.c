@@ -2,10 +2,10 @@
 
 #include <string.h>
 
-static void record(uint32_t *list, size_t *count, uint32_t kind, size_t out, size_t in) {
-    list[3 * *count] = kind;
-    list[3 * *count + 1] = (uint32_t)out;
-    list[3 * *count + 2] = (uint32_t)in;
+static void record(struct star_record *list, size_t *count, uint32_t kind, size_t out, size_t in) {
+    list[*count].kind = kind;
+    list[*count].out = (uint32_t)out;
+    list[*count].in = (uint32_t)in;
     ++*count;
 }
 
@@ -41,7 +41,7 @@ static int dearest(const struct near *l, const struct rows *r, unsigned at, unsi
     return -1;
 }
 
-size_t plain_mend(uint32_t n, const struct rows *r, uint8_t *mark, uint32_t *list) {
+size_t plain_mend(uint32_t n, const struct rows *r, uint8_t *mark, struct star_record *list) {
     static struct near l;
     struct parts p;
     size_t k, count = 0;

@@ -6,6 +6,6 @@
 #include "plan_lent.h"
 
 /* Mends the marks of a connected table whose rows are listed, and writes the records; gives their number. */
-size_t plain_mend(uint32_t n, const struct rows *r, uint8_t *mark, uint32_t *list);
+size_t plain_mend(uint32_t n, const struct rows *r, uint8_t *mark, struct star_record *list);
 
 #endif

@@ -9,7 +9,7 @@ static void lengths(struct lent *t, size_t m) {
     t->left_len = t->right_len = t->mark_len = t->forests_len = m;
     t->weight_len = 4 * m;
     t->answer_len = STAR_ANSWER_BYTES;
-    t->list_count = 6 * m;
+    t->list_count = 2 * m;
     t->ends_count = m > 0;
     t->ends[0] = (uint32_t)m;
 }

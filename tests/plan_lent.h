@@ -20,7 +20,7 @@ struct lent {
     uint8_t left[PLAN_ROOM], right[PLAN_ROOM], weight[4 * PLAN_ROOM];
     uint32_t ends[PLAN_ENDS + 4]; /* districts */
     uint8_t forests[PLAN_ROOM], before_mark[PLAN_GUARD], mark[PLAN_ROOM];
-    uint32_t list[3 * PLAN_RECORDS + 8]; /* mend: three numbers a record */
+    struct star_record list[PLAN_RECORDS + 3]; /* mend */
     uint32_t r, t; /* outlets */
     uint8_t before_answer[PLAN_GUARD], answer[STAR_ANSWER_BYTES + PLAN_GUARD];
     size_t words, left_len, right_len, weight_len, ends_count, forests_len, mark_len, list_count, answer_len;
@@ -100,7 +100,7 @@ void plan_back_columns(struct lent *t, struct columns *c);
 #define PLAN_COLUMNS(t, c) (c).left, (t)->left_len, (c).right, (t)->right_len, (c).weight, (t)->weight_len
 
 /* Runs a function in a thread with a stack of so many bytes; whether it returns 1. What the header asks for a mend is more than STACK. */
-enum { PLAN_STACK_MEND = 256 << 10 };
+enum { PLAN_STACK_MEND = 320 << 10 };
 int plan_small_stack(uint32_t (*call)(struct lent *), struct lent *t, size_t stack);
 
 #endif

@@ -30,15 +30,12 @@ static void show(const uint8_t *mark) {
 static void mend(void) {
     static const char *const names[] = {"", "dropped", "added", "exchanged"};
     uint8_t mark[ROWS] = {1, 1, 0, 0, 1};
-    uint32_t list[2 * STAR_RECORD_NUMBERS * ROWS];
+    struct star_record records[2 * ROWS];
     size_t i, steps;
-    star_mend(JUNCTIONS, left, ROWS, right, ROWS, weight, sizeof weight, mark, ROWS, list, sizeof list / sizeof list[0], answer, sizeof answer);
+    star_mend(JUNCTIONS, left, ROWS, right, ROWS, weight, sizeof weight, mark, ROWS, records, 2 * ROWS, answer, sizeof answer);
     if (!told("mended, in steps")) return;
     steps = (size_t)star_read_answer(answer).amount;
-    for (i = 0; i < steps; i++) {
-        struct star_record r = star_get_record(list, i);
-        printf("  %s: out %u, in %u\n", names[r.kind], (unsigned)r.out, (unsigned)r.in);
-    }
+    for (i = 0; i < steps; i++) printf("  %s: out %u, in %u\n", names[records[i].kind], (unsigned)records[i].out, (unsigned)records[i].in);
     show(mark);
 }
 
