@@ -1,40 +1,39 @@
 -- Exchanges one after the other by the calls that the code makes.
 -- Main statements: where no row can come in, no more exchanges are made (exchanges-stuck); one exchange more (exchanges-more); what is left (ends-made, ends-none). Assumes nothing.
-use Prim.Native.Nat.{ℕ, zero, suc, _+_, _<_}
-use lib.ListN.{length}
+use Prim.Native.Nat.{ℕ, zero, suc, _+_, _-_, _<_}
+use lib.ListN.{length, getD}
 use mathlib.Core.Bool.{Bool, true, false}
 use mathlib.Core.List.{List}
 use mathlib.Core.Option.{Option, none, some}
 use mathlib.Core.Path.{_≡_, refl, sym, _∙_, ap}
 use native.Mathlib.Numerals.{add-one}
-use Rattle.branches.specs.steps.Offers.{Offer}
+use Rattle.exchange.specs.Turned.{columnsTurned}
 use Rattle.rowset.proofs.Laws.{upwards}
 use Rattle.rowset.specs.Sets.{empty}
-use Rattle.reductions.specs.steps.Exchanges.{Hung, followed, swapped, exchangeBy, bestFor, exchangeAfter, exchangesTo, isMade, rowsLeft, Ends}
-use Rattle.reductions.proofs.Moves.{length-moved}
+use Rattle.slice.specs.Slices.{written}
+use Rattle.reductions.specs.steps.Exchanges.{Given, State, pathOf, dearest, costs, filled, found, keptAs, swapped, turned, exchangeBy, picked, exchangeAfter, exchangesTo, isMade, rowsLeft, Ends}
 
-pub length-followed : (a b : ℕ → ℕ) (l : List ℕ) (f e : ℕ) → length (followed a b l f e) ≡ length l
-unfolding followed
-length-followed a b l f e = length-moved l e _
-
-module _ (a b price : ℕ → ℕ) (rows : ℕ → Bool) (m : ℕ) (s₀ : Hung) where
-  pub exchanges-stuck : (i k : ℕ) (s : Hung) (o : Offer) → exchangesTo a b price rows m i s₀ ≡ some s → o ≡ bestFor a b price rows m s → o .row ≡ 0 → i < k → exchangesTo a b price rows m k s₀ ≡ none
+module _ (x : Given) (n : ℕ) (s₀ : State) where
+  pub exchanges-stuck : (i k : ℕ) (s : State) (f : ℕ) → exchangesTo x n i s₀ ≡ some s → f ≡ picked s → f ≡ 0 → i < k → exchangesTo x n k s₀ ≡ none
   unfolding exchangesTo exchangeAfter exchangeBy
-  exchanges-stuck i k s o e q z l = upwards (λ j. exchangesTo a b price rows m j s₀ ≡ none) (suc i) k l (rw (e, ← q, z)) (λ j h u p. rw p)
+  exchanges-stuck i k s f e q z l = upwards (λ j. exchangesTo x n j s₀ ≡ none) (suc i) k l (rw (e, ← q, z)) (λ j h u p. rw p)
 
-  pub exchanges-more : (i : ℕ) (s : Hung) (o : Offer) (chosen : ℕ → Bool) (branch : List ℕ) → exchangesTo a b price rows m i s₀ ≡ some s → o ≡ bestFor a b price rows m s → (o .row ≡ 0 → ⊥)
-      → chosen ≡ swapped (s .chosen) (o .out) (o .row) → branch ≡ followed a b (s .branch) (o .row) (o .out) → exchangesTo a b price rows m (i + 1) s₀ ≡ some (record { chosen = chosen; branch = branch })
-  unfolding exchangesTo exchangeAfter exchangeBy
-  exchanges-more i s o chosen branch e q p hc hb = rw (add-one, e, ← q) (go (o .row) p hc hb)
+  -- f comes in, and e is the row kept for it
+  pub exchanges-more : (i : ℕ) (s : State) (f e : ℕ) (chosen : ℕ → Bool) (own out cost : List ℕ) → exchangesTo x n i s₀ ≡ some s → f ≡ picked s → (f ≡ 0 → ⊥) → e ≡ getD (s .out) (f - 1) 0
+      → chosen ≡ swapped (s .chosen) e f → own ≡ columnsTurned (s .own) n e (written (pathOf x (s .own) f) f true)
+      → out ≡ filled (keptAs (s .out) e) (dearest x own) 0 (s .out) → cost ≡ filled (keptAs (s .out) e) (costs x own) 0 (s .cost)
+      → exchangesTo x n (i + 1) s₀ ≡ some (record { chosen = chosen; own = own; out = out; cost = cost })
+  unfolding exchangesTo exchangeAfter exchangeBy found turned
+  exchanges-more i s f e chosen own out cost q p nz he hc ho hk hp = rw (add-one, q, ← p) (go f nz he hc ho)
     where
-      go : (f : ℕ) → (f ≡ 0 → ⊥) → chosen ≡ swapped (s .chosen) (o .out) f → branch ≡ followed a b (s .branch) f (o .out) → exchangeBy a b f (o .out) s ≡ some (record { chosen = chosen; branch = branch })
-      go zero p hc hb = absurd (p refl)
-      go (suc j) p hc hb = rw (hc, hb)
+      go : (f : ℕ) → (f ≡ 0 → ⊥) → e ≡ getD (s .out) (f - 1) 0 → chosen ≡ swapped (s .chosen) e f → own ≡ columnsTurned (s .own) n e (written (pathOf x (s .own) f) f true) → exchangeBy x n f s ≡ some (record { chosen = chosen; own = own; out = out; cost = cost })
+      go zero nz he hc ho = absurd (nz refl)
+      go (suc j) nz he hc ho = rw (← he, ← hc, ← ho, ← hk, ← hp)
 
-pub ends-none : {o : Option Hung} {whole : Bool} {chosen : ℕ → Bool} → o ≡ none → whole ≡ false → chosen ≡ empty → Ends o whole chosen
+pub ends-none : {o : Option State} {whole : Bool} {chosen : ℕ → Bool} → o ≡ none → whole ≡ false → chosen ≡ empty → Ends o whole chosen
 unfolding isMade rowsLeft
 ends-none e p q = record { all = p ∙ sym (ap isMade e); rows = q ∙ sym (ap rowsLeft e) }
 
-pub ends-made : {o : Option Hung} {whole : Bool} {chosen : ℕ → Bool} {branch : List ℕ} → o ≡ some (record { chosen = chosen; branch = branch }) → whole ≡ true → Ends o whole chosen
+pub ends-made : {o : Option State} {whole : Bool} {s : State} → o ≡ some s → whole ≡ true → Ends o whole (s .chosen)
 unfolding isMade rowsLeft
 ends-made e p = record { all = p ∙ sym (ap isMade e); rows = sym (ap rowsLeft e) }

@@ -1,26 +1,33 @@
-// The exchanges that take rows at a vertex out of a tree, one at a time. For each vertex a column of numbers says on which row at r it hangs;
-// an exchange takes the heavier of the two rows on which the ends of a row hang, and what hung on it hangs on the other then.
-ghost use mathlib.Core.Bool.{cond};
+// The exchanges that take rows at a vertex r out of a tree, one at a time, by the path matrix from r. For each row that is not at r two columns of numbers keep the dearest row at r on its path,
+// found by MAX, and what their exchange costs. After an exchange the matrix is turned over, and only the rows for which the row that went out was kept are looked at anew.
+ghost use Prim.Native.Nat.{_+_, _-_, _<_};
+ghost use lib.ListN.{length, getD, set};
+ghost use mathlib.Core.Bool.{true};
 ghost use mathlib.Core.Path.{_≡_};
-ghost use lib.Dec.{eqb};
-ghost use Rattle.branches.specs.steps.Branches.{branchIn};
-ghost use Rattle.branches.specs.steps.Offers.{heavierOf, heavier, costOf, offerOf, offerAt, better, bestTo, otherOf};
-ghost use Rattle.rowset.specs.Bytes.{inRow};
-ghost use Rattle.slice.specs.Slices.{component};
-ghost use Rattle.reductions.specs.steps.Columns.{priceIn, offerFrom};
-ghost use Rattle.reductions.specs.steps.Exchanges.{movedIn, followed, swapped, exchangesTo, Ends};
+ghost use Rattle.exchange.specs.Turned.{columnsTurned};
+ghost use Rattle.offers.specs.steps.Offers.{costOf, cheaper, cheapestTo};
+ghost use Rattle.matrix.specs.Matrix.{matrixColumn};
+ghost use Rattle.rowset.specs.Columns.{width};
+ghost use Rattle.rowset.specs.Integers.{integerIn};
+ghost use Rattle.rowset.specs.Searches.{largest};
+ghost use Rattle.rowset.specs.Sets.{both, uppermost};
+ghost use Rattle.slice.specs.Slices.{size, component, written};
+ghost use Rattle.reductions.specs.steps.Columns.{givenOf, pickOf, priceIn};
+ghost use Rattle.reductions.specs.steps.Exchanges.{numberOf, between, dearest, filled, costs, keptAs, swapped, firstState, exchangesTo, Ends};
 use checks::row_byte;
 use claim::flipped_weight;
+use slice::SIZE;
 use slice::Slice;
 
-// 2 ^ 32, which is added to a cost.
+// 2 ^ 32, which is added to a cost, and 2 ^ 33, the cost where there is no exchange.
 const ABOVE: u64 = 4294967296;
 
-// An exchange: the row that comes in, 0 where there is none, the row that goes out, and 2 ^ 32 more than what it costs.
-pub struct Offer {
-    pub row: usize,
-    pub out: usize,
-    pub cost: u64,
+const NONE: u64 = 8589934592;
+
+// A row that could come in, 0 where there is none, and what its exchange costs.
+struct Pick {
+    row: usize,
+    cost: u64,
 }
 
 // What is left of a tree: whether all exchanges were made, and the rows then, none where they were not.
@@ -29,205 +36,271 @@ pub struct Reduced {
     pub chosen: Slice,
 }
 
-// The row on which vertex v hangs, 0 past the column's end.
-pub fn branch_of(branch: &[usize], v: usize) -> usize
-    ensures { λ r. ⌜ r ≡ branchIn (now (branch .entry)) v ⌝ }
+// The number at place j of a column, counted from 0; 0 past its end.
+fn number_at(column: &[usize], j: usize) -> usize
+    ensures { λ r. ⌜ r ≡ getD (now (column .entry)) j 0 ⌝ }
 {
-    if v < branch.len() {
-        return branch[v];
+    if j < column.len() {
+        return column[j];
     }
     0
 }
 
-// No exchange.
-fn no_offer() -> Offer
-    ensures { λ r. ⌜ offerFrom r ≡ record { row = 0; out = 0; cost = 0 } ⌝ }
+// The rows on the tree path between row i's ends, from the path matrix.
+fn path_of(own: &[u64], left: &[u8], right: &[u8], i: usize) -> Slice
+    ensures { λ r. ⌜ component r ≡ between (now (own .entry)) (now (left .entry)) (now (right .entry)) i ⌝ }
 {
-    Offer {
-        row: 0,
-        out: 0,
-        cost: 0,
-    }
+    let a = row_byte(left, i) as usize;
+    let b = row_byte(right, i) as usize;
+    slice::xor(matrix::read_column(own, a), matrix::read_column(own, b))
 }
 
-// Of two rows, one above the other, the lower one where it is heavier.
-fn heavier_of(weight: &[u8], upper: usize, lower: usize) -> usize
-    ensures { λ r. ⌜ r ≡ heavierOf (priceIn (now (weight .entry))) upper lower ⌝ }
+// FND of MAX over the path and the rows at r: the dearest row at r on row i's path, the uppermost among equals; 0 where there is none.
+fn dearest_at(
+    left: &[u8],
+    right: &[u8],
+    weights: &[u64],
+    first: usize,
+    at: Slice,
+    own: &[u64],
+    i: usize,
+) -> usize
+    ensures { λ r.
+        let w = integerIn (matrixColumn (now (weights .entry))) first (width - first) in
+        ⌜ r ≡ uppermost size (largest size w (both (between (now (own .entry)) (now (left .entry)) (now (right .entry)) i) (component at))) ⌝ }
 {
-    if flipped_weight(weight, upper) < flipped_weight(weight, lower) {
-        return lower;
+    let path = path_of(own, left, right, i);
+    let here = slice::and(path, at);
+    if slice::zero(here) {
+        return 0;
     }
-    upper
+    slice::fnd(lent::max_from(weights, first, here))
 }
 
-// Of two rows the heavier, the upper one where they weigh the same.
-fn heavier(weight: &[u8], x: usize, y: usize) -> usize
-    ensures { λ r. ⌜ r ≡ heavier (priceIn (now (weight .entry))) x y ⌝ }
-{
-    if y < x {
-        return heavier_of(weight, y, x);
-    }
-    heavier_of(weight, x, y)
-}
-
-// 2 ^ 32 more than the weight of row f less that of row e.
+// 2 ^ 32 more than the weight of row f less that of row e; 2 ^ 33 where e is 0.
 fn cost_of(weight: &[u8], f: usize, e: usize) -> u64
     ensures { λ r. ⌜ r ≡ costOf (priceIn (now (weight .entry))) f e ⌝ }
 {
+    if e == 0 {
+        return NONE;
+    }
     let above = flipped_weight(weight, f) as u64;
     let below = flipped_weight(weight, e) as u64;
     ABOVE + above - below
 }
 
-// Row f, whose ends hang on the rows x and y, for the heavier of them.
-fn offer_of(weight: &[u8], x: usize, y: usize, f: usize) -> Offer
-    ensures { λ r. ⌜ offerFrom r ≡ offerOf (priceIn (now (weight .entry))) x y f ⌝ }
-{
-    if x == y {
-        return no_offer();
-    }
-    let e = heavier(weight, x, y);
-    Offer {
-        row: f,
-        out: e,
-        cost: cost_of(weight, f, e),
-    }
-}
-
-// The exchange for row f where it is one of the rows.
-fn offer_at(
+// The row that would go out for row j + 1 and its cost are found and kept at place j.
+fn find(
     left: &[u8],
     right: &[u8],
     weight: &[u8],
-    branch: &[usize],
+    weights: &[u64],
+    first: usize,
+    at: Slice,
+    own: &[u64],
+    j: usize,
+    out: &mut [usize],
+    cost: &mut [u64],
+)
+    requires { ⌜ (j < length (now out)) × (j < length (now cost)) ⌝ }
+    ensures out { λ r.
+        let x = givenOf (now (left .entry)) (now (right .entry)) (now (weight .entry)) (now (weights .entry)) first (component at) in
+        ⌜ now (out .exit) ≡ set (now (out .entry)) j (dearest x (now (own .entry)) (j + 1)) ⌝ }
+    ensures cost { λ r.
+        let x = givenOf (now (left .entry)) (now (right .entry)) (now (weight .entry)) (now (weights .entry)) first (component at) in
+        ⌜ now (cost .exit) ≡ set (now (cost .entry)) j (costs x (now (own .entry)) (j + 1)) ⌝ }
+{
+    let e = dearest_at(left, right, weights, first, at, own, j + 1);
+    out[j] = e;
+    cost[j] = cost_of(weight, j + 1, e);
+}
+
+// The rows of a slice are looked at.
+fn find_all(
+    left: &[u8],
+    right: &[u8],
+    weight: &[u8],
+    weights: &[u64],
+    first: usize,
+    at: Slice,
+    own: &[u64],
     rows: Slice,
+    out: &mut [usize],
+    cost: &mut [u64],
+)
+    requires { ⌜ length (now out) ≡ length (now cost) ⌝ }
+    ensures out { λ r.
+        let x = givenOf (now (left .entry)) (now (right .entry)) (now (weight .entry)) (now (weights .entry)) first (component at) in
+        ⌜ now (out .exit) ≡ filled (component rows) (dearest x (now (own .entry))) 0 (now (out .entry)) ⌝ }
+    ensures cost { λ r.
+        let x = givenOf (now (left .entry)) (now (right .entry)) (now (weight .entry)) (now (weights .entry)) first (component at) in
+        ⌜ now (cost .exit) ≡ filled (component rows) (costs x (now (own .entry))) 0 (now (cost .entry)) ⌝ }
+{
+    let mut j = 0;
+    while j < out.len() {
+        if slice::get(rows, j + 1) {
+            find(left, right, weight, weights, first, at, own, j, out, cost);
+        }
+        j += 1;
+    }
+}
+
+// The rows for which row e is kept are looked at anew.
+fn find_again(
+    left: &[u8],
+    right: &[u8],
+    weight: &[u8],
+    weights: &[u64],
+    first: usize,
+    at: Slice,
+    own: &[u64],
+    e: usize,
+    out: &mut [usize],
+    cost: &mut [u64],
+)
+    requires { ⌜ length (now out) ≡ length (now cost) ⌝ }
+    ensures out { λ r.
+        let x = givenOf (now (left .entry)) (now (right .entry)) (now (weight .entry)) (now (weights .entry)) first (component at) in
+        ⌜ now (out .exit) ≡ filled (keptAs (now (out .entry)) e) (dearest x (now (own .entry))) 0 (now (out .entry)) ⌝ }
+    ensures cost { λ r.
+        let x = givenOf (now (left .entry)) (now (right .entry)) (now (weight .entry)) (now (weights .entry)) first (component at) in
+        ⌜ now (cost .exit) ≡ filled (keptAs (now (out .entry)) e) (costs x (now (own .entry))) 0 (now (cost .entry)) ⌝ }
+{
+    let mut j = 0;
+    while j < out.len() {
+        if out[j] == e {
+            find(left, right, weight, weights, first, at, own, j, out, cost);
+        }
+        j += 1;
+    }
+}
+
+// Row f where it costs less than what was picked before.
+fn cheaper(best: Pick, f: usize, cost: u64) -> Pick
+    ensures { λ r. ⌜ pickOf r ≡ cheaper (pickOf best) f cost ⌝ }
+{
+    if cost < best.cost {
+        return Pick { row: f, cost: cost };
+    }
+    best
+}
+
+// The row whose exchange costs least, the uppermost among equals; 0 where there is no exchange.
+fn cheapest(cost: &[u64]) -> usize
+    ensures { λ r. ⌜ r ≡ cheapestTo (numberOf (now (cost .entry))) (length (now (cost .entry))) .row ⌝ }
+{
+    let mut best = Pick { row: 0, cost: NONE };
+    let mut j = 0;
+    while j < cost.len() {
+        best = cheaper(best, j + 1, cost[j]);
+        j += 1;
+    }
+    best.row
+}
+
+// Row e goes out of a tree and row f comes in: the columns of the path matrix that have e are turned over by the ring.
+fn swap(
+    n: usize,
+    left: &[u8],
+    right: &[u8],
+    e: usize,
     f: usize,
-) -> Offer
-    ensures { λ r. ⌜ offerFrom r ≡ offerAt (inRow 1 (now (left .entry))) (inRow 1 (now (right .entry))) (priceIn (now (weight .entry))) (branchIn (now (branch .entry))) (component rows) f ⌝ }
+    tree: Slice,
+    own: &mut [u64],
+) -> Slice
+    ensures chosen { λ r. ⌜ component r ≡ swapped (component tree) e f ⌝ }
+    ensures own { λ r. ⌜ now (own .exit) ≡ columnsTurned (now (own .entry)) n e (written (between (now (own .entry)) (now (left .entry)) (now (right .entry)) f) f true) ⌝ }
 {
-    if !slice::get(rows, f) {
-        return no_offer();
-    }
-    let x = branch_of(branch, row_byte(left, f) as usize);
-    let y = branch_of(branch, row_byte(right, f) as usize);
-    offer_of(weight, x, y, f)
-}
-
-// The cheaper of two exchanges, the first where they cost the same.
-fn better(best: Offer, next: Offer) -> Offer
-    ensures { λ r. ⌜ offerFrom r ≡ better (offerFrom best) (offerFrom next) ⌝ }
-{
-    if next.row == 0 {
-        return best;
-    }
-    if best.row == 0 {
-        return next;
-    }
-    if next.cost < best.cost {
-        return next;
-    }
-    best
-}
-
-// The cheapest exchange for one of the rows 1 to m, the uppermost among equals.
-pub fn best_offer(
-    m: usize,
-    rows: Slice,
-    left: &[u8],
-    right: &[u8],
-    weight: &[u8],
-    branch: &[usize],
-) -> Offer
-    ensures { λ r. ⌜ offerFrom r ≡ bestTo (inRow 1 (now (left .entry))) (inRow 1 (now (right .entry))) (priceIn (now (weight .entry))) (branchIn (now (branch .entry))) (component rows) m ⌝ }
-{
-    let mut best = no_offer();
-    let mut i = 0;
-    while i < m {
-        i += 1;
-        let next = offer_at(left, right, weight, branch, rows, i);
-        best = better(best, next);
-    }
-    best
-}
-
-// The other of two rows.
-fn other_of(x: usize, y: usize, e: usize) -> usize
-    ensures { λ r. ⌜ r ≡ otherOf x y e ⌝ }
-{
-    if x == e {
-        return y;
-    }
-    x
-}
-
-// x in place of e.
-fn in_place(row: usize, e: usize, x: usize) -> usize
-    ensures { λ r. ⌜ r ≡ cond (eqb row e) x row ⌝ }
-{
-    if row == e {
-        return x;
-    }
-    row
-}
-
-// What hung on row e hangs on row x.
-fn move_branches(branch: &mut [usize], e: usize, x: usize)
-    ensures { λ _. ⌜ now (branch .exit) ≡ movedIn (now (branch .entry)) e x ⌝ }
-{
-    let mut v = 0;
-    while v < branch.len() {
-        branch[v] = in_place(branch[v], e, x);
-        v += 1;
-    }
-}
-
-// The branches after row e goes out for row f: what hung on e hangs where the other end of f does.
-fn follow(left: &[u8], right: &[u8], branch: &mut [usize], f: usize, e: usize)
-    ensures { λ _. ⌜ now (branch .exit) ≡ followed (inRow 1 (now (left .entry))) (inRow 1 (now (right .entry))) (now (branch .entry)) f e ⌝ }
-{
-    let x = branch_of(branch, row_byte(left, f) as usize);
-    let y = branch_of(branch, row_byte(right, f) as usize);
-    move_branches(branch, e, other_of(x, y, e));
-}
-
-// The rows of a tree with row e out and row f in.
-fn exchanged(tree: Slice, e: usize, f: usize) -> Slice
-    ensures { λ r. ⌜ component r ≡ swapped (component tree) e f ⌝ }
-{
+    let path = path_of(own, left, right, f);
+    exchange::turn_columns(own, n, e, slice::put(path, f, true));
     slice::put(slice::put(tree, e, false), f, true)
 }
 
-// The tree after k exchanges of least cost, each for one of the rows 1 to m of a slice that has none at r.
-pub fn exchanges(
-    m: usize,
-    rows: Slice,
+// The tree after k exchanges of least cost.
+fn exchanges(
+    n: usize,
     left: &[u8],
     right: &[u8],
     weight: &[u8],
+    weights: &[u64],
+    first: usize,
+    at: Slice,
     k: usize,
     tree: Slice,
-    branch: &mut [usize],
+    own: &mut [u64],
+    out: &mut [usize],
+    cost: &mut [u64],
 ) -> Reduced
-    ensures { λ r. ⌜ Ends (exchangesTo (inRow 1 (now (left .entry))) (inRow 1 (now (right .entry))) (priceIn (now (weight .entry))) (component rows) m k (record { chosen = component tree; branch = now (branch .entry) })) (r .whole) (component (r .chosen)) ⌝ }
+    requires { ⌜ length (now out) ≡ length (now cost) ⌝ }
+    ensures { λ r.
+        let x = givenOf (now (left .entry)) (now (right .entry)) (now (weight .entry)) (now (weights .entry)) first (component at) in
+        ⌜ Ends (exchangesTo x n k (record { chosen = component tree; own = now (own .entry); out = now (out .entry); cost = now (cost .entry) })) (r .whole) (component (r .chosen)) ⌝ }
 {
     let mut chosen = tree;
     let mut i = 0;
     while i < k {
-        let best = best_offer(m, rows, left, right, weight, branch);
-        let f = best.row;
-        let e = best.out;
+        let f = cheapest(cost);
         if f == 0 {
             return Reduced {
                 whole: false,
                 chosen: Slice::empty(),
             };
         }
-        follow(left, right, branch, f, e);
-        chosen = exchanged(chosen, e, f);
+        let e = number_at(out, f - 1);
+        chosen = swap(n, left, right, e, f, chosen, own);
+        find_again(left, right, weight, weights, first, at, own, e, out, cost);
         i += 1;
     }
     Reduced {
         whole: true,
         chosen: chosen,
     }
+}
+
+// The tree after k exchanges of least cost, each for a row of a slice, which has no row at r, and for one of the rows at r. The path matrix lent is the tree's from r.
+pub fn reduce(
+    n: usize,
+    left: &[u8],
+    right: &[u8],
+    weight: &[u8],
+    weights: &[u64],
+    first: usize,
+    at: Slice,
+    rest: Slice,
+    k: usize,
+    tree: Slice,
+    own: &mut [u64],
+) -> Reduced
+    ensures { λ r.
+        let x = givenOf (now (left .entry)) (now (right .entry)) (now (weight .entry)) (now (weights .entry)) first (component at) in
+        ⌜ Ends (exchangesTo x n k (firstState x (component rest) (component tree) (now (own .entry)))) (r .whole) (component (r .chosen)) ⌝ }
+{
+    let mut out = [0usize; SIZE];
+    let mut cost = [NONE; SIZE];
+    find_all(
+        left,
+        right,
+        weight,
+        weights,
+        first,
+        at,
+        own,
+        rest,
+        &mut out,
+        &mut cost,
+    );
+    exchanges(
+        n,
+        left,
+        right,
+        weight,
+        weights,
+        first,
+        at,
+        k,
+        tree,
+        own,
+        &mut out,
+        &mut cost,
+    )
 }

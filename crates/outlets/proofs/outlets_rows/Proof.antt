@@ -1,11 +1,12 @@
 -- `outlets::outlets_rows` meets its contract in each of its four cases: the table or the vertex is refused, there is no tree, none has exactly t rows at r, or a tree is built. Assumes nothing.
 use mathlib.Core.Logic.{⊎-elim}
-use mathlib.Core.Path.{refl, _∙_}
+use mathlib.Core.Path.{_∙_}
 use borrow.Author.Needs.{needs}
 use borrow.Author.Tests.{not-true, not-false}
+use Rattle.exact.proofs.Trees.{no-tree, some-tree, left-tree}
 use Rattle.mst1.specs.Answers.{answerOf}
 use Rattle.rowset.proofs.Laws.{clash}
-use Rattle.outlets.proofs.Trees.{loaded-sound, few-vertices, no-tree, some-tree, left-tree, table-refused, accepted, tree-refused, exchanges-refused, exchanges-built}
+use Rattle.outlets.proofs.Answers.{table-refused, accepted, tree-refused, exchanges-refused, exchanges-built}
 use Rattle.outlets.proofs.outlets_rows.Statement.{statement}
 use Rattle.outlets.proofs.outlets_rows.Tie as tie
 
@@ -13,56 +14,39 @@ returns : tie.Need-returns
 unfolding answerOf
 returns c = table-refused _ _ _ (c .before .before .before .vertex-check .ensures) (c .before .refusal .given .1)
 
-start-of-requires : tie.Need-start-of-requires
-start-of-requires c κs =
-    let k = c .before in
-    let (ok, v) = accepted _ _ 0 (k .before .before .vertex-check .ensures) (k .enum-told .given .1) in
-    (loaded-sound _ ok _ v, few-vertices _ ok _ v, refl, v .0, v .1)
-
 returns-2 : tie.Need-returns-2
 unfolding answerOf
 returns-2 c =
-    let s = c .before .before .before in
-    let k = s .before .before in
-    let checked = k .before .before .vertex-check .ensures in
-    let told = k .enum-told .given .1 in
+    let checked = c .before .before .before .before .before .vertex-check .ensures in
+    let told = c .before .before .before .enum-told .given .1 in
     let (ok, v) = accepted _ _ 0 checked told in
-    tree-refused _ _ _ checked told (no-tree _ ok _ v (s .start-of .ensures .0) (not-true _ (c .if1 .taken)))
+    tree-refused _ _ _ checked told (no-tree _ ok _ v (c .before .before .make .ensures) (not-true _ (c .if1 .taken)))
 
 returns-3 : tie.Need-returns-3
 unfolding answerOf
 returns-3 c =
-    let x = c .before .before .before in
-    let d = x .before .before .before .before in
-    let s = d .before .before .before in
-    let k = s .before .before in
-    let checked = k .before .before .vertex-check .ensures in
-    let told = k .enum-told .given .1 in
+    let checked = c .before .before .before .before .before .before .before .vertex-check .ensures in
+    let told = c .before .before .before .before .before .enum-told .given .1 in
     let (ok, v) = accepted _ _ 0 checked told in
-    let whole = not-false _ (d .if1 .left) in
+    let whole = not-false _ (c .before .before .if1 .left) in
     ⊎-elim
-    (λ (a, q). exchanges-refused _ _ _ checked told (some-tree _ ok _ v (s .start-of .ensures .0) whole) q)
+    (λ (a, q). exchanges-refused _ _ _ checked told (some-tree _ ok _ v (c .before .before .before .before .make .ensures) whole) q)
     (λ (a, q). clash a (not-true _ (c .if2 .taken)))
-    (left-tree _ ok _ v (s .start-of .ensures .0) whole (s .start-of .ensures .1) _ _ refl (x .reduce .ensures))
+    (left-tree _ ok _ v (c .before .before .before .before .make .ensures) whole)
 
 returns-4 : tie.Need-returns-4
 unfolding answerOf
 returns-4 c =
-    let y = c .before .before .before .before .before in
-    let x = y .before .before .before in
-    let d = x .before .before .before .before in
-    let s = d .before .before .before in
-    let k = s .before .before in
-    let checked = k .before .before .vertex-check .ensures in
-    let told = k .enum-told .given .1 in
+    let checked = c .before .before .before .before .before .before .before .before .before .before .before .before .before .vertex-check .ensures in
+    let told = c .before .before .before .before .before .before .before .before .before .before .before .enum-told .given .1 in
     let (ok, v) = accepted _ _ 0 checked told in
-    let whole = not-false _ (d .if1 .left) in
+    let whole = not-false _ (c .before .before .before .before .before .before .before .before .if1 .left) in
     ⊎-elim
-    (λ (a, q). clash (not-false _ (y .if2 .left)) a)
+    (λ (a, q). clash (not-false _ (c .before .before .before .before .before .before .if2 .left)) a)
     (λ (a, q).
-    let (answer, marks) = exchanges-built _ _ _ checked told (some-tree _ ok _ v (s .start-of .ensures .0) whole) _ q _ (c .weigh .ensures) in
+    let (answer, marks) = exchanges-built _ _ _ checked told (some-tree _ ok _ v (c .before .before .before .before .before .before .before .before .before .before .make .ensures) whole) _ q _ (c .weigh .ensures) in
     (answer, c .before .before .before .write-claim .ensures ∙ marks))
-    (left-tree _ ok _ v (s .start-of .ensures .0) whole (s .start-of .ensures .1) _ _ refl (x .reduce .ensures))
+    (left-tree _ ok _ v (c .before .before .before .before .before .before .before .before .before .before .make .ensures) whole)
 
 pub outlets-rows-spec : {M : Type 1} → statement M
 outlets-rows-spec =
@@ -73,12 +57,9 @@ outlets-rows-spec =
     (λ c. search needs)
     returns
     (λ c. search needs)
-    (λ c. search needs)
-    start-of-requires
+    (λ c κs. search needs)
     (λ c. search needs)
     returns-2
-    (λ c. search needs)
-    (λ c κs. search needs)
     (λ c. search needs)
     returns-3
     (λ c κs. search needs)

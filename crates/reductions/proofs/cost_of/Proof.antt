@@ -1,13 +1,33 @@
--- `reductions::cost_of` meets its contract. Assumes nothing.
+-- `reductions::cost_of` meets its contract: there is a row to go out, or there is none. Assumes nothing.
+use Prim.Native.Nat.{ℕ, zero, suc, _+_, _-_}
 use borrow.Author.Needs.{needs}
+use mathlib.Core.Path.{_≡_, refl}
 use native.Mathlib.Omega.{arith}
-use Rattle.branches.specs.steps.Offers.{costOf}
+use Rattle.offers.specs.steps.Offers.{costOf}
 use Rattle.reductions.proofs.cost_of.Statement.{statement}
 use Rattle.reductions.proofs.cost_of.Tie as tie
 
+some-cost : (price : ℕ → ℕ) (f e : ℕ) → (e ≡ 0 → ⊥) → (4294967296 + price f) - price e ≡ costOf price f e
+unfolding costOf
+some-cost price f zero h = absurd (h refl)
+some-cost price f (suc j) h = refl
+
 returns : tie.Need-returns
 unfolding costOf
-returns c = omega arith
+returns c = rw (c .if1 .taken)
+
+returns-2 : tie.Need-returns-2
+returns-2 c = rw (c .before .flipped-weight .ensures, c .flipped-weight2 .ensures) (some-cost _ _ _ (c .before .before .if1 .left))
 
 pub cost-of-spec : {M : Type 1} → statement M
-cost-of-spec = tie.close (tie.spec (λ c κs. search needs) (λ c. search needs) (λ c κs. search needs) (λ c. search needs) (λ c. search needs) (λ c. search needs) returns)
+cost-of-spec =
+    tie.close
+    (tie.spec
+    returns
+    (λ c κs. search needs)
+    (λ c. search needs)
+    (λ c κs. search needs)
+    (λ c. search needs)
+    (λ c. search needs)
+    (λ c. search needs)
+    returns-2)

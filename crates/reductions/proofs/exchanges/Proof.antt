@@ -1,56 +1,60 @@
--- `reductions::exchanges` meets its contract. The loop's invariant: the rows and the branches are those after i exchanges. The measure is what is left of the exchanges. Assumes nothing.
+-- `reductions::exchanges` meets its contract. The loop's invariant: the rows, the path matrix and what is kept are those after i exchanges. The measure is what is left of the exchanges. Assumes nothing.
 use Prim.Native.Nat.{_-_, _≤_, _<_, _^_}
 use borrow.Author.Needs.{needs}
 use lib.ListN.{length}
 use mathlib.Core.Option.{some}
 use mathlib.Core.Path.{_≡_, refl, _∙_, ap}
 use native.Mathlib.Omega.{arith}
-use Rattle.reductions.specs.steps.Columns.{priceIn, offerFrom}
-use Rattle.reductions.specs.steps.Exchanges.{bestFor, exchangesTo}
-use Rattle.reductions.proofs.Turns.{length-followed, exchanges-stuck, exchanges-more, ends-none, ends-made}
-use Rattle.rowset.specs.Bytes.{inRow}
+use Rattle.exchange.proofs.Turned.{length-all-turned}
+use Rattle.reductions.specs.steps.Columns.{givenOf}
+use Rattle.reductions.specs.steps.Exchanges.{State, picked, exchangesTo}
+use Rattle.reductions.proofs.Fills.{length-filled}
+use Rattle.reductions.proofs.Turns.{exchanges-stuck, exchanges-more, ends-none, ends-made}
 use Rattle.slice.specs.Slices.{component}
 use Rattle.reductions.proofs.exchanges.Statement.{statement}
 use Rattle.reductions.proofs.exchanges.Tie as tie
 
 abbrev Inv-loop : tie.InvT-loop
-Inv-loop m rows left right weight k branch₀ chosen₀ i₀ branch chosen i =
-    (i ≤ k) × (k < 2 ^ 64) × (length branch ≡ length branch₀)
-    × (exchangesTo (inRow 1 left) (inRow 1 right) (priceIn weight) (component rows) m i (record { chosen = component chosen₀; branch = branch₀ }) ≡ some (record { chosen = component chosen; branch = branch }))
+Inv-loop n left right weight weights first at k own₀ out₀ cost₀ chosen₀ i₀ own out cost chosen i =
+    (i ≤ k) × (k < 2 ^ 64) × (length own ≡ length own₀) × (length out ≡ length out₀) × (length cost ≡ length cost₀) × (length out₀ ≡ length cost₀)
+    × (exchangesTo (givenOf left right weight weights first (component at)) n i (record { chosen = component chosen₀; own = own₀; out = out₀; cost = cost₀ }) ≡ some (record { chosen = component chosen; own = own; out = out; cost = cost }))
 
 abbrev μ-loop : tie.MeasureT-loop
-μ-loop m rows left right weight k branch₀ chosen₀ i₀ branch chosen i = k - i
+μ-loop n left right weight weights first at k own₀ out₀ cost₀ chosen₀ i₀ own out cost chosen i = k - i
 
 loop-holds : tie.Need-loop-holds Inv-loop μ-loop
 unfolding exchangesTo
-loop-holds c = (omega arith, omega arith, refl, refl)
-
-same-length : tie.Need-same-length Inv-loop μ-loop
-same-length c = search needs
+loop-holds c = (omega arith, omega arith, refl, refl, refl, c .before .before .before .before .before .before .before .pre, refl)
 
 returns : tie.Need-returns Inv-loop μ-loop
-unfolding bestFor
+unfolding picked
 returns c =
     let l = c .before .before .before .before .before .loop in
-    ends-none (exchanges-stuck _ _ _ _ _ _ (l .i) _ _ (offerFrom (c .before .before .best-offer .result)) (l .inv .3) (c .before .before .best-offer .ensures) (c .before .if1 .taken) (omega arith)) refl (c .empty .ensures)
+    ends-none (exchanges-stuck _ _ _ (l .i) _ _ _ (l .inv .6) (c .before .before .cheapest .ensures) (c .before .if1 .taken) (c .before .before .before .before .loop-test .taken)) refl (c .empty .ensures)
+
+find-again-requires : tie.Need-find-again-requires Inv-loop μ-loop
+find-again-requires c κs = let l = c .before .before .before .before .before .before .before .before .before .before .before .before .before .loop in omega (arith, l .inv .3, l .inv .4, l .inv .5)
 
 loop-again : tie.Need-loop-again Inv-loop μ-loop
-unfolding bestFor
+unfolding picked
 loop-again c =
-    let f = c .before .before .before in
-    let o = f .before .before .before in
-    let l = o .before .before .before .loop in
-    (omega arith, omega arith, ap length (f .follow .ensures) ∙ length-followed _ _ _ _ _ ∙ l .inv .2, exchanges-more _ _ _ _ _ _ (l .i) _ (offerFrom (o .best-offer .result)) _ _ (l .inv .3) (o .best-offer .ensures) (f .before .before .if1 .left) (c .exchanged .ensures) (f .follow .ensures))
-
-same-length-2 : tie.Need-same-length-2 Inv-loop μ-loop
-same-length-2 c = search needs
+    let a = c .before .before .before .before in
+    let s = c .before .before .before .before .before .before .before .before .before .before in
+    let l = c .before .before .before .before .before .before .before .before .before .before .before .before .before .before .before .before .before .before .loop in (
+      omega (arith, c .before .before .before .before .before .before .before .before .before .before .before .before .before .before .before .before .before .loop-test .taken),
+      l .inv .1,
+      ap length (s .swap .ensures .1) ∙ length-all-turned _ _ _ _ ∙ l .inv .2,
+      ap length (a .find-again .ensures .0) ∙ length-filled _ _ _ _ ∙ l .inv .3,
+      ap length (a .find-again .ensures .1) ∙ length-filled _ _ _ _ ∙ l .inv .4,
+      l .inv .5,
+      exchanges-more _ _ _ (l .i) _ _ _ _ _ _ _ (l .inv .6) (c .before .before .before .before .before .before .before .before .before .before .before .before .before .before .before .cheapest .ensures) (c .before .before .before .before .before .before .before .before .before .before .before .before .before .before .if1 .left) (c .before .before .before .before .before .before .before .before .before .before .before .before .number-at .ensures) (s .swap .ensures .0) (s .swap .ensures .1) (a .find-again .ensures .0) (a .find-again .ensures .1),
+    )
 
 returns-2 : tie.Need-returns-2 Inv-loop μ-loop
 returns-2 c =
     let l = c .before .loop in
-    let a = c .before .before .before .before .before .before .args in
-    let all : l .i ≡ a .k = omega arith in
-    ends-made {branch = l .branch} (rw (← all) (l .inv .3)) refl
+    let all : l .i ≡ c .before .before .before .before .before .before .before .before .before .args .k = omega arith in
+    ends-made {s = record { chosen = component (l .chosen); own = l .own; out = l .out; cost = l .cost }} (rw (← all) (l .inv .6)) refl
 
 pub exchanges-spec : {M : Type 1} → statement M
 exchanges-spec =
@@ -61,12 +65,18 @@ exchanges-spec =
     loop-holds
     (λ c κs. search needs)
     (λ c κs. search needs)
-    same-length
+    (λ c. c .before .before .before .before .before .loop .inv .2)
+    (λ c. c .before .before .before .before .before .loop .inv .3)
+    (λ c. c .before .before .before .before .before .loop .inv .4)
     returns
+    (λ c. omega (arith, c .before .if1 .left))
     (λ c κs. search needs)
     (λ c κs. search needs)
-    (λ c. omega arith)
-    (λ c. omega arith)
+    find-again-requires
+    (λ c. omega (arith, c .before .before .before .before .before .before .before .before .before .before .before .before .before .before .before .before .before .loop-test .taken, c .before .before .before .before .before .before .before .before .before .before .before .before .before .before .before .before .before .before .loop .inv .1))
+    (λ c. omega (arith, c .before .before .before .before .before .before .before .before .before .before .before .before .before .before .before .before .before .loop-test .taken))
     loop-again
-    same-length-2
+    (λ c. c .before .loop .inv .2)
+    (λ c. c .before .loop .inv .3)
+    (λ c. c .before .loop .inv .4)
     returns-2)

@@ -1,23 +1,34 @@
--- `start::preferred` meets its contract: FND of MIN over the rows at r, and then over all. Assumes nothing.
+-- `start::preferred` meets its contract: there is a row at r, or there is none. Assumes nothing.
 use Prim.Native.Nat.{ℕ, zero, suc}
 use borrow.Author.Needs.{needs}
-use mathlib.Core.Path.{_≡_, refl, sym}
+use mathlib.Core.Path.{_≡_, refl, sym, _∙_}
 use Rattle.rowset.specs.Sets.{firstOf}
 use Rattle.start.proofs.preferred.Statement.{statement}
 use Rattle.start.proofs.preferred.Tie as tie
 
--- the first of two positions is the one that is there
-here : (i k : ℕ) → (i ≡ 0 → ⊥) → firstOf i k ≡ i
+first-none : (i k : ℕ) → i ≡ 0 → k ≡ firstOf i k
 unfolding firstOf
-here zero k p = absurd (p refl)
-here (suc j) k p = refl
+first-none i k e = rw e
+
+first-some : (i j k : ℕ) → (i ≡ 0 → ⊥) → i ≡ j → i ≡ firstOf j k
+unfolding firstOf
+first-some zero j k h e = absurd (h refl)
+first-some (suc i) j k h e = rw (← e)
 
 returns : tie.Need-returns
-unfolding firstOf
-returns c = rw (← c .before .before .before .and .ensures, ← c .before .before .cheapest .ensures, c .before .if1 .taken) (c .cheapest2 .ensures)
+returns c = let chosen = first-none (c .before .before .before .fnd .result) (c .fnd2 .result) (c .before .before .if1 .taken) in cc
 
 returns-2 : tie.Need-returns-2
-returns-2 c = rw (← c .before .before .and .ensures, ← c .before .cheapest .ensures) (sym (here _ _ (c .if1 .left)))
+returns-2 c = first-some _ _ _ (c .if1 .left) (cc)
 
 pub preferred-spec : {M : Type 1} → statement M
-preferred-spec = tie.close (tie.spec (λ c κs. search needs) (λ c κs. search needs) (λ c κs. search needs) returns returns-2)
+preferred-spec =
+    tie.close
+    (tie.spec
+    (λ c κs. search needs)
+    (λ c κs. search needs)
+    (λ c κs. search needs)
+    (λ c κs. search needs)
+    (λ c κs. search needs)
+    returns
+    returns-2)

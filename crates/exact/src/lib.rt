@@ -1,0 +1,165 @@
+// The tree with exactly t rows at a vertex r on the machine: the columns are loaded once, the start prefers rows at r, a walk over it fills the path matrix from r, and exchanges take rows at r out until t are left.
+ghost use Prim.Native.Nat.{_-_};
+ghost use mathlib.Core.Path.{_≡_};
+ghost use Rattle.matrix.specs.Matrix.{matrixColumn};
+ghost use Rattle.path.specs.steps.Walks.{endsIn};
+ghost use Rattle.reductions.specs.steps.Columns.{givenOf};
+ghost use Rattle.reductions.specs.steps.Exchanges.{Ends};
+ghost use Rattle.rowset.specs.Columns.{width};
+ghost use Rattle.rowset.specs.Integers.{integerIn, signed};
+ghost use Rattle.rowset.specs.Sets.{count};
+ghost use Rattle.slice.specs.Slices.{size, component};
+ghost use Rattle.table.specs.Loads.{loadedRow};
+ghost use Rattle.exact.specs.steps.Reduced.{reducedFrom, Makes};
+use reductions::Reduced;
+use slice::SIZE;
+use slice::Slice;
+use slice::rows::rows_among;
+
+// The words of a table's columns.
+const COLUMNS: usize = 512;
+
+// The weight column as a table's columns, and the number of columns on the left that only repeat the sign.
+struct Weights {
+    columns: [u64; COLUMNS],
+    first: usize,
+}
+
+// What is made: whether there is a tree at all, whether there is one with exactly t rows at r, and its rows, none where there is none.
+pub struct Made {
+    pub joined: bool,
+    pub whole: bool,
+    pub chosen: Slice,
+}
+
+// The number of rows of a slice.
+fn count_rows(x: Slice) -> usize
+    ensures { λ r. ⌜ r ≡ count size (component x) ⌝ }
+{
+    let mut count = 0;
+    let mut i = 0;
+    while i < SIZE {
+        i += 1;
+        count += slice::get(x, i) as usize;
+    }
+    count
+}
+
+// The weight column, to be lent.
+fn weights_of(weight: &[u8]) -> Weights
+    ensures { λ r. ⌜ integerIn (matrixColumn (r .columns)) (r .first) (width - r .first) ≡ (λ i. signed (loadedRow 4 (now (weight .entry)) i)) ⌝ }
+{
+    let table = table::load_quads(weight).table;
+    let first = search::sign_columns(table);
+    let stored = lent::columns_of(table);
+    let columns = stored.columns;
+    Weights {
+        columns: columns,
+        first: first,
+    }
+}
+
+// A tree over the rows of a slice with as many exchanges made as it has rows at r more than t; none where it has fewer.
+fn reduce(
+    n: u32,
+    left: &[u8],
+    right: &[u8],
+    weight: &[u8],
+    lefts: &[u64],
+    rights: &[u64],
+    weights: &[u64],
+    first: usize,
+    r: u32,
+    t: u32,
+    used: Slice,
+    at: Slice,
+    tree: Slice,
+) -> Reduced
+    ensures { λ o.
+        let x = givenOf (now (left .entry)) (now (right .entry)) (now (weight .entry)) (now (weights .entry)) first (component at) in
+        ⌜ Ends (reducedFrom x (endsIn (now (lefts .entry))) (endsIn (now (rights .entry))) (component used) (component tree) r n t) (o .whole) (component (o .chosen)) ⌝ }
+{
+    let have = count_rows(slice::and(tree, at));
+    let least = t as usize;
+    if have < least {
+        return Reduced {
+            whole: false,
+            chosen: Slice::empty(),
+        };
+    }
+    let rest = slice::difference::without(used, at);
+    let mut own = [0u64; path::ALL_WORDS];
+    path::walk(lefts, rights, tree, r, n, &mut own);
+    reductions::reduce(
+        n as usize,
+        left,
+        right,
+        weight,
+        weights,
+        first,
+        at,
+        rest,
+        have - least,
+        tree,
+        &mut own,
+    )
+}
+
+// The tree over the rows of a slice among the first m.
+pub fn make(
+    n: u32,
+    m: usize,
+    rows: Slice,
+    left: &[u8],
+    right: &[u8],
+    weight: &[u8],
+    r: u32,
+    t: u32,
+) -> Made
+    ensures { λ o. ⌜ Makes (record { n = n; m = m; rows = component rows; left = now (left .entry); right = now (right .entry); weight = now (weight .entry) }) r t (o .joined) (o .whole) (component (o .chosen)) ⌝ }
+{
+    let lefts = path::ends_of(left);
+    let rights = path::ends_of(right);
+    let weights = weights_of(weight);
+    let first = weights.first;
+    let used = rows_among(m, rows);
+    let start = start::start_of(
+        &lefts.columns,
+        &rights.columns,
+        &weights.columns,
+        first,
+        used,
+        n as usize,
+        r,
+    );
+    if !start.whole {
+        return Made {
+            joined: false,
+            whole: false,
+            chosen: Slice::empty(),
+        };
+    }
+    let at = start.at;
+    let tree = start.chosen;
+    let reduced = reduce(
+        n,
+        left,
+        right,
+        weight,
+        &lefts.columns,
+        &rights.columns,
+        &weights.columns,
+        first,
+        r,
+        t,
+        used,
+        at,
+        tree,
+    );
+    let chosen = reduced.chosen;
+    Made {
+        joined: true,
+        whole: reduced.whole,
+        chosen: chosen,
+    }
+}
