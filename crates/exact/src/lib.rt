@@ -49,9 +49,8 @@ fn count_rows(x: Slice) -> usize
 fn weights_of(weight: &[u8]) -> Weights
     ensures { λ r. ⌜ integerIn (matrixColumn (r .columns)) (r .first) (width - r .first) ≡ (λ i. signed (loadedRow 4 (now (weight .entry)) i)) ⌝ }
 {
-    let table = table::load_quads(weight).table;
-    let first = search::sign_columns(table);
-    let stored = lent::columns_of(table);
+    let stored = loads::prices(weight);
+    let first = loads::sign_columns(&stored.columns);
     let columns = stored.columns;
     Weights {
         columns: columns,
@@ -118,8 +117,8 @@ pub fn make(
 ) -> Made
     ensures { λ o. ⌜ Makes (record { n = n; m = m; rows = component rows; left = now (left .entry); right = now (right .entry); weight = now (weight .entry) }) r t (o .joined) (o .whole) (component (o .chosen)) ⌝ }
 {
-    let lefts = path::ends_of(left);
-    let rights = path::ends_of(right);
+    let lefts = loads::ends(left);
+    let rights = loads::ends(right);
     let weights = weights_of(weight);
     let first = weights.first;
     let used = rows_among(m, rows);
