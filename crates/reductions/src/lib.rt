@@ -55,7 +55,16 @@ fn path_of(own: &[u64], left: &[u8], right: &[u8], i: usize) -> Slice
     slice::xor(matrix::read_column(own, a), matrix::read_column(own, b))
 }
 
-// FND of MAX over the path and the rows at r: the dearest row at r on row i's path, the uppermost among equals; 0 where there is none.
+// FND of MAX: the uppermost of a slice's heaviest rows, 0 where it has none.
+fn heaviest(weights: &[u64], first: usize, x: Slice) -> usize
+    ensures { λ r.
+        let w = integerIn (matrixColumn (now (weights .entry))) first (width - first) in
+        ⌜ r ≡ uppermost size (largest size w (component x)) ⌝ }
+{
+    slice::fnd(lent::max_from(weights, first, x))
+}
+
+// The search over the path and the rows at r: the dearest row at r on row i's path, the uppermost among equals; 0 where there is none.
 fn dearest_at(
     left: &[u8],
     right: &[u8],
@@ -74,7 +83,7 @@ fn dearest_at(
     if slice::zero(here) {
         return 0;
     }
-    slice::fnd(lent::max_from(weights, first, here))
+    heaviest(weights, first, here)
 }
 
 // 2 ^ 32 more than the weight of row f less that of row e; 2 ^ 33 where e is 0.

@@ -7,17 +7,17 @@ use Rattle.offers.specs.steps.Offers.{costOf}
 use Rattle.reductions.proofs.cost_of.Statement.{statement}
 use Rattle.reductions.proofs.cost_of.Tie as tie
 
-some-cost : (price : ℕ → ℕ) (f e : ℕ) → (e ≡ 0 → ⊥) → (4294967296 + price f) - price e ≡ costOf price f e
+some-cost : (price : ℕ → ℕ) (f e x y : ℕ) → (e ≡ 0 → ⊥) → x ≡ price f → y ≡ price e → (4294967296 + x) - y ≡ costOf price f e
 unfolding costOf
-some-cost price f zero h = absurd (h refl)
-some-cost price f (suc j) h = refl
+some-cost price f zero x y h p q = absurd (h refl)
+some-cost price f (suc j) x y h p q = rw (p, q)
 
 returns : tie.Need-returns
 unfolding costOf
 returns c = rw (c .if1 .taken)
 
 returns-2 : tie.Need-returns-2
-returns-2 c = rw (c .before .flipped-weight .ensures, c .flipped-weight2 .ensures) (some-cost _ _ _ (c .before .before .if1 .left))
+returns-2 c = some-cost _ _ _ _ _ (c .before .before .if1 .left) (c .before .flipped-weight .ensures) (c .flipped-weight2 .ensures)
 
 pub cost-of-spec : {M : Type 1} → statement M
 cost-of-spec =

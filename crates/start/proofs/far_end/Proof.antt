@@ -1,14 +1,22 @@
 -- `start::far_end` meets its contract: the left end is in the fragment, or it is not. Assumes nothing.
 use borrow.Author.Needs.{needs}
-use borrow.Author.Tests.{not-false}
+use Prim.Native.Nat.{ℕ}
+use mathlib.Core.Bool.{Bool, true, false, cond}
+use mathlib.Core.Path.{_≡_}
 use Rattle.start.proofs.far_end.Statement.{statement}
 use Rattle.start.proofs.far_end.Tie as tie
 
+right-end : (b : Bool) (v x y : ℕ) → b ≡ true → v ≡ x → v ≡ cond b x y
+right-end b v x y e q = rw e q
+
+left-end : (b : Bool) (v x y : ℕ) → b ≡ false → v ≡ y → v ≡ cond b x y
+left-end b v x y e q = rw e q
+
 returns : tie.Need-returns
-returns c = rw (c .before .if1 .taken) (c .row-from .ensures)
+returns c = right-end _ _ _ _ (c .before .if1 .taken) (c .row-from .ensures)
 
 returns-2 : tie.Need-returns-2
-returns-2 c = rw (c .before .if1 .left) (c .row-from2 .ensures)
+returns-2 c = left-end _ _ _ _ (c .before .if1 .left) (c .row-from2 .ensures)
 
 pub far-end-spec : {M : Type 1} → statement M
 far-end-spec = tie.close (tie.spec (λ c κs. search needs) returns (λ c κs. search needs) returns-2)

@@ -1,14 +1,22 @@
 -- `start::preferred` meets its contract: there is a row at r, or there is none. Assumes nothing.
 use Prim.Native.Nat.{ℕ, zero, suc}
+use lib.IntN.{ℤ}
+use mathlib.Core.Bool.{Bool}
 use borrow.Author.Needs.{needs}
-use mathlib.Core.Path.{_≡_, refl, sym, _∙_}
-use Rattle.rowset.specs.Sets.{firstOf}
+use mathlib.Core.Path.{_≡_, refl}
+use Rattle.rowset.specs.Searches.{smallest}
+use Rattle.rowset.specs.Sets.{firstOf, uppermost}
+use Rattle.slice.specs.Slices.{size}
 use Rattle.start.proofs.preferred.Statement.{statement}
 use Rattle.start.proofs.preferred.Tie as tie
 
-first-none : (i k : ℕ) → i ≡ 0 → k ≡ firstOf i k
+-- the row that is found is the uppermost lightest of the set
+lightest : (w : ℕ → ℤ) (i : ℕ) (X Y Z : ℕ → Bool) → i ≡ uppermost size X → X ≡ smallest size w Y → Y ≡ Z → i ≡ uppermost size (smallest size w Z)
+lightest w i X Y Z e q s = rw (← s, ← q) e
+
+first-none : (i j k : ℕ) → i ≡ 0 → i ≡ j → k ≡ firstOf j k
 unfolding firstOf
-first-none i k e = rw e
+first-none i j k e q = rw (← q, e)
 
 first-some : (i j k : ℕ) → (i ≡ 0 → ⊥) → i ≡ j → i ≡ firstOf j k
 unfolding firstOf
@@ -16,10 +24,14 @@ first-some zero j k h e = absurd (h refl)
 first-some (suc i) j k h e = rw (← e)
 
 returns : tie.Need-returns
-returns c = let chosen = first-none (c .before .before .before .fnd .result) (c .fnd2 .result) (c .before .before .if1 .taken) in cc
+returns c =
+    let f = c .before .before .before in
+    rw (← c .before .min-from2 .ensures, ← c .fnd2 .ensures) (first-none _ _ _ (c .before .before .if1 .taken) (lightest _ _ _ _ _ (f .fnd .ensures) (f .before .min-from .ensures) (f .before .before .and .ensures)))
 
 returns-2 : tie.Need-returns-2
-returns-2 c = first-some _ _ _ (c .if1 .left) (cc)
+returns-2 c =
+    let f = c .before in
+    first-some _ _ _ (c .if1 .left) (lightest _ _ _ _ _ (f .fnd .ensures) (f .before .min-from .ensures) (f .before .before .and .ensures))
 
 pub preferred-spec : {M : Type 1} → statement M
 preferred-spec =
