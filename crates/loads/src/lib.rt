@@ -97,7 +97,7 @@ fn word(blocks: &[u64], k: usize) -> u64
     ensures { λ r. ⌜ r ≡ wordOf (now (blocks .entry)) k 0 ⌝ }
 {
     let mut word: u64 = 0;
-    let mut g = 8;
+    let mut g: usize = 8;
     while 0 < g {
         g -= 1;
         word = word * 2 + ((blocks[g] >> k) & LOWEST);

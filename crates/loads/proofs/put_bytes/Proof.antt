@@ -64,8 +64,8 @@ put-bytes-spec =
     (λ c. omega arith)
     (λ c. omega (arith, byte c))
     (λ c. omega (arith, byte c))
-    (λ c. omega arith)
-    (λ c. omega (arith, place c))
+    (λ c. omega (arith, byte c))
+    (λ c. omega (arith, byte c, place c))
     put-planes-requires
     (λ c. omega (arith, byte (c .before)))
     (λ c. omega (arith, c .before .before .before .before .before .before .loop-test .taken))
