@@ -1,12 +1,12 @@
 // The checks that every procedure makes of a table of m rows, and CST and MatrixPath of a claim: causes 1 to 4, 15, 6 and 9, each for columns of any bytes and any lengths.
 // What stands in rows that are not in use is not looked at.
 // Rows are counted from 1; 0 is no row, and a byte past a column's end reads 0.
-ghost use Prim.Native.Nat.{ℕ, _≤_};
+ghost use Prim.Native.Nat.{ℕ, _+_, _≤_};
 ghost use mathlib.Core.Bool.{Bool};
 ghost use mathlib.Core.List.{List, [], _∷_, _++_};
 ghost use mathlib.Core.Path.{_≡_};
 ghost use lib.ListN.{length, getD};
-ghost use Rattle.rowset.specs.Bytes.{inRow};
+ghost use Rattle.rowset.specs.Bytes.{little, inRow};
 ghost use Rattle.rowset.specs.Sets.{both, uppermost, count};
 ghost use Rattle.slice.specs.Slices.{component};
 ghost use Rattle.refusal.specs.Outcomes.{refusalOf};
@@ -42,7 +42,19 @@ pub fn row_byte(column: &[u8], i: usize) -> u8
     byte_at(column, i - 1)
 }
 
-// The number of the 32 bits in row i of a column with four bytes a row, least significant first. A row that begins past the column's end holds 0.
+// The number in the four bytes from an index on, all of which the column has: no byte is tested.
+fn quad(weight: &[u8], at: usize) -> u32
+    requires { ⌜ at + 4 ≤ length (now weight) ⌝ }
+    ensures { λ r. ⌜ r ≡ little (now (weight .entry)) at 4 ⌝ }
+{
+    let b0 = weight[at] as u32;
+    let b1 = weight[at + 1] as u32;
+    let b2 = weight[at + 2] as u32;
+    let b3 = weight[at + 3] as u32;
+    b0 + 256 * (b1 + 256 * (b2 + 256 * b3))
+}
+
+// The number of the 32 bits in row i of a column with four bytes a row, least significant first. A row that the column has whole is read after one test; one that begins past its end holds 0.
 pub fn row_weight(weight: &[u8], i: usize) -> u32
     ensures { λ r. ⌜ r ≡ inRow 4 (now (weight .entry)) i ⌝ }
 {
@@ -50,15 +62,18 @@ pub fn row_weight(weight: &[u8], i: usize) -> u32
         return 0;
     }
     let k = i - 1;
-    if weight.len() / 4 < k {
+    let rows = weight.len() / 4;
+    if k < rows {
+        return quad(weight, 4 * k);
+    }
+    if rows < k {
         return 0;
     }
     let at = 4 * k;
     let b0 = byte_at(weight, at) as u32;
     let b1 = byte_at(weight, at + 1) as u32;
     let b2 = byte_at(weight, at + 2) as u32;
-    let b3 = byte_at(weight, at + 3) as u32;
-    b0 + 256 * (b1 + 256 * (b2 + 256 * b3))
+    b0 + 256 * (b1 + 256 * b2)
 }
 
 // Refused with this number and place 0 where the test holds, else done.
