@@ -355,17 +355,17 @@ module _ (c : Call) (R : List ℕ) (l : length R ≡ columnWords * maxVertices) 
 
 -- in the words of CST's own matrix
 module _ (c : Call) (own : List ℕ) (enough : Taken c → columnWords * c .n ≤ length own) where
-  own-refusal : ownPath c 1 (columnWords * maxVertices) own ≡ refusal (cstCauses c)
-  own-refusal = own-answer c 1 (columnWords * maxVertices) own enough ∙ causes-refusal c (columnWords * maxVertices) refl
+  refusal-own : ownPath c 1 (columnWords * maxVertices) own ≡ refusal (cstCauses c)
+  refusal-own = own-answer c 1 (columnWords * maxVertices) own enough ∙ causes-refusal c (columnWords * maxVertices) refl
 
   pub refused-own : (r : Refusal) → some r ≡ ownPath c 1 (columnWords * maxVertices) own → (refused r ≡ cst c) × (record { out = 0; into = 0 } ≡ equalRows c)
-  refused-own r e = refused-as c r (e ∙ own-refusal)
+  refused-own r e = refused-as c r (e ∙ refusal-own)
 
   module _ (e : none ≡ ownPath c 1 (columnWords * maxVertices) own) where
     pub walked-own : (matrix : List ℕ) → matrix ≡ ownAfter c 1 (columnWords * maxVertices) own → Walked c matrix
     walked-own matrix m =
-        walked c (sym own-refusal ∙ sym e) matrix
+        walked c (sym refusal-own ∙ sym e) matrix
         (ap (take (columnWords * c .n)) m ∙ own-paths c 1 (columnWords * maxVertices) own enough (sym (own-answer c 1 (columnWords * maxVertices) own enough) ∙ sym e))
 
     pub loads-own : loadedRow 4 (c .weight) ≡ inRow 4 (c .weight)
-    loads-own = loads c (sym own-refusal ∙ sym e)
+    loads-own = loads c (sym refusal-own ∙ sym e)

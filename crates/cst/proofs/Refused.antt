@@ -3,12 +3,15 @@
 use Prim.Native.Nat.{ℕ, _*_, _≤_}
 use mathlib.Core.Bool.{Bool, true, false, _||_}
 use mathlib.Core.List.{List}
-use mathlib.Core.Option.{none}
-use mathlib.Core.Path.{_≡_, refl}
+use mathlib.Core.Option.{Option, none}
+use mathlib.Core.Path.{_≡_, refl, _∙_}
 use borrow.Author.Tests.{le-ltb, ltb-false, eqb-false}
 use lib.Dec.{eqb, ltb}
 use lib.ListN.{length}
 use native.Mathlib.Omega.{arith}
+use Rattle.path.proofs.Result.{own-answer}
+use Rattle.path.specs.steps.Walks.{ownPath}
+use Rattle.refusal.specs.declared.Refusal.{Refusal}
 use Rattle.rowset.specs.Words.{columnWords}
 use Rattle.star.proofs.Accepted.{none-cause}
 use Rattle.star.specs.Call.{Call}
@@ -37,3 +40,7 @@ causes-refusal c words l = go (eqb (c .n) 0) (ltb maxVertices (c .n)) refl refl
 pub path-refusal : (c : Call) (R : List ℕ) → length R ≡ columnWords * maxVertices → matrixPath c 1 R ≡ refusal (cstCauses c)
 unfolding matrixPath
 path-refusal c R l = causes-refusal c (length R) l
+
+-- the walk in a matrix of 4,080 words refuses that too
+pub own-refusal : (c : Call) (own : List ℕ) {x : Option Refusal} → x ≡ ownPath c 1 (columnWords * maxVertices) own → length own ≡ columnWords * maxVertices → x ≡ refusal (cstCauses c)
+own-refusal c own e l = e ∙ own-answer c 1 (columnWords * maxVertices) own (λ t. omega (arith, t .few-vertices)) ∙ causes-refusal c (columnWords * maxVertices) refl

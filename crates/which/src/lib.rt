@@ -58,7 +58,8 @@ fn plan_check(
         ⌜ refusalOf r ≡ refusal (cstCauses c) ⌝ }
 {
     let mut own = [0u64; path::ALL_WORDS];
-    path::matrix_path_rows(n, m, whole, rows, left, right, weight, mark, 1, &mut own)
+    let words = path::ALL_WORDS;
+    path::path_own(n, m, whole, rows, left, right, weight, mark, 1, words, &mut own)
 }
 
 // The 64 bits of the weight of a plan that is not refused.
