@@ -59,7 +59,19 @@ fn plan_check(
 {
     let mut own = [0u64; path::ALL_WORDS];
     let words = path::ALL_WORDS;
-    path::path_own(n, m, whole, rows, left, right, weight, mark, 1, words, &mut own)
+    path::path_own(
+        n,
+        m,
+        whole,
+        rows,
+        left,
+        right,
+        weight,
+        mark,
+        1,
+        words,
+        &mut own,
+    )
 }
 
 // The 64 bits of the weight of a plan that is not refused.
