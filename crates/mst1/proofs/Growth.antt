@@ -1,4 +1,4 @@
--- The growth of the tree by the calls that the code makes: the searches over the columns of a table that are not left out, and the slices that they give.
+-- The growth of the tree by the calls that the code makes: the searches over the columns that are not left out, and the slices that they give.
 -- Main statements: what is grown where there is no tree, no row to choose or a whole fragment (grows-none, grows-small, grows-whole);
 -- the slices of the first row, and those of each next row, are the fragment's (begin-reached, extend-reached).
 -- Assumes nothing.
@@ -13,19 +13,13 @@ use lib.Dec.{eqb}
 use lib.IntN.{ℤ}
 use Rattle.graph.specs.Builder.{cheapest, treeOf, tree}
 use Rattle.graph.specs.Graph.{Graph}
-use Rattle.rowset.specs.Columns.{inColumns}
-use Rattle.rowset.specs.Integers.{integerIn, signed}
 use Rattle.rowset.specs.Searches.{equalTo, smallest}
 use Rattle.rowset.specs.Sets.{empty, either, oneOf, put, uppermost}
 use Rattle.rowset.proofs.Laws.{in-upTo, uppermost-some}
-use Rattle.search.proofs.Signs.{skippable, sign-row}
-use Rattle.matrix.specs.Matrix.{matrixColumn}
 use Rattle.slice.specs.Slices.{size, component, written}
 use Rattle.slice.specs.declared.Slice.{Slice}
 use Rattle.star.specs.Mst1.{chosenRows}
 use Rattle.star.specs.Refusals.{isNone}
-use Rattle.table.specs.Tables.{width, column, row}
-use Rattle.table.specs.declared.Table.{Table}
 use Rattle.mst1.specs.steps.Growth.{graphBy, Grows, Reached, meeting}
 use Rattle.mst1.proofs.Steps.{farBy, first-reached, next-reached}
 
@@ -55,24 +49,6 @@ grows-whole g w {chosen = chosen} r e =
     record { all = rw q; rows = rw q }
 
 -- ── The slices of the code ──
-
--- the numbers that the words of a table hold
-abbrev pub rowIn : List ℕ → ℕ → ℕ
-rowIn words = inColumns (matrixColumn words) 0 width
-
--- they are the rows of the table, and the numbers in the columns after those that are left out; so are the integers
-module _ (t : Table) (words : List ℕ) (stored : matrixColumn words ≡ column t) where
-  pub row-stored : rowIn words ≡ row t
-  unfolding row
-  row-stored = rw stored
-
-  pub filled-row : (k : ℕ) → inColumns (column t) k (width - k) ≡ row t → inColumns (matrixColumn words) k (width - k) ≡ rowIn words
-  unfolding row
-  filled-row k e = rw stored e
-
-  pub signed-row : {k : ℕ} → k ≡ skippable t → integerIn (matrixColumn words) k (width - k) ≡ (λ i. signed (rowIn words i))
-  unfolding row
-  signed-row e = rw (stored, e) (sign-row t)
 
 -- writing 1 at a position of a slice puts it in
 pub written-in : (p : ℕ → Bool) (i : ℕ) → 1 ≤ i → i ≤ size → written p i true ≡ put p i

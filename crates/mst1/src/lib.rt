@@ -11,7 +11,7 @@ ghost use Rattle.slice.specs.Slices.{size, component, written};
 ghost use Rattle.star.specs.Mst1.{mst1, mst1Marks};
 ghost use Rattle.star.specs.Call.{tableOf, callOf, workOf};
 ghost use Rattle.table.specs.Loads.{loadedRow};
-ghost use Rattle.table.specs.Tables.{width, column, row};
+ghost use Rattle.table.specs.Tables.{width};
 ghost use Rattle.mst1.specs.steps.Growth.{endsIn, integersAfter, graphIn, loadedGraph, Grows, Reached, meeting};
 ghost use Rattle.mst1.specs.Answers.{answerOf};
 use refusal::Outcome;
@@ -21,7 +21,6 @@ use slice::Slice;
 use slice::WORDS;
 use slice::rows::rows_to;
 use slice::words::rows_in_use;
-use table::Table;
 
 // The number of columns on the left that MATCH leaves out of lent columns of ends: a byte stands in the last eight.
 pub const UPPER: usize = 24;
@@ -39,20 +38,13 @@ pub struct Grown {
 }
 
 // A fragment: the rows whose left end is in it, the rows whose right end is, and the chosen rows.
-pub struct Fragment {
-    pub lefts: Slice,
-    pub rights: Slice,
-    pub chosen: Slice,
+struct Fragment {
+    lefts: Slice,
+    rights: Slice,
+    chosen: Slice,
 }
 
-// FND of MIN: the uppermost row of x of least weight, 0 where x has no row.
-pub fn first_row(weight: Table, x: Slice) -> usize
-    ensures { λ r. ⌜ r ≡ uppermost size (smallest size (λ i. signed (row weight i)) (component x)) ⌝ }
-{
-    slice::fnd(search::min(weight, x))
-}
-
-// The same over a table's words, and over the columns after the first ones.
+// FND of MIN over the columns after the first ones: the uppermost row of x of least weight, 0 where x has no row.
 pub fn cheapest(weight: &[u64], first: usize, x: Slice) -> usize
     ensures { λ r. ⌜ r ≡ uppermost size (smallest size (integerIn (matrixColumn (now (weight .entry))) first (width - first)) (component x)) ⌝ }
 {
@@ -66,29 +58,8 @@ pub fn reach(x: Slice, ends: &[u64], first: usize, v: u32, rows: Slice) -> Slice
     slice::or(x, lent::match_from(ends, first, v, rows))
 }
 
-// The fragment of row i: both its ends.
-pub fn begin(left: Table, right: Table, rows: Slice, i: usize) -> Fragment
-    ensures lefts { λ r. ⌜ component (r .lefts) ≡ meeting (row left) (row left i) (row right i) (component rows) ⌝ }
-    ensures rights { λ r. ⌜ component (r .rights) ≡ meeting (row right) (row left i) (row right i) (component rows) ⌝ }
-    ensures chosen { λ r. ⌜ component (r .chosen) ≡ written empty i true ⌝ }
-{
-    let u = table::row_of(left, i);
-    let v = table::row_of(right, i);
-    Fragment {
-        lefts: slice::or(
-            search::match_rows(left, u, rows),
-            search::match_rows(left, v, rows),
-        ),
-        rights: slice::or(
-            search::match_rows(right, u, rows),
-            search::match_rows(right, v, rows),
-        ),
-        chosen: slice::put(Slice::empty(), i, true),
-    }
-}
-
 // No rows: the whole tree of one vertex, or what is left where there is no tree.
-pub fn nothing(whole: bool) -> Grown
+fn nothing(whole: bool) -> Grown
     ensures whole { λ r. ⌜ r .whole ≡ whole ⌝ }
     ensures chosen { λ r. ⌜ component (r .chosen) ≡ empty ⌝ }
 {
@@ -98,18 +69,8 @@ pub fn nothing(whole: bool) -> Grown
     }
 }
 
-// The columns on the left that MATCH may leave out of a table of ends: those that are empty, none where column 1 is not.
-pub fn empty_columns(t: Table) -> usize
-    ensures { λ r. ⌜ inColumns (column t) r (width - r) ≡ row t ⌝ }
-{
-    if slice::some(t.columns[0]) {
-        return 0;
-    }
-    search::sign_columns(t) + 1
-}
-
-// The fragment of row i over lent columns of ends.
-fn begin_on(left: &[u64], right: &[u64], rows: Slice, i: usize) -> Fragment
+// The fragment of row i: both its ends.
+fn begin(left: &[u64], right: &[u64], rows: Slice, i: usize) -> Fragment
     ensures lefts { λ r. ⌜ component (r .lefts) ≡ meeting (endsIn (now (left .entry))) (endsIn (now (left .entry)) i) (endsIn (now (right .entry)) i) (component rows) ⌝ }
     ensures rights { λ r. ⌜ component (r .rights) ≡ meeting (endsIn (now (right .entry))) (endsIn (now (left .entry)) i) (endsIn (now (right .entry)) i) (component rows) ⌝ }
     ensures chosen { λ r. ⌜ component (r .chosen) ≡ written empty i true ⌝ }
@@ -185,7 +146,7 @@ pub fn grow_tree(
     if i == 0 {
         return nothing(false);
     }
-    let start = begin_on(left, right, rows, i);
+    let start = begin(left, right, rows, i);
     grow_from(left, right, weight, first, rows, n, start)
 }
 

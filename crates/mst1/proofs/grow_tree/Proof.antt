@@ -26,14 +26,14 @@ unfolding cheapest
 returns-2 c =
     grows-none _ _ (first-none _ _ (sym (c .before .before .cheapest .ensures) ∙ c .before .if2 .taken) (c .before .before .before .if1 .left)) (c .nothing2 .ensures .0) (c .nothing2 .ensures .1)
 
-begin-on-requires : tie.Need-begin-on-requires
-begin-on-requires c κs = search needs
+begin-requires : tie.Need-begin-requires
+begin-requires c κs = search needs
 
 grow-from-requires : tie.Need-grow-from-requires
 unfolding cheapest
 grow-from-requires c κs = (
   omega arith,
-  begin-reached _ _ _ _ _ (sym (c .before .before .cheapest .ensures)) (omega (arith, c .before .if2 .left)) (c .begin-on .ensures .0) (c .begin-on .ensures .1 .0) (c .begin-on .ensures .1 .1),
+  begin-reached _ _ _ _ _ (sym (c .before .before .cheapest .ensures)) (omega (arith, c .before .if2 .left)) (c .begin .ensures .0) (c .begin .ensures .1 .0) (c .begin .ensures .1 .1),
 )
 
 returns-3 : tie.Need-returns-3
@@ -48,6 +48,6 @@ grow-tree-spec =
     cheapest-requires
     nothing-requires-2
     returns-2
-    begin-on-requires
+    begin-requires
     grow-from-requires
     returns-3)

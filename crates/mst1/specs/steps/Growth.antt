@@ -1,4 +1,4 @@
--- The graph that three tables and a slice of rows describe, the tree that grows on it, and the rows by which its fragment is known.
+-- The graph that lent columns of ends and a slice of rows describe, the tree that grows on it, and the rows by which its fragment is known.
 -- Assumes nothing.
 use Prim.Native.Nat.{ℕ, _-_, _≤_}
 use mathlib.Core.Bool.{Bool, not, _&&_}
@@ -18,8 +18,7 @@ use Rattle.slice.specs.declared.Slice.{Slice}
 use Rattle.star.specs.Mst1.{chosenRows}
 use Rattle.star.specs.Refusals.{isNone}
 use Rattle.table.specs.Loads.{loadedRow}
-use Rattle.table.specs.Tables.{width, row}
-use Rattle.table.specs.declared.Table.{Table}
+use Rattle.table.specs.Tables.{width}
 
 -- n vertices, and of the positions 1 to 1,024 the rows that a slice selects, with their left and their right ends
 abbrev pub graphBy : (ℕ → ℕ) → (ℕ → ℕ) → Slice → ℕ → Graph
@@ -36,11 +35,7 @@ integersAfter words first = integerIn (matrixColumn words) first (width - first)
 abbrev pub graphIn : (left right : List ℕ) → Slice → ℕ → Graph
 graphIn left right rows n = graphBy (endsIn left) (endsIn right) rows n
 
--- the graph whose ends the left and the right table hold
-abbrev pub graphOn : Table → Table → Slice → ℕ → Graph
-graphOn left right rows n = graphBy (row left) (row right) rows n
-
--- the graph that the tables hold after the left and the right column are loaded, over the rows among the first m
+-- the graph of a left and a right column as they are loaded, over the rows among the first m
 abbrev pub loadedGraph : (n m : ℕ) → (rows : ℕ → Bool) → (left right : List ℕ) → Graph
 loadedGraph n m rows left right =
     record { n = n; m = size; a = loadedRow 1 left; b = loadedRow 1 right; rows = both (upTo m) rows }
