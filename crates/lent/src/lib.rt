@@ -197,19 +197,43 @@ fn keep_rows(z: &mut [u64], columns: &[u64], j: usize, b: bool, used: usize)
     }
 }
 
-// The rows of MATCH where all columns are there, over the words in which x has a row, with no test between the columns.
-fn match_words(columns: &[u64], first: usize, w: u32, x: Slice) -> Slice
+// The rows of MATCH where all columns are there and x has no row past its first four words, with no test between the columns.
+fn match_four(columns: &[u64], first: usize, w: u32, x: Slice) -> Slice
+    requires { ⌜ (512 ≤ length (now columns)) × NonePast 4 (component x) ⌝ }
+    ensures { λ r. ⌜ component r ≡ equalRight (matrixColumn (now (columns .entry))) w (width - first) (component x) ⌝ }
+{
+    let mut z = x.words;
+    let mut j = WIDTH;
+    while first < j {
+        j -= 1;
+        keep_rows(&mut z, columns, j, (w >> (WIDTH - 1 - j)) % 2 == 1, 4);
+    }
+    Slice { words: z }
+}
+
+// The rows of MATCH where all columns are there, over all words.
+fn match_all(columns: &[u64], first: usize, w: u32, x: Slice) -> Slice
     requires { ⌜ 512 ≤ length (now columns) ⌝ }
     ensures { λ r. ⌜ component r ≡ equalRight (matrixColumn (now (columns .entry))) w (width - first) (component x) ⌝ }
 {
     let mut z = x.words;
-    let used = words_used(&z);
     let mut j = WIDTH;
     while first < j {
         j -= 1;
-        keep_rows(&mut z, columns, j, (w >> (WIDTH - 1 - j)) % 2 == 1, used);
+        keep_rows(&mut z, columns, j, (w >> (WIDTH - 1 - j)) % 2 == 1, COLUMN);
     }
     Slice { words: z }
+}
+
+// The rows of MATCH where all columns are there. The number of words is a constant of either loop, so that the compiler keeps them in registers.
+fn match_words(columns: &[u64], first: usize, w: u32, x: Slice) -> Slice
+    requires { ⌜ 512 ≤ length (now columns) ⌝ }
+    ensures { λ r. ⌜ component r ≡ equalRight (matrixColumn (now (columns .entry))) w (width - first) (component x) ⌝ }
+{
+    if words_used(&x.words) <= 4 {
+        return match_four(columns, first, w, x);
+    }
+    match_all(columns, first, w, x)
 }
 
 // MATCH: the selected rows that equal w.
