@@ -1,16 +1,36 @@
--- What is made of the start and the exchanges on columns that hold the loaded ones. Assumes nothing.
-use Prim.Native.Nat.{ℕ}
+-- What is made of the start and the exchanges on columns that hold the loaded ones.
+-- Main statements: the exchanges by the number of rows at r (reduced-none, reduced-made); no tree, and one with exchanges made on it (makes-none, makes-some). Assumes nothing.
+use Prim.Native.Nat.{ℕ, _-_, _≤_, _<_}
+use borrow.Author.Tests.{lt-ltb, le-ltb}
 use lib.IntN.{ℤ}
 use mathlib.Core.Bool.{Bool, true, false}
+use mathlib.Core.List.{List}
 use mathlib.Core.Path.{_≡_, refl, sym, _∙_}
 use Rattle.degree.specs.Degree.{touches}
+use Rattle.reductions.proofs.Turns.{ends-none}
 use Rattle.reductions.specs.steps.Columns.{priceIn}
-use Rattle.reductions.specs.steps.Exchanges.{Ends}
+use Rattle.reductions.specs.steps.Exchanges.{Given, exchangesTo, firstState, Ends}
 use Rattle.rowset.proofs.Laws.{clash}
-use Rattle.rowset.specs.Sets.{both}
+use Rattle.rowset.specs.Sets.{empty, both, without, count}
+use Rattle.slice.specs.Slices.{size}
 use Rattle.start.specs.steps.Start.{graphIn, Starts}
 use Rattle.table.specs.Loads.{loadedRow}
-use Rattle.exact.specs.steps.Reduced.{reducedFrom, Held, usedIn, loadedIn, weightIn, Makes}
+use Rattle.exact.specs.steps.Reduced.{reducedBy, walked, reducedFrom, Held, usedIn, loadedIn, weightIn, Makes}
+
+-- ── The exchanges ──
+
+module _ (x : Given) (a b : ℕ → ℕ) (U T : ℕ → Bool) (r n t have : ℕ) (is : have ≡ count size (both T (x .at))) {whole : Bool} {chosen : ℕ → Bool} where
+  -- there are fewer than t rows at r
+  pub reduced-none : have < t → whole ≡ false → chosen ≡ empty → Ends (reducedFrom x a b U T r n t) whole chosen
+  unfolding reducedBy
+  reduced-none l p q = rw (← is, lt-ltb have t l) (ends-none refl p q)
+
+  -- there are not, and the exchanges are made for the rows that are not at r, with the path matrix from r
+  pub reduced-made : t ≤ have → (rest : ℕ → Bool) (own : List ℕ) → rest ≡ without U (x .at) → own ≡ walked a b T r n → Ends (exchangesTo x n (have - t) (firstState x rest T own)) whole chosen → Ends (reducedFrom x a b U T r n t) whole chosen
+  unfolding reducedBy
+  reduced-made l rest own p q e = rw (← is, le-ltb have t l, ← p, ← q) e
+
+-- ── What is made ──
 
 module _ (h : Held) (r t : ℕ) {a b : ℕ → ℕ} {U : ℕ → Bool} {w : ℕ → ℤ} {whole : Bool} {chosen : ℕ → Bool}
     (ea : a ≡ loadedRow 1 (h .left)) (eb : b ≡ loadedRow 1 (h .right)) (eu : U ≡ usedIn h) (ew : w ≡ weightIn h) (s : Starts (graphIn a b U (h .n)) w r whole chosen) where
