@@ -34,7 +34,7 @@ abbrev pub reducedFrom : Given → (a b : ℕ → ℕ) → (U T : ℕ → Bool) 
 reducedFrom x a b U T r n t =
     reducedBy x n (count size (both T (x .at))) t (firstState x (without U (x .at)) T (walked a b T r n))
 
--- a table as the loaded columns hold it: the rows in use among the first m, the graph, the weights, the rows at r, and the rows of the start
+-- a table as it is handed in: the numbers of vertices and of rows, the rows in use, and three columns of bytes
 pub record Held : Type 0 where
   pub n : ℕ
   pub m : ℕ
@@ -43,6 +43,7 @@ pub record Held : Type 0 where
   pub right : List ℕ
   pub weight : List ℕ
 
+-- its rows in use among the first m; the graph, the weights, and what stays over the exchanges at r, as the loaded columns hold them
 abbrev pub usedIn : Held → ℕ → Bool
 usedIn h = both (upTo (h .m)) (h .rows)
 
