@@ -42,10 +42,12 @@ use Rattle.star.specs.Call.{Call, rowsOf, used, graphOf, weightOf, marked, clai
 use Rattle.star.specs.MatrixPath.{pathColumn, matrixPath, matrixOr, matrixAfter}
 use Rattle.star.specs.Refusals.{Accepted, maxVertices, cause, isNone, noTree, tableCauses, badClaim, badCount, unjoined, cstCauses, orElse, refusal}
 use Rattle.table.specs.Loads.{loadedRow}
-use Rattle.mend.proofs.Joining.{Second, passes-shown}
-use Rattle.mend.proofs.Listed.{Shows, stored-all}
+use Rattle.groups.proofs.Joining.{Second, passes-shown}
+use Rattle.groups.proofs.Listed.{Shows}
+use Rattle.mend.proofs.Written.{stored-all}
 use Rattle.mend.proofs.Third.{Third, third-after}
-use Rattle.mend.specs.steps.Machine.{State, numbered, swapAt, visits, twoPasses}
+use Rattle.groups.specs.steps.Machine.{State, numbered, visits, twoPasses}
+use Rattle.mend.specs.steps.Machine.{swapAt}
 
 -- the causes in order
 refusal-thrice : (xs : List (Option Refusal)) (a b d : Option Refusal) → refusal (xs ++ (a ∷ b ∷ d ∷ [])) ≡ orElse (orElse (refusal (xs ++ (a ∷ []))) b) d

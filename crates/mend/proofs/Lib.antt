@@ -1,7 +1,5 @@
-pub mod Groups
 pub mod Steps
 pub mod Redrawn
-pub mod Listed
-pub mod Joining
+pub mod Written
 pub mod Third
 pub mod Answers

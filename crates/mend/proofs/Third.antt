@@ -30,10 +30,11 @@ use Rattle.rowset.specs.Sets.{oneOf, put, takeOut, uppermost}
 use Rattle.rowset.specs.Words.{columnWords}
 use Rattle.rowset.specs.steps.Flipped.{flipped}
 use Rattle.slice.specs.Slices.{size, written}
-use Rattle.mend.proofs.Joining.{written-out, written-in}
-use Rattle.mend.proofs.Listed.{Shows, shows-noted}
+use Rattle.groups.proofs.Joining.{written-out, written-in}
+use Rattle.groups.proofs.Listed.{Shows, shows-noted}
 use Rattle.mend.proofs.Steps.{swap-unused, swap-marked, swap-none, swap-swaps}
-use Rattle.mend.specs.steps.Machine.{State, noted, pathOf, heaviest, outOf, swapped, swapAt, visits}
+use Rattle.groups.specs.steps.Machine.{State, noted, visits}
+use Rattle.mend.specs.steps.Machine.{pathOf, heaviest, outOf, swapped, swapAt}
 
 -- the heaviest of positions of 1 to m are found among 1 to k too
 largest-cut : (k m : ℕ) (w : ℕ → ℤ) (P : ℕ → Bool) → m ≤ k → ((i : ℕ) → P i ≡ true → (1 ≤ i) × (i ≤ m)) → uppermost k (largest k w P) ≡ uppermost m (largest m w P)

@@ -1,4 +1,4 @@
-// Mending an old claim: marks that close a ring are dropped, rows that join two groups are added, and each unmarked row from the top is exchanged for the heaviest row of its path where that is heavier.
+// Mending an old claim: marks that close a ring are dropped, rows that join two groups are added (crate groups), and each unmarked row from the top is exchanged for the heaviest row of its path where that is heavier.
 // Each drop, addition and exchange becomes a record of a lent list. Claim and list are written once nothing can be refused any more.
 // The records are kept in numbers of the mender's own, three a record; `mend` and `work_mend`, which alone see the lent list, write them there through the crate recordlist.
 ghost use Prim.Native.Nat.{ℕ, _+_, _*_, _^_, _-_, _<_, _≤_};
@@ -23,9 +23,11 @@ ghost use Rattle.drawings.specs.Mend.{claimCauses, fewRecords, redrawn, unmende
 ghost use Rattle.record.specs.declared.Record.{Record};
 ghost use Rattle.recordlist.specs.Stored.{storedTo};
 ghost use Rattle.mend.specs.Answers.{answerOf};
-ghost use Rattle.mend.specs.steps.Machine.{stateOf, stored, renamed, allRenamed, labelsFrom, apart, joinedLabels, dropAt, addAt, pathOf, outOf, swapped, swapAt, visits, twoPasses};
+ghost use Rattle.groups.specs.steps.Machine.{stateOf, visits};
+ghost use Rattle.mend.specs.steps.Machine.{pathOf, outOf, swapped, swapAt};
 use checks::row_byte;
 use claim::flipped_weight;
+use groups::Drawn;
 use record::Record;
 use recordlist::NUMBERS;
 use recordlist::write_records;
@@ -38,17 +40,7 @@ use slice::rows::rows_among;
 use slice::rows::rows_to;
 use slice::words::rows_in_use;
 
-// The vertices that can be.
-const VERTICES: usize = 255;
-
-// The numbers of a record.
-const FIELDS: usize = 3;
-
-// The kinds of records.
-const DROP: u32 = 1;
-
-const ADDITION: u32 = 2;
-
+// The kind of a record of an exchange; drops and additions are 1 and 2.
 const EXCHANGE: u32 = 3;
 
 // What the mender answers: the number of records, or the refusal.
@@ -62,195 +54,6 @@ pub struct Mending {
     pub list: [u32; NUMBERS],
     pub count: usize,
     pub answer: Mended,
-}
-
-// The drawing while it is mended: the rows marked by now, and the number of records.
-struct Drawn {
-    marks: Slice,
-    count: usize,
-}
-
-// The labels of vertices 1 to 255.
-struct Labels {
-    labels: [u8; VERTICES],
-}
-
-// Notes record k of the mender's own numbers, counted from 0.
-fn note(list: &mut [u32], k: usize, kind: u32, out: u32, into: u32)
-    requires { ⌜ 3 * k + 3 ≤ length (now list) ⌝ }
-    ensures { λ r. ⌜ now (list .exit) ≡ stored (now (list .entry)) k kind out into ⌝ }
-{
-    let at = FIELDS * k;
-    list[at] = kind;
-    list[at + 1] = out;
-    list[at + 2] = into;
-}
-
-// A label, where label x becomes y.
-fn rename(z: u8, x: u8, y: u8) -> u8
-    ensures { λ r. ⌜ r ≡ renamed z x y ⌝ }
-{
-    if z == x { y } else { z }
-}
-
-// Label x becomes y at every vertex that has it.
-fn rename_all(labels: &mut [u8], x: u8, y: u8)
-    ensures { λ r. ⌜ now (labels .exit) ≡ allRenamed (now (labels .entry)) x y ⌝ }
-{
-    let mut i = 0;
-    while i < labels.len() {
-        labels[i] = rename(labels[i], x, y);
-        i += 1;
-    }
-}
-
-// Each vertex is a group of its own.
-fn own_labels() -> Labels
-    ensures { λ r. ⌜ r .labels ≡ labelsFrom 0 255 ⌝ }
-{
-    let mut labels = [0u8; VERTICES];
-    let mut i = 0;
-    while i < VERTICES {
-        labels[i] = (i + 1) as u8;
-        i += 1;
-    }
-    Labels { labels: labels }
-}
-
-// Whether vertices a and b are of two groups, which then become one.
-fn join(labels: &mut [u8], a: u8, b: u8) -> bool
-    ensures apart { λ r. ⌜ r ≡ apart (now (labels .entry)) a b ⌝ }
-    ensures joined { λ r. ⌜ now (labels .exit) ≡ joinedLabels (now (labels .entry)) a b ⌝ }
-{
-    let x = row_byte(labels, b as usize);
-    let y = row_byte(labels, a as usize);
-    if x == y {
-        return false;
-    }
-    rename_all(labels, x, y);
-    true
-}
-
-// The first pass at row i: a marked row whose ends earlier kept marks join is dropped.
-fn drop_at(
-    left: &[u8],
-    right: &[u8],
-    i: usize,
-    s: Drawn,
-    list: &mut [u32],
-    labels: &mut [u8],
-) -> Drawn
-    requires { ⌜ (i < 2 ^ 32) × (3 * s .count + 3 ≤ length (now list)) ⌝ }
-    ensures { λ r. ⌜ stateOf r (now (list .exit)) (now (labels .exit)) ≡ dropAt (now (left .entry)) (now (right .entry)) i (stateOf s (now (list .entry)) (now (labels .entry))) ⌝ }
-{
-    if !slice::get(s.marks, i) {
-        return s;
-    }
-    if join(labels, row_byte(left, i), row_byte(right, i)) {
-        return s;
-    }
-    let count = s.count;
-    note(list, count, DROP, i as u32, 0);
-    Drawn {
-        marks: slice::put(s.marks, i, false),
-        count: count + 1,
-    }
-}
-
-// The first pass over rows 1 to m.
-fn drop_rings(
-    m: usize,
-    left: &[u8],
-    right: &[u8],
-    marked: Slice,
-    list: &mut [u32],
-    labels: &mut [u8],
-) -> Drawn
-    requires { ⌜ (m ≤ size) × (3 * m ≤ length (now list)) ⌝ }
-    ensures passed { λ r. ⌜ stateOf r (now (list .exit)) (now (labels .exit)) ≡ visits (dropAt (now (left .entry)) (now (right .entry))) m (record { marks = component marked; count = 0; list = now (list .entry); own = now (labels .entry) }) ⌝ }
-    ensures few { λ r. ⌜ r .count ≤ m ⌝ }
-{
-    let mut s = Drawn {
-        marks: marked,
-        count: 0,
-    };
-    let mut i = 0;
-    while i < m {
-        s = drop_at(left, right, i + 1, s, list, labels);
-        i += 1;
-    }
-    s
-}
-
-// The second pass at row i: a row in use that joins two groups is added.
-fn add_at(
-    used: Slice,
-    left: &[u8],
-    right: &[u8],
-    i: usize,
-    s: Drawn,
-    list: &mut [u32],
-    labels: &mut [u8],
-) -> Drawn
-    requires { ⌜ (i < 2 ^ 32) × (3 * s .count + 3 ≤ length (now list)) ⌝ }
-    ensures { λ r. ⌜ stateOf r (now (list .exit)) (now (labels .exit)) ≡ addAt (component used) (now (left .entry)) (now (right .entry)) i (stateOf s (now (list .entry)) (now (labels .entry))) ⌝ }
-{
-    if !slice::get(used, i) {
-        return s;
-    }
-    if !join(labels, row_byte(left, i), row_byte(right, i)) {
-        return s;
-    }
-    let count = s.count;
-    note(list, count, ADDITION, 0, i as u32);
-    Drawn {
-        marks: slice::put(s.marks, i, true),
-        count: count + 1,
-    }
-}
-
-// The second pass over rows 1 to m.
-fn close_gaps(
-    m: usize,
-    used: Slice,
-    left: &[u8],
-    right: &[u8],
-    start: Drawn,
-    list: &mut [u32],
-    labels: &mut [u8],
-) -> Drawn
-    requires { ⌜ (m ≤ size) × (start .count ≤ m) × (6 * m ≤ length (now list)) ⌝ }
-    ensures passed { λ r. ⌜ stateOf r (now (list .exit)) (now (labels .exit)) ≡ visits (addAt (component used) (now (left .entry)) (now (right .entry))) m (stateOf start (now (list .entry)) (now (labels .entry))) ⌝ }
-    ensures few { λ r. ⌜ r .count ≤ 2 * m ⌝ }
-{
-    let mut s = start;
-    let mut i = 0;
-    while i < m {
-        s = add_at(used, left, right, i + 1, s, list, labels);
-        i += 1;
-    }
-    s
-}
-
-// The first two passes.
-fn join_groups(
-    m: usize,
-    used: Slice,
-    left: &[u8],
-    right: &[u8],
-    marked: Slice,
-    list: &mut [u32],
-) -> Drawn
-    requires { ⌜ (m ≤ size) × (6 * m ≤ length (now list)) ⌝ }
-    ensures marks { λ r. ⌜ component (r .marks) ≡ twoPasses m (component used) (component marked) (now (left .entry)) (now (right .entry)) (now (list .entry)) .marks ⌝ }
-    ensures count { λ r. ⌜ r .count ≡ twoPasses m (component used) (component marked) (now (left .entry)) (now (right .entry)) (now (list .entry)) .count ⌝ }
-    ensures list { λ r. ⌜ now (list .exit) ≡ twoPasses m (component used) (component marked) (now (left .entry)) (now (right .entry)) (now (list .entry)) .list ⌝ }
-    ensures few { λ r. ⌜ r .count ≤ 2 * m ⌝ }
-{
-    let own = own_labels();
-    let mut labels = own.labels;
-    let ringless = drop_rings(m, left, right, marked, list, &mut labels);
-    close_gaps(m, used, left, right, ringless, list, &mut labels)
 }
 
 // The rows on the tree path between row i's ends, from the path matrix.
@@ -288,7 +91,7 @@ fn swap(
 {
     exchange::turn_columns(own, n, out, slice::put(path, i, true));
     let count = s.count;
-    note(list, count, EXCHANGE, out as u32, i as u32);
+    groups::note(list, count, EXCHANGE, out as u32, i as u32);
     Drawn {
         marks: slice::put(slice::put(s.marks, out, false), i, true),
         count: count + 1,
@@ -374,10 +177,10 @@ fn exchange_rows(
     right: &[u8],
     weight: &[u8],
     start: Drawn,
-    list: &mut [u32],
+    list: &mut [u32; NUMBERS],
     own: &mut [u64],
 ) -> Drawn
-    requires { ⌜ (m ≤ size) × (start .count ≤ 2 * m) × (9 * m ≤ length (now list)) × (loadedRow 4 (now weight) ≡ inRow 4 (now weight)) ⌝ }
+    requires { ⌜ (m ≤ size) × (start .count ≤ 2 * m) × (loadedRow 4 (now weight) ≡ inRow 4 (now weight)) ⌝ }
     ensures passed { λ r. ⌜ stateOf r (now (list .exit)) (now (own .exit)) ≡ visits (swapAt n (component used) (λ k. signed (inRow 4 (now (weight .entry)) k)) (now (left .entry)) (now (right .entry)) (now (weight .entry))) m (stateOf start (now (list .entry)) (now (own .entry))) ⌝ }
     ensures few { λ r. ⌜ r .count ≤ 3 * m ⌝ }
 {
@@ -503,7 +306,7 @@ fn redraw(
     let used = rows_among(m, rows);
     let marked = claim::claim_rows(mark, used);
     let mut list = [0u32; NUMBERS];
-    let tree = join_groups(m, used, left, right, marked, &mut list);
+    let tree = groups::two_passes(m, used, left, right, marked, &mut list);
     let mut own = [0u64; path::ALL_WORDS];
     let walked = tree_paths(n, m, whole, rows, left, right, weight, tree.marks, &mut own);
     let Outcome::Done = walked else {

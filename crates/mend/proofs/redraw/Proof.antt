@@ -2,9 +2,9 @@
 -- Assumes nothing.
 use Prim.Native.Nat.{ℕ, _*_, _≤_}
 use borrow.Author.Needs.{needs}
-use lib.ListN.{length, replicate}
 use mathlib.Core.Path.{_≡_, refl, sym, _∙_, ap}
 use native.Mathlib.Omega.{arith}
+use Rattle.groups.proofs.Steps.{bounded-few}
 use Rattle.recordlist.specs.Stored.{storedTo}
 use Rattle.refusal.specs.Outcomes.{refusalOf}
 use Rattle.mend.proofs.Answers.{few-rows, no-tree, loads, mended}
@@ -12,43 +12,37 @@ use Rattle.mend.specs.Answers.{answerOf}
 use Rattle.mend.proofs.redraw.Statement.{statement}
 use Rattle.mend.proofs.redraw.Tie as tie
 
--- the mender's own numbers
-zeros : length (replicate {A = ℕ} 9216 0) ≡ 9216
-zeros = refl
-
-join-groups-requires : tie.Need-join-groups-requires
-join-groups-requires c κs =
-    let m = few-rows _ (c .before .before .before .before .before .before .before .before .args .records) (c .before .before .before .before .before .before .before .before .pre) in
-    (m, omega (arith, m, zeros))
-
 tree-paths-requires : tie.Need-tree-paths-requires
-tree-paths-requires c κs = few-rows _ (c .before .before .before .before .before .before .before .before .before .before .before .args .records) (c .before .before .before .before .before .before .before .before .before .before .before .pre)
+tree-paths-requires c κs = few-rows _ (c .before .before .before .before .before .before .before .before .before .before .args .records) (c .before .before .before .before .before .before .before .before .before .before .pre)
 
 returns : tie.Need-returns
 unfolding refusalOf storedTo
 returns c =
-    let (answer, marks, list) = no-tree _ (c .before .before .before .before .before .before .before .before .before .before .before .before .before .before .before .before .args .records) (c .before .before .before .before .before .before .before .before .before .before .before .before .before .before .before .before .pre) _ _ (c .before .before .before .before .before .before .before .before .before .before .before .rows-among .ensures) (c .before .before .before .before .before .before .before .before .before .claim-rows .ensures) _ refl _ (c .before .before .before .before .before .before .before .join-groups .ensures .0) _ refl _ (ap refusalOf (sym (c .before .enum-told2 .given .1)) ∙ c .before .before .before .before .tree-paths .ensures .0) in
+    let m = few-rows _ (c .before .before .before .before .before .before .before .before .before .before .before .before .before .before .before .args .records) (c .before .before .before .before .before .before .before .before .before .before .before .before .before .before .before .pre) in
+    let j = rw (bounded-few (c .before .before .before .before .before .before .before .before .before .before .before .before .before .before .before .args .m) m) at (c .before .before .before .before .before .before .two-passes .ensures) in
+    let (answer, marks, list) = no-tree _ (c .before .before .before .before .before .before .before .before .before .before .before .before .before .before .before .args .records) (c .before .before .before .before .before .before .before .before .before .before .before .before .before .before .before .pre) _ _ (c .before .before .before .before .before .before .before .before .before .before .rows-among .ensures) (c .before .before .before .before .before .before .before .before .claim-rows .ensures) _ refl _ (j .0) _ refl _ (ap refusalOf (sym (c .before .enum-told2 .given .1)) ∙ c .before .before .before .before .tree-paths .ensures .0) in
     (c .no-tree .ensures .0 ∙ answer, marks, λ l e. rw (c .no-tree .ensures .1) (list l e))
 
 exchange-rows-requires : tie.Need-exchange-rows-requires
 unfolding refusalOf
 exchange-rows-requires c κs =
-    let m = few-rows _ (c .before .before .before .before .before .before .before .before .before .before .before .before .before .before .before .before .before .args .records) (c .before .before .before .before .before .before .before .before .before .before .before .before .before .before .before .before .before .pre) in
-    let j = c .before .before .before .before .before .before .before .before .join-groups in
-    let w = loads _ (c .before .before .before .before .before .before .before .before .before .before .before .before .before .before .before .before .before .args .records) (c .before .before .before .before .before .before .before .before .before .before .before .before .before .before .before .before .before .pre) _ _ (c .before .before .before .before .before .before .before .before .before .before .before .before .rows-among .ensures) (c .before .before .before .before .before .before .before .before .before .before .claim-rows .ensures) _ refl _ (j .ensures .0) _ refl _ (ap refusalOf (sym (c .before .before .enum-told .given .1)) ∙ c .before .before .before .before .before .tree-paths .ensures .0) (c .before .before .before .before .before .tree-paths .ensures .1) in
-    (m, j .ensures .1 .1 .1, omega (arith, m, zeros), w)
+    let m = few-rows _ (c .before .before .before .before .before .before .before .before .before .before .before .before .before .before .before .before .args .records) (c .before .before .before .before .before .before .before .before .before .before .before .before .before .before .before .before .pre) in
+    let j = rw (bounded-few (c .before .before .before .before .before .before .before .before .before .before .before .before .before .before .before .before .args .m) m) at (c .before .before .before .before .before .before .before .two-passes .ensures) in
+    let w = loads _ (c .before .before .before .before .before .before .before .before .before .before .before .before .before .before .before .before .args .records) (c .before .before .before .before .before .before .before .before .before .before .before .before .before .before .before .before .pre) _ _ (c .before .before .before .before .before .before .before .before .before .before .before .rows-among .ensures) (c .before .before .before .before .before .before .before .before .before .claim-rows .ensures) _ refl _ (j .0) _ refl _ (ap refusalOf (sym (c .before .before .enum-told .given .1)) ∙ c .before .before .before .before .before .tree-paths .ensures .0) (c .before .before .before .before .before .tree-paths .ensures .1) in
+    (m, j .1 .1 .1, w)
 
-cast-count : tie.Need-cast-t33
+cast-count : tie.Need-cast-t31
 cast-count c =
-    let m = few-rows _ (c .before .before .before .before .before .before .before .before .before .before .before .before .before .before .before .before .before .before .before .before .before .before .before .before .args .records) (c .before .before .before .before .before .before .before .before .before .before .before .before .before .before .before .before .before .before .before .before .before .before .before .before .pre) in
-    let k : c .before .before .before .before .before .before .exchange-rows .result .count ≤ 3072 = omega (arith, m, c .before .before .before .before .before .before .exchange-rows .ensures .1) in
+    let m = few-rows _ (c .before .before .before .before .before .before .before .before .before .before .before .before .before .before .before .before .before .before .before .before .before .before .args .records) (c .before .before .before .before .before .before .before .before .before .before .before .before .before .before .before .before .before .before .before .before .before .before .pre) in
+    let k : c .before .before .before .before .before .exchange-rows .result .count ≤ 3072 = omega (arith, m, c .before .before .before .before .before .exchange-rows .ensures .1) in
     search (needs, k)
 
 returns-2 : tie.Need-returns-2
 unfolding refusalOf answerOf
 returns-2 c =
-    let j = c .before .before .before .before .before .before .before .before .before .before .before .before .before .before .before .join-groups in
-    let (answer, marks, list) = mended _ (c .before .before .before .before .before .before .before .before .before .before .before .before .before .before .before .before .before .before .before .before .before .before .before .before .args .records) (c .before .before .before .before .before .before .before .before .before .before .before .before .before .before .before .before .before .before .before .before .before .before .before .before .pre) _ _ (c .before .before .before .before .before .before .before .before .before .before .before .before .before .before .before .before .before .before .before .rows-among .ensures) (c .before .before .before .before .before .before .before .before .before .before .before .before .before .before .before .before .before .claim-rows .ensures) _ refl _ (j .ensures .0) _ refl _ (ap refusalOf (sym (c .before .before .before .before .before .before .before .before .before .enum-told .given .1)) ∙ c .before .before .before .before .before .before .before .before .before .before .before .before .tree-paths .ensures .0) (c .before .before .before .before .before .before .before .before .before .before .before .before .tree-paths .ensures .1) _ _ (j .ensures .1 .0) (j .ensures .1 .1 .0) _ (c .before .before .before .before .before .before .exchange-rows .ensures .0) in
+    let m = few-rows _ (c .before .before .before .before .before .before .before .before .before .before .before .before .before .before .before .before .before .before .before .before .before .before .args .records) (c .before .before .before .before .before .before .before .before .before .before .before .before .before .before .before .before .before .before .before .before .before .before .pre) in
+    let j = rw (bounded-few (c .before .before .before .before .before .before .before .before .before .before .before .before .before .before .before .before .before .before .before .before .before .before .args .m) m) at (c .before .before .before .before .before .before .before .before .before .before .before .before .before .two-passes .ensures) in
+    let (answer, marks, list) = mended _ (c .before .before .before .before .before .before .before .before .before .before .before .before .before .before .before .before .before .before .before .before .before .before .args .records) (c .before .before .before .before .before .before .before .before .before .before .before .before .before .before .before .before .before .before .before .before .before .before .pre) _ _ (c .before .before .before .before .before .before .before .before .before .before .before .before .before .before .before .before .before .rows-among .ensures) (c .before .before .before .before .before .before .before .before .before .before .before .before .before .before .before .claim-rows .ensures) _ refl _ (j .0) _ refl _ (ap refusalOf (sym (c .before .before .before .before .before .before .before .before .enum-told .given .1)) ∙ c .before .before .before .before .before .before .before .before .before .before .before .tree-paths .ensures .0) (c .before .before .before .before .before .before .before .before .before .before .before .tree-paths .ensures .1) _ _ (j .1 .0) (j .1 .1 .0) _ (c .before .before .before .before .before .exchange-rows .ensures .0) in
     (answer, c .before .before .write-marks .ensures ∙ marks, list)
 
 pub redraw-spec : {M : Type 1} → statement M
@@ -57,8 +51,7 @@ redraw-spec =
     (tie.spec
     (λ c κs. search needs)
     (λ c κs. search needs)
-    (λ c. search needs)
-    join-groups-requires
+    (λ c κs. search needs)
     (λ c. search needs)
     tree-paths-requires
     (λ c. search needs)
@@ -66,7 +59,6 @@ redraw-spec =
     (λ c κs. search needs)
     (λ c. search needs)
     returns
-    (λ c. search needs)
     (λ c. search needs)
     exchange-rows-requires
     (λ c κs. search needs)

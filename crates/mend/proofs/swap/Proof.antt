@@ -2,7 +2,8 @@
 -- Assumes nothing.
 use borrow.Author.Needs.{needs}
 use native.Mathlib.Omega.{arith}
-use Rattle.mend.specs.steps.Machine.{noted, swapped}
+use Rattle.groups.specs.steps.Machine.{noted}
+use Rattle.mend.specs.steps.Machine.{swapped}
 use Rattle.mend.proofs.swap.Statement.{statement}
 use Rattle.mend.proofs.swap.Tie as tie
 
@@ -18,7 +19,7 @@ swap-spec =
     (λ c κs. search needs)
     (λ c. search needs)
     (λ c. search needs)
-    (λ c κs. omega arith)
+    (λ c κs. search needs)
     (λ c κs. search needs)
     (λ c κs. search needs)
     (λ c. omega arith)

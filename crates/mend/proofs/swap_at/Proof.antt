@@ -10,7 +10,8 @@ use Rattle.rowset.specs.Columns.{width}
 use Rattle.rowset.specs.Integers.{integerIn}
 use Rattle.slice.specs.Slices.{component}
 use Rattle.mend.proofs.Steps.{swap-unused, swap-marked, swap-none, swap-swaps, out-bound}
-use Rattle.mend.specs.steps.Machine.{stateOf, swapped}
+use Rattle.groups.specs.steps.Machine.{stateOf}
+use Rattle.mend.specs.steps.Machine.{swapped}
 use Rattle.mend.proofs.swap_at.Statement.{statement}
 use Rattle.mend.proofs.swap_at.Tie as tie
 

@@ -9,8 +9,10 @@ use Rattle.matrix.specs.Matrix.{matrixColumn}
 use Rattle.rowset.specs.Columns.{width}
 use Rattle.rowset.specs.Integers.{integerIn}
 use Rattle.slice.specs.Slices.{size, component}
-use Rattle.mend.proofs.Steps.{visits-next, swap-count}
-use Rattle.mend.specs.steps.Machine.{State, stateOf, swapAt, visits}
+use Rattle.groups.proofs.Steps.{visits-next}
+use Rattle.mend.proofs.Steps.{swap-count}
+use Rattle.groups.specs.steps.Machine.{State, stateOf, visits}
+use Rattle.mend.specs.steps.Machine.{swapAt}
 use Rattle.mend.proofs.swap_rows.Statement.{statement}
 use Rattle.mend.proofs.swap_rows.Tie as tie
 
