@@ -3,7 +3,8 @@
 -- Main statements: a tree that is good over a set of rows is good over the set with one row more, once the heaviest row of that row's path went out for it if it is heavier
 -- (exchange-good); what holds after each position (visited-after). Assumes nothing.
 use Prim.Native.Nat.{ℕ, zero, suc, _+_, _≤_}
-use borrow.Author.Tests.{eqb-true, not-true}
+use borrow.Author.Tests.{eqb-true, not-true, ltb-true, ltb-false}
+use lib.Dec.{ltb}
 use lib.IntN.{ℤ}
 use lib.ListN.{length}
 use lib.Signed.{ltZ, _≤ℤ_, _<ℤ_, ≤ℤ-refl}
@@ -68,6 +69,23 @@ module _ (g : Graph) (ok : Sound g) (w : ℕ → ℤ) (S : ℕ → Bool) (tree :
           let (l, u) = ok .position k (tree .inside k (path-inside g ok S tree (g .a f) (g .b f) k on)) in
           largest-greatest (g .m) w (heavierThan g w S f) (suc j) k t l u (in-greaterThan w (w f) (onPath g S (g .a f) (g .b f)) k on (ltZ-true (w f) (w k) b))
       go t heavy k on false b = omega (arith, integers, ltZ-false (w f) (w k) b)
+
+  -- and it is the uppermost of the rows on the path that weigh as much
+  pub rowOut-uppermost : (f j : ℕ) → rowOut g w S f ≡ suc j → (k : ℕ) → onPath g S (g .a f) (g .b f) k ≡ true → w k ≡ w (suc j) → suc j ≤ k
+  unfolding rowOut heavierThan
+  rowOut-uppermost f j s k on same = go (ltb j k) refl
+    where
+      P : ℕ → Bool
+      P = heavierThan g w S f
+
+      go : (b : Bool) → ltb j k ≡ b → suc j ≤ k
+      go true e = omega (arith, ltb-true j k e)
+      go false e =
+          let (path, heavy, greatest) = rowOut-some f j s in
+          let (l, u) = ok .position k (tree .inside k (path-inside g ok S tree (g .a f) (g .b f) k on)) in
+          let above = uppermost-some (g .m) j (largest (g .m) w P) s .2 k l (omega (arith, ltb-false j k e)) in
+          let in-set = in-largest (g .m) w P k (in-greaterThan w (w f) (onPath g S (g .a f) (g .b f)) k on (rw same heavy)) (λ i _ _ t. rw same (greatest i (greaterThan-in w (w f) (onPath g S (g .a f) (g .b f)) i t .0))) in
+          clash in-set above
 
   -- the row that goes out, as the machine finds it: the uppermost of the heaviest rows on the path, where that is heavier than row f
   pub rowOut-heaviest : (f : ℕ) → rowOut g w S f ≡ cond (ltZ (w f) (w (uppermost (g .m) (largest (g .m) w (onPath g S (g .a f) (g .b f)))))) (uppermost (g .m) (largest (g .m) w (onPath g S (g .a f) (g .b f)))) 0
@@ -187,7 +205,7 @@ module _ (g : Graph) (ok : Sound g) (w : ℕ → ℤ) (M : ℕ → Bool) (s₀ :
           good = λ f rf new. exchange-good g ok w (s .marks) (h .tree) (reached k) (h .known) (h .good) (suc e) (suc k) r off path heavy heaviest f rf (reached-next k f new);
           number = omega (arith, h .number, done-length s (exchangeOf (suc e) (suc k)));
           applied = done-applied M s (exchangeOf (suc e) (suc k)) (h .applied);
-          meant = done-all (Meant g w M) s (exchangeOf (suc e) (suc k)) (h .meant) (swapped (s .marks) (h .tree) (suc e) (suc k) r off path heavy);
+          meant = done-all (Meant g w M) s (exchangeOf (suc e) (suc k)) (h .meant) (swapped (s .marks) (h .tree) (suc e) (suc k) r off path heavy heaviest (rowOut-uppermost g ok w (s .marks) (h .tree) (suc k) e o));
         }
 
     pub visited-step : Visited (suc k) (exchangeAt g w (suc k) s)

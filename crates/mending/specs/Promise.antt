@@ -3,7 +3,7 @@
 use Prim.Native.Nat.{ℕ, suc, _≤_, _*_}
 use lib.IntN.{ℤ}
 use lib.ListN.{length}
-use lib.Signed.{_<ℤ_}
+use lib.Signed.{_≤ℤ_, _<ℤ_}
 use mathlib.Core.Bool.{Bool, true, false}
 use mathlib.Core.List.{List·Memᴰ}
 use mathlib.Core.Logic.{_↔_}
@@ -22,8 +22,8 @@ pub data Meant (g : Graph) (w : ℕ → ℤ) (M : ℕ → Bool) : Record → Typ
   dropped : (j : ℕ) → M (suc j) ≡ true → ringless g M .marks (suc j) ≡ false → Walk g (both (upTo j) (ringless g M .marks)) (g .a (suc j)) (g .b (suc j)) → Meant g w M (drop (suc j))
   -- an added row is a row of the graph and joined two groups: no walk over the kept marks and the rows added above it joins its ends
   added : (j : ℕ) → g .rows (suc j) ≡ true → (Walk g (either (ringless g M .marks) (both (upTo j) (gapless g M .marks))) (g .a (suc j)) (g .b (suc j)) → ⊥) → Meant g w M (addition (suc j))
-  -- an exchanged row was on the tree path of the row that came in, and was heavier
-  swapped : (S : ℕ → Bool) → SpanningTree g S → (e f : ℕ) → g .rows f ≡ true → S f ≡ false → onPath g S (g .a f) (g .b f) e ≡ true → w f <ℤ w e → Meant g w M (exchangeOf e f)
+  -- an exchanged row was on the tree path of the row that came in, and was heavier: it was the heaviest row of that path, the uppermost among equals
+  swapped : (S : ℕ → Bool) → SpanningTree g S → (e f : ℕ) → g .rows f ≡ true → S f ≡ false → onPath g S (g .a f) (g .b f) e ≡ true → w f <ℤ w e → ((k : ℕ) → onPath g S (g .a f) (g .b f) k ≡ true → w k ≤ℤ w e) → ((k : ℕ) → onPath g S (g .a f) (g .b f) k ≡ true → w k ≡ w e → e ≤ k) → Meant g w M (exchangeOf e f)
 
 -- of a drawing s that is the marks M mended
 pub record Mends (g : Graph) (w : ℕ → ℤ) (M : ℕ → Bool) (s : Drawing) : Type 0 where

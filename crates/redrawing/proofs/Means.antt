@@ -250,7 +250,7 @@ module _ (c : Call) (a : Accepted c) (small : ZeroOrOne c) (l : List Record) (ro
     unfolding graphOf
     record-rows r (dropped j m off w) = (inr (used-row c (suc j) (inside (suc j) m)), inl refl)
     record-rows r (added j row w) = (inl refl, inr (used-row c (suc j) row))
-    record-rows r (swapped T tr e f row off on heavy) = (inr (used-row c e (tr .inside e (path-inside (graphOf c) ok T tr (inRow 1 (c .left) f) (inRow 1 (c .right) f) e on))), inr (used-row c f row))
+    record-rows r (swapped T tr e f row off on heavy heaviest uppermost) = (inr (used-row c e (tr .inside e (path-inside (graphOf c) ok T tr (inRow 1 (c .left) f) (inRow 1 (c .right) f) e on))), inr (used-row c f row))
 
     -- the old claim is its own rows
     old-bytes : at (claimed c) ≡ c .mark
