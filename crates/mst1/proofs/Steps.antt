@@ -23,7 +23,7 @@ use Rattle.mst1.specs.steps.Growth.{Reached, touching, meeting}
 -- ── The rows with an end in a vertex set ──
 
 -- with one vertex: those that MATCH finds
-touching-single : (side : ℕ → ℕ) (rows : ℕ → Bool) (v : ℕ) → equalTo side v rows ≡ touching side rows (put empty v)
+pub touching-single : (side : ℕ → ℕ) (rows : ℕ → Bool) (v : ℕ) → equalTo side v rows ≡ touching side rows (put empty v)
 unfolding touching equalTo put empty
 touching-single side rows v = refl
 

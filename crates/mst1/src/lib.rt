@@ -38,10 +38,10 @@ pub struct Grown {
 }
 
 // A fragment: the rows whose left end is in it, the rows whose right end is, and the chosen rows.
-struct Fragment {
-    lefts: Slice,
-    rights: Slice,
-    chosen: Slice,
+pub struct Fragment {
+    pub lefts: Slice,
+    pub rights: Slice,
+    pub chosen: Slice,
 }
 
 // FND of MIN over the columns after the first ones: the uppermost row of x of least weight, 0 where x has no row.
@@ -70,7 +70,7 @@ fn nothing(whole: bool) -> Grown
 }
 
 // The fragment of row i: both its ends.
-fn begin(left: &[u64], right: &[u64], rows: Slice, i: usize) -> Fragment
+pub fn begin(left: &[u64], right: &[u64], rows: Slice, i: usize) -> Fragment
     ensures lefts { λ r. ⌜ component (r .lefts) ≡ meeting (endsIn (now (left .entry))) (endsIn (now (left .entry)) i) (endsIn (now (right .entry)) i) (component rows) ⌝ }
     ensures rights { λ r. ⌜ component (r .rights) ≡ meeting (endsIn (now (right .entry))) (endsIn (now (left .entry)) i) (endsIn (now (right .entry)) i) (component rows) ⌝ }
     ensures chosen { λ r. ⌜ component (r .chosen) ≡ written empty i true ⌝ }

@@ -15,6 +15,9 @@ use Rattle.graph.proofs.Trail.{far-end}
 use Rattle.graph.specs.Builder.{cheapest, choose}
 use Rattle.graph.specs.Graph.{Graph, crosses, withEnds}
 use Rattle.graph.specs.steps.Trail.{far}
+use Rattle.mst1.proofs.Growth.{written-in}
+use Rattle.mst1.proofs.Steps.{touching-single, touching-put, touching-one}
+use Rattle.mst1.specs.steps.Growth.{touching}
 use Rattle.rowset.proofs.Laws.{clash, upwards, in-upTo, uppermost-some}
 use Rattle.rowset.proofs.Members.{both-in}
 use Rattle.rowset.proofs.Searches.{smallest-in}
@@ -23,32 +26,7 @@ use Rattle.rowset.specs.Sets.{empty, both, either, oneOf, put, firstOf, uppermo
 use Rattle.slice.specs.Slices.{size, written}
 use Rattle.star.specs.Mst1.{chosenRows}
 use Rattle.star.specs.Refusals.{isNone}
-use Rattle.start.specs.steps.Start.{graphIn, ending, Begun, Starts}
-
--- ── The rows with an end in a vertex set ──
-
--- with one vertex: those that MATCH finds
-ending-single : (side : ℕ → ℕ) (rows : ℕ → Bool) (v : ℕ) → equalTo side v rows ≡ ending side rows (put empty v)
-unfolding ending equalTo put empty
-ending-single side rows v = refl
-
--- with one vertex more: those that MATCH finds
-ending-put : (side : ℕ → ℕ) (rows Q : ℕ → Bool) (v : ℕ) → either (ending side rows Q) (equalTo side v rows) ≡ ending side rows (put Q v)
-unfolding ending either equalTo put
-ending-put side rows Q v = fun-ext (λ i. go (rows i) (Q (side i)) (eqb (side i) v))
-  where
-    go : (x y z : Bool) → (x && y || x && z) ≡ (x && (y || z))
-    go true y z = refl
-    go false y z = refl
-
--- those with one end, and not with the other, are the rows that cross
-ending-one : (g : Graph) (Q : ℕ → Bool) → oneOf (ending (g .a) (g .rows) Q) (ending (g .b) (g .rows) Q) ≡ both (g .rows) (crosses g Q)
-unfolding ending oneOf both crosses xor
-ending-one g Q = fun-ext (λ i. go (g .rows i) (Q (g .a i)) (Q (g .b i)))
-  where
-    go : (x y z : Bool) → xor (x && y) (x && z) ≡ (x && xor y z)
-    go true y z = refl
-    go false y z = refl
+use Rattle.start.specs.steps.Start.{graphIn, Begun, Starts}
 
 -- the rows that MATCH finds on either side are the rows at r
 pub rows-at-r : (g : Graph) (r : ℕ) → either (equalTo (g .a) r (g .rows)) (equalTo (g .b) r (g .rows)) ≡ both (g .rows) (touches g r)
@@ -58,10 +36,6 @@ rows-at-r g r = fun-ext (λ i. go (g .rows i) (eqb (g .a i) r) (eqb (g .b i) r))
     go : (p x y : Bool) → (p && x || p && y) ≡ (p && (x || y))
     go true x y = refl
     go false x y = refl
-
-written-in : (p : ℕ → Bool) (i : ℕ) → 1 ≤ i → i ≤ size → written p i true ≡ put p i
-unfolding written
-written-in p i l u = rw (in-upTo size i l u)
 
 module _ (a b : ℕ → ℕ) (rows : ℕ → Bool) (n : ℕ) (w : ℕ → ℤ) (r : ℕ) where
   abbrev g : Graph
@@ -156,15 +130,15 @@ module _ (a b : ℕ → ℕ) (rows : ℕ → Bool) (n : ℕ) (w : ℕ → ℤ) (
         right = two b;
       })
     where
-      two : (side : ℕ → ℕ) → either (equalTo side (a (suc j)) rows) (equalTo side (b (suc j)) rows) ≡ ending side rows (put (put empty (a (suc j))) (b (suc j)))
-      two side = rw (ending-single side rows (a (suc j)), ending-put)
+      two : (side : ℕ → ℕ) → either (equalTo side (a (suc j)) rows) (equalTo side (b (suc j)) rows) ≡ touching side rows (put (put empty (a (suc j))) (b (suc j)))
+      two side = rw (touching-single side rows (a (suc j)), touching-put)
 
   -- ── One row more ──
 
   module _ {k : ℕ} {lefts rights chosen : ℕ → Bool} (s : Begun g w r k lefts rights chosen) where
     -- the rows that cross the fragment
     crossing : oneOf lefts rights ≡ both rows (crosses g (s .vertices))
-    crossing = rw (s .left, s .right) (ending-one g (s .vertices))
+    crossing = rw (s .left, s .right) (touching-one g (s .vertices))
 
     pub crossing-row : (i : ℕ) → oneOf lefts rights i ≡ true → rows i ≡ true
     crossing-row i e = both-in rows (crosses g (s .vertices)) i (rw crossing at e) .0
@@ -186,7 +160,7 @@ module _ (a b : ℕ → ℕ) (rows : ℕ → Bool) (n : ℕ) (w : ℕ → ℤ) (
         → rights′ ≡ either rights (equalTo b v rows)
         → chosen′ ≡ written chosen i true
         → Begun g w r (k + 1) lefts′ rights′ chosen′
-    unfolding choose ending far
+    unfolding choose touching far
     begun-more zero v e l hv hl hr hc = absurd (omega arith)
     begun-more (suc j) v e l hv hl hr hc =
         rw (hl, hr, hc, written-in chosen (suc j) l (preferred-in (oneOf lefts rights) j e .1), add-one)
@@ -207,8 +181,8 @@ module _ (a b : ℕ → ℕ) (rows : ℕ → Bool) (n : ℕ) (w : ℕ → ℤ) (
         left-end : lefts (suc j) ≡ Q (a (suc j))
         left-end = ap (λ (p : ℕ → Bool). p (suc j)) (s .left) ∙ rw (row .0)
 
-        brought : {p : ℕ → Bool} (side : ℕ → ℕ) → p ≡ ending side rows Q → either p (equalTo side v rows) ≡ ending side rows (put Q v)
-        brought side h = rw h (ending-put side rows Q v)
+        brought : {p : ℕ → Bool} (side : ℕ → ℕ) → p ≡ touching side rows Q → either p (equalTo side v rows) ≡ touching side rows (put Q v)
+        brought side h = rw h (touching-put side rows Q v)
 
         added : withEnds g Q (suc j) ≡ put Q v
         added =

@@ -12,10 +12,9 @@ ghost use Rattle.rowset.specs.Searches.{equalTo, smallest};
 ghost use Rattle.rowset.specs.Sets.{empty, both, either, firstOf, uppermost};
 ghost use Rattle.slice.specs.Slices.{size, component, written};
 ghost use Rattle.start.specs.steps.Start.{graphIn, Begun, Starts};
+use mst1::Fragment;
+use mst1::UPPER;
 use slice::Slice;
-
-// The number of columns on the left that are empty in a table of bytes.
-const UPPER: usize = 24;
 
 // The start: whether it is a whole tree, its rows, none where it is not, and the rows of the table at r.
 pub struct Started {
@@ -24,38 +23,17 @@ pub struct Started {
     pub at: Slice,
 }
 
-// A fragment: the rows whose left end is in it, the rows whose right end is, and the chosen rows.
-struct Fragment {
-    lefts: Slice,
-    rights: Slice,
-    chosen: Slice,
-}
-
 // The row of x to choose next, by FND of MIN: the uppermost lightest of those at r if there is one, else the uppermost lightest; 0 where x has no row.
 fn preferred(weights: &[u64], first: usize, x: Slice, at: Slice) -> usize
     ensures { λ i.
         let w = integerIn (matrixColumn (now (weights .entry))) first (width - first) in
         ⌜ i ≡ firstOf (uppermost size (smallest size w (both (component x) (component at)))) (uppermost size (smallest size w (component x))) ⌝ }
 {
-    let here = slice::fnd(lent::min_from(weights, first, slice::and(x, at)));
+    let here = mst1::cheapest(weights, first, slice::and(x, at));
     if here == 0 {
-        return slice::fnd(lent::min_from(weights, first, x));
+        return mst1::cheapest(weights, first, x);
     }
     here
-}
-
-// x, and with it the rows of a slice that hold v, by MATCH.
-fn reach(x: Slice, ends: &[u64], v: u32, rows: Slice) -> Slice
-    ensures { λ s. ⌜ component s ≡ either (component x) (equalTo (endsIn (now (ends .entry))) v (component rows)) ⌝ }
-{
-    slice::or(x, lent::match_from(ends, UPPER, v, rows))
-}
-
-// The rows of a slice that hold u or v, by MATCH.
-fn meet(ends: &[u64], u: u32, v: u32, rows: Slice) -> Slice
-    ensures { λ s. ⌜ component s ≡ either (equalTo (endsIn (now (ends .entry))) u (component rows)) (equalTo (endsIn (now (ends .entry))) v (component rows)) ⌝ }
-{
-    reach(lent::match_from(ends, UPPER, u, rows), ends, v, rows)
 }
 
 // The far end of row i: its right end where its left end is in the fragment, and else its left end.
@@ -66,21 +44,6 @@ fn far_end(lefts: &[u64], rights: &[u64], ahead: bool, i: usize) -> u32
         return lent::row_from(rights, UPPER, i);
     }
     lent::row_from(lefts, UPPER, i)
-}
-
-// The fragment of row i: both its ends.
-fn begin(lefts: &[u64], rights: &[u64], rows: Slice, i: usize) -> Fragment
-    ensures lefts { λ f. let a = endsIn (now (lefts .entry)) in let b = endsIn (now (rights .entry)) in ⌜ component (f .lefts) ≡ either (equalTo a (a i) (component rows)) (equalTo a (b i) (component rows)) ⌝ }
-    ensures rights { λ f. let a = endsIn (now (lefts .entry)) in let b = endsIn (now (rights .entry)) in ⌜ component (f .rights) ≡ either (equalTo b (a i) (component rows)) (equalTo b (b i) (component rows)) ⌝ }
-    ensures chosen { λ f. ⌜ component (f .chosen) ≡ written empty i true ⌝ }
-{
-    let u = lent::row_from(lefts, UPPER, i);
-    let v = lent::row_from(rights, UPPER, i);
-    Fragment {
-        lefts: meet(lefts, u, v, rows),
-        rights: meet(rights, u, v, rows),
-        chosen: slice::put(Slice::empty(), i, true),
-    }
 }
 
 // No rows: the whole tree of one vertex, or what is left where there is no tree.
@@ -127,8 +90,8 @@ fn grow(
             return nothing(false, at);
         }
         let far = far_end(lefts, rights, slice::get(x, i), i);
-        x = reach(x, lefts, far, rows);
-        y = reach(y, rights, far, rows);
+        x = mst1::reach(x, lefts, UPPER, far, rows);
+        y = mst1::reach(y, rights, UPPER, far, rows);
         chosen = slice::put(chosen, i, true);
         k += 1;
     }
@@ -157,7 +120,8 @@ pub fn start_of(
         let g = graphIn (endsIn (now (lefts .entry))) (endsIn (now (rights .entry))) (component rows) n in
         ⌜ component (t .at) ≡ both (component rows) (touches g r) ⌝ }
 {
-    let at = reach(lent::match_from(lefts, UPPER, r, rows), rights, r, rows);
+    let found = lent::match_from(lefts, UPPER, r, rows);
+    let at = mst1::reach(found, rights, UPPER, r, rows);
     if n < 2 {
         return nothing(n == 1, at);
     }
@@ -165,6 +129,6 @@ pub fn start_of(
     if i == 0 {
         return nothing(false, at);
     }
-    let start = begin(lefts, rights, rows, i);
+    let start = mst1::begin(lefts, rights, rows, i);
     grow(lefts, rights, weights, first, rows, at, n, r, start)
 }

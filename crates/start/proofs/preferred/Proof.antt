@@ -11,8 +11,8 @@ use Rattle.start.proofs.preferred.Statement.{statement}
 use Rattle.start.proofs.preferred.Tie as tie
 
 -- the row that is found is the uppermost lightest of the set
-lightest : (w : ℕ → ℤ) (i : ℕ) (X Y Z : ℕ → Bool) → i ≡ uppermost size X → X ≡ smallest size w Y → Y ≡ Z → i ≡ uppermost size (smallest size w Z)
-lightest w i X Y Z e q s = rw (← s, ← q) e
+lightest : (w : ℕ → ℤ) (i : ℕ) (Y Z : ℕ → Bool) → i ≡ uppermost size (smallest size w Y) → Y ≡ Z → i ≡ uppermost size (smallest size w Z)
+lightest w i Y Z e s = rw (← s) e
 
 first-none : (i j k : ℕ) → i ≡ 0 → i ≡ j → k ≡ firstOf j k
 unfolding firstOf
@@ -25,22 +25,13 @@ first-some (suc i) j k h e = rw (← e)
 
 returns : tie.Need-returns
 returns c =
-    let f = c .before .before .before in
-    rw (← c .before .min-from2 .ensures, ← c .fnd2 .ensures) (first-none _ _ _ (c .before .before .if1 .taken) (lightest _ _ _ _ _ (f .fnd .ensures) (f .before .min-from .ensures) (f .before .before .and .ensures)))
+    let f = c .before .before in
+    rw (← c .cheapest2 .ensures) (first-none _ _ _ (c .before .if1 .taken) (lightest _ _ _ _ (f .cheapest .ensures) (f .before .and .ensures)))
 
 returns-2 : tie.Need-returns-2
 returns-2 c =
     let f = c .before in
-    first-some _ _ _ (c .if1 .left) (lightest _ _ _ _ _ (f .fnd .ensures) (f .before .min-from .ensures) (f .before .before .and .ensures))
+    first-some _ _ _ (c .if1 .left) (lightest _ _ _ _ (f .cheapest .ensures) (f .before .and .ensures))
 
 pub preferred-spec : {M : Type 1} → statement M
-preferred-spec =
-    tie.close
-    (tie.spec
-    (λ c κs. search needs)
-    (λ c κs. search needs)
-    (λ c κs. search needs)
-    (λ c κs. search needs)
-    (λ c κs. search needs)
-    returns
-    returns-2)
+preferred-spec = tie.close (tie.spec (λ c κs. search needs) (λ c κs. search needs) (λ c κs. search needs) returns returns-2)
