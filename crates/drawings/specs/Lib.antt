@@ -1,4 +1,5 @@
 pub mod Mend
 pub mod Door
 pub mod Means
+pub mod Bytes
 pub mod Trials

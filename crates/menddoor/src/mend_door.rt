@@ -10,6 +10,7 @@ ghost use lib.ListN.{length};
 ghost use mathlib.Core.List.{List};
 ghost use mathlib.Core.Path.{_≡_};
 ghost use Rattle.answer.specs.Records.{fieldsOf};
+ghost use Rattle.drawings.specs.Bytes.{MendCall};
 ghost use Rattle.drawings.specs.Door.{mendFields, mendDoor, mendDoorMarks, mendDoorList};
 ghost use Rattle.mend.specs.Answers.{answerOf};
 ghost use Rattle.record.specs.declared.Record.{Record};
@@ -117,7 +118,7 @@ pub fn work_mend_answer(
     tell(answer, m)
 }
 
-// Mending through the door.
+// Mending through the door. `means` says what the bytes, the claim and the list are worth.
 #[no_mangle]
 pub extern "C" fn star_mend(
     n: u32,
@@ -132,13 +133,16 @@ pub extern "C" fn star_mend(
     ensures written { λ r.
         let c = callOf n (now (left .entry)) (now (right .entry)) (now (weight .entry)) (now (mark .entry)) in
         ⌜ (now (answer .exit) ≡ mendDoor c (length (now (records .entry))) (now (answer .entry))) × (now (mark .exit) ≡ mendDoorMarks c (length (now (records .entry))) (now (answer .entry))) × (now (records .exit) ≡ mendDoorList c (now (records .entry)) (now (answer .entry))) ⌝ }
+    ensures means { λ r.
+        let c = callOf n (now (left .entry)) (now (right .entry)) (now (weight .entry)) (now (mark .entry)) in
+        ⌜ MendCall c (now (records .entry)) (now (answer .entry)) (now (answer .exit)) (now (mark .exit)) (now (records .exit)) r ⌝ }
 {
     let m = mend_answer(n, left, right, weight, mark, records.len(), answer);
     write_records(records, m.list, m.count);
     m.returned
 }
 
-// Mending of a working table, whose rows in use are lent as sixteen words, through the door.
+// Mending of a working table, whose rows in use are lent as sixteen words, through the door. `means` says what the bytes, the claim and the list are worth.
 #[no_mangle]
 pub extern "C" fn star_work_mend(
     n: u32,
@@ -154,6 +158,9 @@ pub extern "C" fn star_work_mend(
     ensures written { λ r.
         let c = workOf n (now (words .entry)) (now (left .entry)) (now (right .entry)) (now (weight .entry)) (now (mark .entry)) in
         ⌜ (now (answer .exit) ≡ mendDoor c (length (now (records .entry))) (now (answer .entry))) × (now (mark .exit) ≡ mendDoorMarks c (length (now (records .entry))) (now (answer .entry))) × (now (records .exit) ≡ mendDoorList c (now (records .entry)) (now (answer .entry))) ⌝ }
+    ensures means { λ r.
+        let c = workOf n (now (words .entry)) (now (left .entry)) (now (right .entry)) (now (weight .entry)) (now (mark .entry)) in
+        ⌜ MendCall c (now (records .entry)) (now (answer .entry)) (now (answer .exit)) (now (mark .exit)) (now (records .exit)) r ⌝ }
 {
     let m = work_mend_answer(n, words, left, right, weight, mark, records.len(), answer);
     write_records(records, m.list, m.count);
