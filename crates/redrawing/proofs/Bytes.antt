@@ -1,7 +1,7 @@
 -- What the bytes, the claim and the list after a call through the doors of mending mean (mend-door-means).
 -- Assumes nothing.
 use Prim.Native.Nat.{ℕ, _*_, _≤_, _<_}
-use borrow.Author.Tests.{le-ltb, ltb-false, eq-eqb, ne-eqb}
+use borrow.Author.Tests.{ltb-false, eq-eqb, ne-eqb}
 use lib.Dec.{ltb}
 use lib.ListN.{length}
 use mathlib.Core.Bool.{Bool, true, false}
@@ -20,22 +20,17 @@ use Rattle.drawings.specs.Mend.{shortList, mendCauses, MendAnswer, unmended, me
 use Rattle.graph.specs.Graph.{Connected}
 use Rattle.record.specs.declared.Record.{Record}
 use Rattle.refusal.specs.declared.Refusal.{Refusal}
-use Rattle.rowset.proofs.Laws.{uppermost-some, uppermost-none, uppermost-zero}
-use Rattle.graph.proofs.Path.{and-never}
-use Rattle.star.proofs.Accepted.{none-causeAt, causeAt-none, refusal-append, some-causeAt, accepted-means, used-row, row-used, taken}
+use Rattle.rowset.proofs.Laws.{uppermost-some, uppermost-none}
+use Rattle.star.proofs.Accepted.{causeAt-none, refusal-append, some-causeAt, accepted-means, row-used}
 use Rattle.star.specs.Call.{Call, rowsOf, used, graphOf}
 use Rattle.star.specs.Door.{wellLent, doorReturns, answerAfter}
 use Rattle.star.specs.Refusals.{Accepted, cause, tableCauses, wrongByte, badClaim, orElse, refusal}
 use Rattle.redrawing.proofs.Means.{mending-means}
 
--- a claim's bytes are 0 and 1 exactly where no refusal 6 applies
+-- where no refusal 6 applies a claim's bytes are 0 and 1
 clean : (c : Call) → badClaim c ≡ none → ZeroOrOne c
 unfolding badClaim wrongByte
 clean c h i row = ltb-false 1 _ (rw (row-used c i row) at (uppermost-none (rowsOf c) (wrongByte (used c) (c .mark)) (causeAt-none 6 _ h) i (row .0) (row .1)))
-
-unclean : (c : Call) → ZeroOrOne c → badClaim c ≡ none
-unfolding badClaim wrongByte
-unclean c small = none-causeAt 6 (uppermost-zero (rowsOf c) (wrongByte (used c) (c .mark)) (λ i lo hi. and-never (used c i) _ (λ e. le-ltb 1 _ (small i (used-row c i e)))))
 
 -- how a call stands before the first pass: refused for its table, its claim or its list, or taken
 pub data Standing (c : Call) (l : List Record) : Type 0 where
