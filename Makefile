@@ -2,6 +2,7 @@
 # make run       checks the yard
 # make test      the whole gate: proofs, must-fail edits, programs, tests from outside
 # make bench     times the doors against other libraries, where they are installed, and plots the times (target/c/bench.svg)
+# make counts    the instructions of each call of the bench, by callgrind
 # make install PREFIX=DIR     the header, the library, the console, its manual page, the pkg-config file; needs no toolchain once all is built
 # make uninstall PREFIX=DIR   removes these files
 CC ?= cc
@@ -148,6 +149,9 @@ outside: $(BUILD)/star $(BUILD)/door_test $(BUILD)/door_test_faulty $(BUILD)/wor
 bench: $(BUILD)/bench
 	$(BUILD)/bench $(BUILD)/bench.svg
 
+counts: $(BUILD)/bench
+	bash bench/counts.sh $(BUILD)/bench
+
 INCLUDES := $(DESTDIR)$(PREFIX)/include
 LIBRARIES := $(DESTDIR)$(PREFIX)/lib
 PROGRAMS := $(DESTDIR)$(PREFIX)/bin
@@ -168,4 +172,4 @@ clean:
 	rm -rf target
 
 FORCE:
-.PHONY: all proved run test outside bench install uninstall clean FORCE
+.PHONY: all proved run test outside bench counts install uninstall clean FORCE

@@ -56,9 +56,9 @@ extern "C" {
 
 /* The version of this header. star_version gives that of the library that is linked. */
 #define STAR_VERSION_MAJOR 0
-#define STAR_VERSION_MINOR 8
+#define STAR_VERSION_MINOR 9
 #define STAR_VERSION_PATCH 0
-#define STAR_VERSION "0.8.0"
+#define STAR_VERSION "0.9.0"
 
 const char *star_version(void);
 
