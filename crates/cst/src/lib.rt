@@ -29,10 +29,14 @@ use slice::rows::rows_among;
 use slice::rows::rows_to;
 use slice::words::rows_in_use;
 
-// A number of vertices that many tables do not exceed, and the words of a path matrix for as many.
+// Two numbers of vertices that many tables do not exceed, and the words of a path matrix for as many.
 const FEW: u32 = 16;
 
 const FEW_WORDS: usize = 256;
+
+const SOME: u32 = 64;
+
+const SOME_WORDS: usize = 1024;
 
 // The exchange that makes a claim lighter: the marked row that goes out, the unmarked row that comes in, and how much less the claim then weighs.
 pub struct Exchange {
@@ -252,7 +256,7 @@ fn check_in(
 }
 
 // CST over a table of m rows, of which those of a slice are in use: the verdict on the claim, and beside a pass that is not the only one the rows of an exchange that gives another tree of the same weight.
-// The path matrix is CST's own, a small one where there are few vertices.
+// The path matrix is CST's own, a smaller one where there are fewer vertices.
 pub fn cst_rows(
     n: u32,
     m: usize,
@@ -273,6 +277,10 @@ pub fn cst_rows(
     if n <= FEW {
         let mut small = [0u64; FEW_WORDS];
         return check_in(n, m, whole, rows, left, right, weight, mark, &mut small);
+    }
+    if n <= SOME {
+        let mut middle = [0u64; SOME_WORDS];
+        return check_in(n, m, whole, rows, left, right, weight, mark, &mut middle);
     }
     let mut own = [0u64; path::ALL_WORDS];
     check_in(n, m, whole, rows, left, right, weight, mark, &mut own)
