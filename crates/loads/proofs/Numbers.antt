@@ -1,12 +1,12 @@
 -- What the columns hold after a load: the numbers of the rows, in all columns and in as many of the last as the bytes need.
--- Main statements: loaded-number, refused-number. Assumes nothing.
+-- Main statements: zeros, put-both. Assumes nothing.
 use Prim.Native.Nat.{ℕ, zero, suc, _+_, _*_, _-_, _/_, _%_, _^_, _≤_, _<_}
-use mathlib.Core.Bool.{Bool, true, false, _&&_, and-false}
+use mathlib.Core.Bool.{Bool, true, false, cond, _&&_, and-false}
 use mathlib.Core.List.{List}
 use mathlib.Core.Logic.{by-cases}
 use mathlib.Core.Path.{_≡_, refl, sym, ap, ap₂, _∙_, fun-ext}
-use native.Mathlib.Decide.{decLt}
-use native.Mathlib.Nat.{add-comm, mod-lt, mul-mod-right, mul-le-mul-left, lt-of-lt-of-le}
+use native.Mathlib.Decide.{ℕ-discrete, decLt}
+use native.Mathlib.Nat.{add-comm, div-add-mod, div-le-of-le-mul, mod-lt, mul-mod-right, mul-le-mul-left, lt-of-lt-of-le}
 use native.Mathlib.Omega.{arith}
 use lib.Dec.{eqb}
 use lib.ListN.{length, getD, replicate}
@@ -23,16 +23,11 @@ use Rattle.slice.specs.Slices.{size, bit}
 use Rattle.slice.proofs.Bits.{bit-of-zero}
 use Rattle.slice.proofs.Sets.{upTo-inside, upTo-below, upTo-above, upTo-bounds}
 use Rattle.table.proofs.Columns.{number-bits}
-use Rattle.table.proofs.Loads.{little-below, in-row-past, load-taken, loaded-taken}
-use Rattle.table.specs.Loads.{loadedRow}
-use Rattle.loads.specs.steps.Stores.{Rows, planeWord, withWords}
+use Rattle.table.proofs.Loads.{little-below, in-row-past, load-long, load-uneven, load-taken, loaded-refused, loaded-taken}
+use Rattle.table.specs.Loads.{loadRefusal, loadedRow}
+use Rattle.loads.specs.steps.Stores.{Rows, Zeros, planeWord, withWords, withLoad}
 use Rattle.loads.proofs.Gathering.{plane-past}
 use Rattle.loads.proofs.Placing.{length-words, words-same, words-after, words-before}
-
--- words of a table that are all 0
-pub record Zeros (l : List ℕ) : Type 0 where
-  pub full : length l ≡ 512
-  pub none : (k : ℕ) → getD l k 0 ≡ 0
 
 none-stored : (n k : ℕ) → _≡_ {A = ℕ} (getD (replicate n 0) k 0) 0
 none-stored zero k = refl
@@ -53,7 +48,7 @@ zeros-column : (l : List ℕ) → Zeros l → (j i : ℕ) → matrixColumn l j i
 unfolding matrixColumn
 zeros-column l z j i = rw (z .none (16 * (j - 1) + (i - 1) / 64), bit-of-zero, and-false, and-false)
 
-pub zeros-number : (l : List ℕ) → Zeros l → (s n : ℕ) → inColumns (matrixColumn l) s n ≡ (λ i. 0)
+zeros-number : (l : List ℕ) → Zeros l → (s n : ℕ) → inColumns (matrixColumn l) s n ≡ (λ i. 0)
 zeros-number l z s n = fun-ext (λ i. number-bits (matrixColumn l) s n 0 i (pow-pos n) (λ k h. zeros-column l z (s + (n - k)) i ∙ sym (bit-of-zero k)))
 
 -- a number in bytes, by its digits
@@ -104,7 +99,7 @@ module _ (column : List ℕ) (bytes : (i : ℕ) → getD column i 0 < 256) (stri
           ap (λ n. bit n (r % 64)) word ∙ bit-of-zero (r % 64) ∙ sym (bit-above (little column (stride * r) stride) p small)
 
   -- the columns hold the rows
-  pub loaded-number : (s n : ℕ) → s + n ≡ width → 8 * stride ≤ n → inColumns (matrixColumn words) s n ≡ loadedRow stride column
+  loaded-number : (s n : ℕ) → s + n ≡ width → 8 * stride ≤ n → inColumns (matrixColumn words) s n ≡ loadedRow stride column
   unfolding inRow
   loaded-number s n e h =
       fun-ext (λ i. row i (upTo size i) refl)
@@ -139,3 +134,53 @@ module _ (column : List ℕ) (bytes : (i : ℕ) → getD column i 0 < 256) (stri
       row zero b o = outside 0 (upTo-below size 0 (omega arith))
       row (suc r) true o = inside r (upTo-bounds size (suc r) o .1)
       row (suc r) false o = outside (suc r) o ∙ sym (past r o)
+
+module _ (l column : List ℕ) (stride : ℕ) where
+  -- a column that cannot be loaded, and one that can
+  pub put-long : stride * size < length column → l ≡ withLoad l column stride
+  unfolding withLoad
+  put-long h = rw (load-long stride column h)
+
+  pub put-uneven : length column ≤ stride * size → (length column % stride ≡ 0 → ⊥) → l ≡ withLoad l column stride
+  unfolding withLoad
+  put-uneven h u = rw (load-uneven stride column h u)
+
+  pub put-taken : length column ≤ stride * size → length column % stride ≡ 0 → withWords l column stride ((length column / stride + 63) / 64) ≡ withLoad l column stride
+  unfolding withLoad
+  put-taken h e = rw (load-taken stride column h e)
+
+-- the rows of one that can
+pub rows-taken : (column : List ℕ) (stride : ℕ) → 1 ≤ stride → stride ≤ 4 → length column ≤ stride * size → length column % stride ≡ 0 → Rows column stride (length column / stride)
+rows-taken column stride some four h e = record { some = some; four = four; most = div-le-of-le-mul stride h; whole = omega (arith, div-add-mod (length column) stride, e) }
+
+-- columns of zeros hold the rows after a load, and zeros where the column cannot be loaded
+put-number : (l column : List ℕ) (stride : ℕ) → ((i : ℕ) → getD column i 0 < 256) → 1 ≤ stride → stride ≤ 4 → Zeros l → (s n : ℕ) → s + n ≡ width → 8 * stride ≤ n
+    → inColumns (matrixColumn (withLoad l column stride)) s n ≡ loadedRow stride column
+put-number l column stride bytes some four z s n e h =
+    by-cases (decLt (stride * size) (length column)) long (λ a. by-cases (ℕ-discrete (length column % stride) 0) (taken (omega (arith, a))) (uneven (omega (arith, a))))
+  where
+    long : stride * size < length column → inColumns (matrixColumn (withLoad l column stride)) s n ≡ loadedRow stride column
+    long a = rw (← put-long l column stride a) (zeros-number l z s n ∙ sym (loaded-refused stride column 1 (load-long stride column a)))
+
+    uneven : length column ≤ stride * size → (length column % stride ≡ 0 → ⊥) → inColumns (matrixColumn (withLoad l column stride)) s n ≡ loadedRow stride column
+    uneven a u = rw (← put-uneven l column stride a u) (zeros-number l z s n ∙ sym (loaded-refused stride column 2 (load-uneven stride column a u)))
+
+    taken : length column ≤ stride * size → length column % stride ≡ 0 → inColumns (matrixColumn (withLoad l column stride)) s n ≡ loadedRow stride column
+    taken a b = rw (← put-taken l column stride a b) (loaded-number column bytes stride (length column / stride) (rows-taken column stride some four a b) l z s n e h)
+
+pub put-both : (l column : List ℕ) {after : List ℕ} (stride : ℕ) → ((i : ℕ) → getD column i 0 < 256) → (1 ≤ stride) × (stride ≤ 4) → after ≡ withLoad l column stride
+    → (after ≡ withLoad l column stride) × (Zeros l → (s n : ℕ) → s + n ≡ width → 8 * stride ≤ n → inColumns (matrixColumn after) s n ≡ loadedRow stride column)
+put-both l column stride bytes few e = (e, λ z s n t h. rw e (put-number l column stride bytes (few .0) (few .1) z s n t h))
+
+-- a load keeps the number of words
+pub length-load : (l column : List ℕ) (stride : ℕ) → length (withLoad l column stride) ≡ length l
+unfolding withLoad
+length-load l column stride = go (eqb (loadRefusal stride column .number) 0)
+  where
+    go : (b : Bool) → length (cond b (withWords l column stride ((length column / stride + 63) / 64)) l) ≡ length l
+    go true = length-words l column stride ((length column / stride + 63) / 64)
+    go false = refl
+
+-- so the words of a table are as many after a load of zeros
+pub length-put : (l column : List ℕ) {after : List ℕ} (stride : ℕ) → after ≡ withLoad l column stride → Zeros l → length after ≡ 512
+length-put l column stride e z = rw e (length-load l column stride ∙ z .full)

@@ -9,7 +9,7 @@ ghost use Rattle.matrix.specs.Matrix.{matrixColumn};
 ghost use Rattle.planes.specs.steps.Blocks.{fromDigits, rowByte, blockOf, wordOf};
 ghost use Rattle.slice.specs.Slices.{size};
 ghost use Rattle.table.specs.Loads.{loadedRow};
-ghost use Rattle.loads.specs.steps.Stores.{Rows, withPlanes, withBytes, withWords};
+ghost use Rattle.loads.specs.steps.Stores.{Rows, withPlanes, withBytes, withWords, withLoad, Zeros};
 use lent::Stored;
 
 // The number of columns of a table, the words of a column and of a table, and the bits of a word.
@@ -17,7 +17,7 @@ const WIDTH: usize = 32;
 
 const COLUMN: usize = 16;
 
-const ALL: usize = 512;
+pub const ALL: usize = 512;
 
 const BITS: usize = 64;
 
@@ -142,20 +142,36 @@ fn put_words(columns: &mut [u64; ALL], column: &[u8], stride: usize, rows: usize
     }
 }
 
-// A load of a column with `stride` bytes a row, in all columns, or in as many of the last as the bytes need.
-fn load(column: &[u8], stride: usize) -> Stored
+// A load of a column with `stride` bytes a row. Where the columns held zeros, all of them, or as many of the last as the bytes need, then hold the rows.
+fn put(column: &[u8], stride: usize, columns: &mut [u64; ALL])
     requires { ⌜ (1 ≤ stride) × (stride ≤ 4) ⌝ }
-    ensures { λ r. ⌜ ((s n : ℕ) → s + n ≡ width → 8 * stride ≤ n → inColumns (matrixColumn (r .columns)) s n ≡ loadedRow stride (now (column .entry))) ⌝ }
+    ensures columns { λ u. ⌜ now (columns .exit) ≡ withLoad (now (columns .entry)) (now (column .entry)) stride ⌝ }
+    ensures rows { λ u. ⌜ (Zeros (now (columns .entry)) → (s n : ℕ) → s + n ≡ width → 8 * stride ≤ n → inColumns (matrixColumn (now (columns .exit))) s n ≡ loadedRow stride (now (column .entry))) ⌝ }
 {
-    let mut r = Stored { columns: [0; ALL] };
     if stride * slice::SIZE < column.len() {
-        return r;
+        return;
     }
     if column.len() % stride != 0 {
-        return r;
+        return;
     }
-    put_words(&mut r.columns, column, stride, column.len() / stride);
-    r
+    put_words(columns, column, stride, column.len() / stride);
+}
+
+// A table with one byte a row, put into columns. Where they held zeros, the number in the last eight columns, and so in all, is then the row's.
+pub fn put_ends(column: &[u8], columns: &mut [u64; ALL])
+    ensures columns { λ u. ⌜ now (columns .exit) ≡ withLoad (now (columns .entry)) (now (column .entry)) 1 ⌝ }
+    ensures last { λ u. ⌜ (Zeros (now (columns .entry)) → inColumns (matrixColumn (now (columns .exit))) 24 (width - 24) ≡ loadedRow 1 (now (column .entry))) ⌝ }
+    ensures rows { λ u. ⌜ (Zeros (now (columns .entry)) → inColumns (matrixColumn (now (columns .exit))) 0 width ≡ loadedRow 1 (now (column .entry))) ⌝ }
+{
+    put(column, 1, columns);
+}
+
+// A table with four bytes a row, least significant first, put into columns. Where they held zeros, the number in all of them is then the row's.
+pub fn put_prices(column: &[u8], columns: &mut [u64; ALL])
+    ensures columns { λ u. ⌜ now (columns .exit) ≡ withLoad (now (columns .entry)) (now (column .entry)) 4 ⌝ }
+    ensures rows { λ u. ⌜ (Zeros (now (columns .entry)) → inColumns (matrixColumn (now (columns .exit))) 0 width ≡ loadedRow 4 (now (column .entry))) ⌝ }
+{
+    put(column, 4, columns);
 }
 
 // The columns of a table with one byte a row: the number in the last eight columns, and so in all, is the row's.
@@ -163,14 +179,18 @@ pub fn ends(column: &[u8]) -> Stored
     ensures last { λ r. ⌜ inColumns (matrixColumn (r .columns)) 24 (width - 24) ≡ loadedRow 1 (now (column .entry)) ⌝ }
     ensures rows { λ r. ⌜ inColumns (matrixColumn (r .columns)) 0 width ≡ loadedRow 1 (now (column .entry)) ⌝ }
 {
-    load(column, 1)
+    let mut r = Stored { columns: [0; ALL] };
+    put_ends(column, &mut r.columns);
+    r
 }
 
 // The columns of a table with four bytes a row, least significant first.
 pub fn prices(column: &[u8]) -> Stored
     ensures { λ r. ⌜ inColumns (matrixColumn (r .columns)) 0 width ≡ loadedRow 4 (now (column .entry)) ⌝ }
 {
-    load(column, 4)
+    let mut r = Stored { columns: [0; ALL] };
+    put_prices(column, &mut r.columns);
+    r
 }
 
 // The number of columns on the left that GREAT, MIN and MAX may leave out: those before the last of the columns on the left that equal column 1.

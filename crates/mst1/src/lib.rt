@@ -154,19 +154,15 @@ pub fn grow_tree(
 pub fn tree_of(n: u32, m: usize, rows: Slice, left: &[u8], right: &[u8], weight: &[u8]) -> Grown
     ensures { λ r. ⌜ Grows (loadedGraph n m (component rows) (now (left .entry)) (now (right .entry))) (λ i. signed (loadedRow 4 (now (weight .entry)) i)) (r .whole) (component (r .chosen)) ⌝ }
 {
-    let lefts = loads::ends(left);
-    let rights = loads::ends(right);
-    let weights = loads::prices(weight);
-    let first = loads::sign_columns(&weights.columns);
+    let mut lefts = [0u64; loads::ALL];
+    loads::put_ends(left, &mut lefts);
+    let mut rights = [0u64; loads::ALL];
+    loads::put_ends(right, &mut rights);
+    let mut weights = [0u64; loads::ALL];
+    loads::put_prices(weight, &mut weights);
+    let first = loads::sign_columns(&weights);
     let used = slice::rows::rows_among(m, rows);
-    grow_tree(
-        &lefts.columns,
-        &rights.columns,
-        &weights.columns,
-        first,
-        used,
-        n as usize,
-    )
+    grow_tree(&lefts, &rights, &weights, first, used, n as usize)
 }
 
 // MST1 over a table of m rows, of which those of a slice are in use: the refusal, and the marks stay as they were; or the tree's weight, and the marks are 1 for each chosen row and 0 for every other.

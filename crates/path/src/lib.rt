@@ -185,10 +185,12 @@ fn claim_walk(
     ensures answer { λ o. ⌜ refusalOf o ≡ unreached n (claimWalk n m (component rows) (now (left .entry)) (now (right .entry)) (now (mark .entry)) s (now (own .entry)) .reached) ⌝ }
     ensures words { λ o. ⌜ now (own .exit) ≡ claimWalk n m (component rows) (now (left .entry)) (now (right .entry)) (now (mark .entry)) s (now (own .entry)) .words ⌝ }
 {
-    let lefts = loads::ends(left);
-    let rights = loads::ends(right);
+    let mut lefts = [0u64; loads::ALL];
+    loads::put_ends(left, &mut lefts);
+    let mut rights = [0u64; loads::ALL];
+    loads::put_ends(right, &mut rights);
     let marked = claim::claim_rows(mark, rows_among(m, rows));
-    let reached = walk(&lefts.columns, &rights.columns, marked, s, n, own);
+    let reached = walk(&lefts, &rights, marked, s, n, own);
     joined_check(n, reached)
 }
 

@@ -1,10 +1,13 @@
--- What the private functions of `loads` store: the words of a table's columns, sixteen a column, of which column 32 - k has bit k of each row.
--- No contract of a public function speaks of it. Rows are counted from 0 here. Assumes nothing.
+-- What the functions of `loads` store: the words of a table's columns, sixteen a column, of which column 32 - k has bit k of each row.
+-- Rows are counted from 0 here. Assumes nothing.
 use Prim.Native.Nat.{ℕ, zero, suc, _+_, _-_, _*_, _/_, _%_, _^_, _≤_}
+use mathlib.Core.Bool.{cond}
 use mathlib.Core.List.{List}
 use mathlib.Core.Path.{_≡_}
-use lib.ListN.{length, set}
+use lib.Dec.{eqb}
+use lib.ListN.{length, getD, set}
 use Rattle.planes.specs.steps.Blocks.{fromDigits, rowByte}
+use Rattle.table.specs.Loads.{loadRefusal}
 
 -- a column of so many rows, with `stride` bytes a row
 pub record Rows (column : List ℕ) (stride rows : ℕ) : Type 0 where
@@ -32,3 +35,12 @@ withBytes l column stride q (suc n) =
 unfoldable pub withWords : List ℕ → List ℕ → ℕ → ℕ → List ℕ
 withWords l column stride zero = l
 withWords l column stride (suc q) = withBytes (withWords l column stride q) column stride q stride
+
+-- the columns after a load of a column with `stride` bytes a row: the words that its rows reach, and where it cannot be loaded all as they were
+unfoldable pub withLoad : List ℕ → List ℕ → ℕ → List ℕ
+withLoad l column stride = cond (eqb (loadRefusal stride column .number) 0) (withWords l column stride ((length column / stride + 63) / 64)) l
+
+-- words of a table that are all 0
+pub record Zeros (l : List ℕ) : Type 0 where
+  pub full : length l ≡ 512
+  pub none : (k : ℕ) → getD l k 0 ≡ 0
