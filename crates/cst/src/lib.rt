@@ -136,14 +136,15 @@ fn first_found(
     ensures lighter { λ r. ⌜ r .lighter ≡ firstLighter (now (matrix .entry)) (now (left .entry)) (now (right .entry)) (now (weight .entry)) (component rows) ⌝ }
     ensures equal { λ r. ⌜ (r .lighter .into ≡ 0 → r .equal ≡ firstEqual (now (matrix .entry)) (now (left .entry)) (now (right .entry)) (now (weight .entry)) (component rows)) ⌝ }
 {
-    let weights = loads::prices(weight);
-    let first = loads::sign_columns(&weights.columns);
+    let mut weights = [0u64; loads::ALL];
+    loads::put_prices(weight, &mut weights);
+    let first = loads::sign_columns(&weights);
     let mut into = 0;
     let mut i = 0;
     while i < m {
         let at = i + 1;
         if slice::get(rows, at) {
-            let y = compared_rows(matrix, &weights.columns, first, left, right, weight, at);
+            let y = compared_rows(matrix, &weights, first, left, right, weight, at);
             let heavier = y.greater;
             if slice::some(heavier) {
                 return Found {
@@ -156,7 +157,7 @@ fn first_found(
         }
         i += 1;
     }
-    let beside = compared_rows(matrix, &weights.columns, first, left, right, weight, into);
+    let beside = compared_rows(matrix, &weights, first, left, right, weight, into);
     let equal = beside.equal;
     Found {
         lighter: Exchange {

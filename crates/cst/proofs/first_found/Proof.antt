@@ -12,6 +12,7 @@ use Rattle.rowset.specs.Columns.{width}
 use Rattle.rowset.specs.Integers.{fromBits}
 use Rattle.rowset.specs.Searches.{greaterThan}
 use Rattle.rowset.specs.Sets.{any, uppermost}
+use Rattle.loads.proofs.Numbers.{zeros, length-put}
 use Rattle.loads.proofs.Signs.{sign-integer, sign-bits}
 use Rattle.slice.specs.Slices.{size, component}
 use Rattle.cst.proofs.Sets.{component-position}
@@ -23,7 +24,7 @@ use Rattle.cst.proofs.first_found.Tie as tie
 
 abbrev Inv-loop : tie.InvT-loop
 Inv-loop matrix left right weight m rows weights first into₀ i₀ into i =
-    (integersAfter (weights .columns) first ≡ weightIn weight)
+    (integersAfter weights first ≡ weightIn weight)
     × ((k : ℕ) → fromBits (width - first) (inRow 4 weight k) ≡ weightIn weight k)
     × (rowWith greaterThan matrix left right weight (later (component rows) i) ≡ rowWith greaterThan matrix left right weight (component rows))
     × Remembered matrix left right weight (component rows) (later (component rows) i) into
@@ -34,9 +35,9 @@ abbrev μ-loop : tie.MeasureT-loop
 
 loop-holds : tie.Need-loop-holds Inv-loop μ-loop
 loop-holds c =
-    let w = c .before .before .before .before in
-    let s = w .before .before .before .before .before in
-    let rows = w .prices .ensures ∙ s .pre .0 in
+    let w = c .before .before in
+    let s = w .before .before .before .before .before .before in
+    let rows = w .put-prices .ensures .1 zeros ∙ s .pre .0 in
     let all = later-all (component (s .args .rows)) (λ k e. component-position (s .args .rows) k e .0) in (
       sign-integer _ (c .sign-columns .ensures) rows,
       sign-bits _ (c .sign-columns .ensures) rows,
@@ -49,7 +50,7 @@ exchange-of-requires : tie.Need-exchange-of-requires Inv-loop μ-loop
 unfolding someOn firstOn
 exchange-of-requires c κs =
     let y = c .before .before .before .before in
-    let g = y .before .before .before .before in
+    let g = y .before .before in
     let l = g .before .before .before .loop in
     let heavy = rw (l .inv .0, l .inv .1) at (y .compared-rows .ensures .0) in
     let found = ap (any size) (sym heavy) ∙ sym (c .before .before .some .ensures) ∙ c .before .if2 .taken in (
@@ -62,9 +63,9 @@ returns : tie.Need-returns Inv-loop μ-loop
 unfolding someOn firstOn
 returns c =
     let y = c .before .before .before .before .before in
-    let g = y .before .before .before .before in
+    let g = y .before .before in
     let l = g .before .before .before .loop in
-    let rows = component (g .before .before .before .before .before .before .before .before .before .before .before .before .before .args .rows) in
+    let rows = component (g .before .before .before .before .before .before .before .before .before .before .before .before .args .rows) in
     let row : rows (l .i + 1) ≡ true = sym (g .before .get .ensures) ∙ g .if1 .taken in
     let inside = component-position _ _ row .1 in
     let first = later-first rows (l .i) size inside row in
@@ -78,11 +79,11 @@ loop-again : tie.Need-loop-again Inv-loop μ-loop
 unfolding someOn rowWith
 loop-again c =
     let l = c .before .before .before .loop in
-    let rows = component (c .before .before .before .before .before .before .before .before .before .before .before .before .before .args .rows) in (
+    let rows = component (c .before .before .before .before .before .before .before .before .before .before .before .before .args .rows) in (
       l .inv .0,
       l .inv .1,
       ⊎-elim
-          (λ w. ap (rowWith greaterThan _ _ _ _) (sym (later-next rows (l .i))) ∙ ap (uppermost size) (passed-over _ _ _ (ap (any size) (sym (rw (l .inv .0, l .inv .1) at (w .4 .ensures .0))) ∙ sym (w .6 .ensures) ∙ w .7 .left)) ∙ l .inv .2)
+          (λ w. ap (rowWith greaterThan _ _ _ _) (sym (later-next rows (l .i))) ∙ ap (uppermost size) (passed-over _ _ _ (ap (any size) (sym (rw (l .inv .0, l .inv .1) at (w .2 .ensures .0))) ∙ sym (w .4 .ensures) ∙ w .5 .left)) ∙ l .inv .2)
           (λ w. ap (rowWith greaterThan _ _ _ _) (sym (later-skip rows (l .i) (sym (c .before .get .ensures) ∙ w .0 .left))) ∙ l .inv .2)
           (c .if1 .came),
       ⊎-elim
@@ -90,28 +91,28 @@ loop-again c =
           let row : rows (l .i + 1) ≡ true = sym (c .before .get .ensures) ∙ w .0 .taken in
           let inside = component-position _ _ row .1 in
           let first = later-first rows (l .i) size inside row in
-          let same = rw (l .inv .0, l .inv .1) at (w .4 .ensures .1) in
-          rw (w .10, w .9 .ensures, same) (rw (← first, later-next rows (l .i)) at (remembered-more _ _ _ _ _ _ _ (l .inv .3) _ first (later-some rows (l .i) size inside row))))
+          let same = rw (l .inv .0, l .inv .1) at (w .2 .ensures .1) in
+          rw (w .8, w .7 .ensures, same) (rw (← first, later-next rows (l .i)) at (remembered-more _ _ _ _ _ _ _ (l .inv .3) _ first (later-some rows (l .i) size inside row))))
           (λ w. rw (w .1, ← later-skip rows (l .i) (sym (c .before .get .ensures) ∙ w .0 .left)) (l .inv .3))
           (c .if1 .came),
       omega arith,
     )
 
 -- the row that is remembered is one of 1 to 1,024, or 0
-remembered-row : tie.Need-cast-t33 Inv-loop μ-loop
+remembered-row : tie.Need-cast-t34 Inv-loop μ-loop
 remembered-row c =
-    let t = c .before .before .before .before .before .before in
+    let t = c .before .before .before .before in
     let l = t .before .loop in
-    let s = t .before .before .before .before .before .before .before .before .before .before .before in
+    let s = t .before .before .before .before .before .before .before .before .before .before in
     let none = later-none size (l .i) (component (s .args .rows)) (λ k e. let h = s .pre .1 k e in omega arith) in
     search (needs, remembered-bound _ _ _ _ _ _ _ (l .inv .3) none)
 
 returns-2 : tie.Need-returns-2 Inv-loop μ-loop
 unfolding firstOn
 returns-2 c =
-    let t = c .before .before .before .before .before .before in
+    let t = c .before .before .before .before in
     let l = t .before .loop in
-    let s = t .before .before .before .before .before .before .before .before .before .before .before in
+    let s = t .before .before .before .before .before .before .before .before .before .before in
     let none = later-none size (l .i) (component (s .args .rows)) (λ k e. let h = s .pre .1 k e in omega arith) in
     let same = rw (l .inv .0, l .inv .1) at (c .before .before .compared-rows2 .ensures .1) in (
       none-found _ _ _ _ _ _ (l .inv .2) none,
@@ -125,10 +126,12 @@ first-found-spec =
     Inv-loop
     μ-loop
     (λ c κs. search needs)
+    (λ c. search (needs, length-put _ _ 4 (c .before .put-prices .ensures .0) zeros))
     (λ c κs. search needs)
     loop-holds
     (λ c. omega arith)
     (λ c κs. search needs)
+    (λ c. search (needs, length-put _ _ 4 (c .before .before .before .before .before .before .before .put-prices .ensures .0) zeros))
     (λ c κs. search needs)
     (λ c κs. search needs)
     (λ c κs. search needs)
@@ -138,6 +141,7 @@ first-found-spec =
     (λ c. omega arith)
     (λ c. omega arith)
     loop-again
+    (λ c. search (needs, length-put _ _ 4 (c .before .before .before .before .before .put-prices .ensures .0) zeros))
     (λ c κs. search needs)
     (λ c κs. search needs)
     (λ c. search (needs, uppermost-bound size _ _ (c .fnd2 .ensures)))
