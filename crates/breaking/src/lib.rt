@@ -39,9 +39,11 @@ fn path_between(
 ) -> Slice
     ensures { λ r. ⌜ component r ≡ matrixColumn (walk (loadedRow 1 (now (left .entry))) (loadedRow 1 (now (right .entry))) (component tree) u (now (own .entry)) n .words) v ⌝ }
 {
-    let lefts = loads::ends(left);
-    let rights = loads::ends(right);
-    path::walk(&lefts.columns, &rights.columns, tree, u, n, own);
+    let mut lefts = [0u64; loads::ALL];
+    loads::put_ends(left, &mut lefts);
+    let mut rights = [0u64; loads::ALL];
+    loads::put_ends(right, &mut rights);
+    path::walk(&lefts, &rights, tree, u, n, own);
     matrix::read_column(own, v)
 }
 
@@ -49,8 +51,9 @@ fn path_between(
 fn heaviest_price(weight: &[u8], x: Slice) -> u32
     ensures { λ r. ⌜ r ≡ inRow 4 (now (weight .entry)) (uppermost size (largest size (λ i. signed (loadedRow 4 (now (weight .entry)) i)) (component x))) ⌝ }
 {
-    let weights = loads::prices(weight);
-    let heaviest = slice::fnd(lent::max_from(&weights.columns, 0, x));
+    let mut weights = [0u64; loads::ALL];
+    loads::put_prices(weight, &mut weights);
+    let heaviest = slice::fnd(lent::max_from(&weights, 0, x));
     checks::row_weight(weight, heaviest)
 }
 

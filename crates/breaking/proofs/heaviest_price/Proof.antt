@@ -3,6 +3,7 @@ use borrow.Author.Needs.{needs}
 use Prim.Native.Nat.{ℕ}
 use mathlib.Core.Bool.{Bool}
 use mathlib.Core.Path.{_≡_}
+use Rattle.loads.proofs.Numbers.{zeros, length-put}
 use Rattle.rowset.specs.Columns.{width, inColumns}
 use Rattle.rowset.specs.Integers.{integerIn, signed}
 use Rattle.breaking.proofs.heaviest_price.Statement.{statement}
@@ -17,13 +18,14 @@ returns : tie.Need-returns
 returns c =
     let f = c .before in
     let m = f .before in
-    rw (c .row-weight .ensures, f .fnd .ensures, m .max-from .ensures, all-columns _ _ (m .before .before .before .before .prices .ensures))
+    rw (c .row-weight .ensures, f .fnd .ensures, m .max-from .ensures, all-columns _ _ (m .before .before .put-prices .ensures .1 zeros))
 
 pub heaviest-price-spec : {M : Type 1} → statement M
 heaviest-price-spec =
     tie.close
     (tie.spec
     (λ c κs. search needs)
+    (λ c. search (needs, length-put _ _ 4 (c .before .put-prices .ensures .0) zeros))
     (λ c κs. search needs)
     (λ c κs. search needs)
     (λ c κs. search needs)
