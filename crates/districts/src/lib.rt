@@ -115,20 +115,15 @@ pub fn city_of(
         let g = loadedGraph n m (component rows) (now (left .entry)) (now (right .entry)) in
         ⌜ Divided g (λ i. signed (loadedRow 4 (now (weight .entry)) i)) (now (ends .entry)) (component (r .forests)) (r .whole) (component (r .chosen)) ⌝ }
 {
-    let lefts = loads::ends(left);
-    let rights = loads::ends(right);
-    let weights = loads::prices(weight);
-    let first = loads::sign_columns(&weights.columns);
+    let mut lefts = [0u64; loads::ALL];
+    loads::put_ends(left, &mut lefts);
+    let mut rights = [0u64; loads::ALL];
+    loads::put_ends(right, &mut rights);
+    let mut weights = [0u64; loads::ALL];
+    loads::put_prices(weight, &mut weights);
+    let first = loads::sign_columns(&weights);
     let used = slice::rows::rows_among(m, rows);
-    grow_city(
-        &lefts.columns,
-        &rights.columns,
-        &weights.columns,
-        first,
-        used,
-        n as usize,
-        ends,
-    )
+    grow_city(&lefts, &rights, &weights, first, used, n as usize, ends)
 }
 
 // Districts and city over a table of m rows, of which those of a slice are in use: the refusal, and both lent columns stay as they were;

@@ -1,16 +1,18 @@
 -- `districts::city_of` meets its contract, by what the loads ensure of the columns: those of the weights that are left out only repeat the sign. Assumes nothing.
 use borrow.Author.Needs.{needs}
+use Rattle.loads.proofs.Numbers.{zeros, length-put}
 use Rattle.loads.proofs.Signs.{sign-integer}
 use Rattle.districts.proofs.city_of.Statement.{statement}
 use Rattle.districts.proofs.city_of.Tie as tie
 
 returns : tie.Need-returns
 returns c =
-    let rows = c .before .before .before .before .before .before .before .before .before .before in
+    let rows = c .before .before .before .before in
     let signs = rows .before in
-    let weights = signs .before .before .before .before in
-    let rights = weights .before in
-    rw (rights .before .ends .ensures .0, rights .ends2 .ensures .0, rows .rows-among .ensures, sign-integer _ (signs .sign-columns .ensures) (weights .prices .ensures))
+    let weights = signs .before .before in
+    let rights = weights .before .before in
+    let lefts = rights .before .before in
+    rw (lefts .put-ends .ensures .1 .0 zeros, rights .put-ends2 .ensures .1 .0 zeros, rows .rows-among .ensures, sign-integer _ (signs .sign-columns .ensures) (weights .put-prices .ensures .1 zeros))
     at (c .grow-city .ensures)
 
 pub city-of-spec : {M : Type 1} → statement M
@@ -20,7 +22,11 @@ city-of-spec =
     (λ c κs. search needs)
     (λ c κs. search needs)
     (λ c κs. search needs)
+    (λ c. search (needs, length-put _ _ 4 (c .before .put-prices .ensures .0) zeros))
     (λ c κs. search needs)
     (λ c κs. search needs)
+    (λ c. search (needs, length-put _ _ 1 (c .before .before .before .before .before .before .before .before .put-ends .ensures .0) zeros))
+    (λ c. search (needs, length-put _ _ 1 (c .before .before .before .before .before .before .before .put-ends2 .ensures .0) zeros))
+    (λ c. search (needs, length-put _ _ 4 (c .before .before .before .before .before .before .put-prices .ensures .0) zeros))
     (λ c κs. search needs)
     returns)
