@@ -4,7 +4,7 @@ use Prim.Native.Nat.{ℕ, zero, suc, _+_, _-_, _*_, _/_, _%_, _^_, _≤_, _<_}
 use native.Mathlib.Numerals.{add-one}
 use native.Mathlib.Omega.{arith}
 use native.Mathlib.Nat.{sub-self, div-one, lt-of-lt-of-le}
-use mathlib.Core.Bool.{Bool, true, false, cond, and-eq-true-iff}
+use mathlib.Core.Bool.{Bool, true, false, cond, and-false, and-eq-true-iff}
 use mathlib.Core.Path.{_≡_, refl, sym, ap, _∙_, fun-ext}
 use mathlib.Core.List.{List, [], _∷_}
 use lib.Dec.{eqb}
@@ -18,6 +18,7 @@ use Rattle.rowset.proofs.Laws.{clash, refuted, upwards, upTo-in, any-none}
 use Rattle.rowset.specs.Searches.{equalTo}
 use Rattle.slice.specs.Slices.{size, component}
 use Rattle.slice.specs.declared.Slice.{Slice}
+use Rattle.slice.proofs.Bits.{bit-of-zero}
 use Rattle.table.proofs.Columns.{as-number}
 use Rattle.table.specs.Tables.{column, blank}
 use Rattle.table.specs.declared.Table.{Table}
@@ -61,6 +62,11 @@ zero-word (suc n) (suc k) = zero-word n k
 past-end : component blank ≡ component none
 unfolding component
 past-end = fun-ext (λ i. rw zero-word)
+
+-- a slice of zeros is Θ
+pub blank-empty : component blank ≡ empty
+unfolding component empty
+blank-empty = fun-ext (λ i. rw (zero-word, bit-of-zero, and-false))
 
 column-either : (l : List Slice) (j : ℕ) → component (getD l j blank) ≡ component (getD l j none)
 column-either [] j = past-end

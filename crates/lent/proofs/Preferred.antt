@@ -8,11 +8,11 @@ use mathlib.Core.Path.{_≡_, refl, sym, ap, _∙_, fun-ext}
 use borrow.Author.Tests.{ne-eqb}
 use lib.Dec.{eqb, eqb·suc-suc}
 use Rattle.rowset.specs.Columns.{inColumns}
-use Rattle.rowset.specs.Sets.{empty, upTo, both, without, any}
+use Rattle.rowset.specs.Sets.{empty, upTo, both, without, either, any}
 use Rattle.rowset.proofs.Laws.{any-found, none-any, uppermost-some, upwards, in-upTo}
 use Rattle.slice.specs.Slices.{size, component}
 use Rattle.slice.specs.declared.Slice.{Slice}
-use Rattle.lent.specs.steps.Column.{kept, preferred, turned, extreme}
+use Rattle.lent.specs.steps.Column.{kept, preferred, grown, turned, extreme}
 use Rattle.lent.specs.steps.Rows.{NonePast, AtMostOne}
 use Rattle.lent.proofs.Extremes.{same-truth, cond-at}
 use Rattle.lent.proofs.Loops.{component-in, Sought, sought-more, sought-all}
@@ -91,6 +91,35 @@ module _ (first : ℕ) (c : ℕ → ℕ → Bool) (high : Bool) (Z : ℕ → Boo
           ≡ cond (any size (kept high Z (cond t (without (upTo size) (c (suc j))) (c (suc j))))) (kept high Z (cond t (without (upTo size) (c (suc j))) (c (suc j)))) Z
       go true = rw (kept-other (c (suc j)))
       go false = refl
+
+  -- so it is for the rows kept
+  kept-turned : (j : ℕ) → kept (cond (eqb j first) (not high) high) Z (c (j + 1)) ≡ kept high Z (turned first c (j + 1))
+  unfolding turned
+  kept-turned j = rw (add-one j, eqb·suc-suc) (go (eqb j first))
+    where
+      go : (t : Bool) → kept (cond t (not high) high) Z (c (suc j)) ≡ kept high Z (cond t (without (upTo size) (c (suc j))) (c (suc j)))
+      go true = kept-other (c (suc j))
+      go false = refl
+
+-- GREAT at one column, as it stands in the words: the rows whose bit, turned over where it is that of the sign, is 1, the rows where it is 0, and the rows that are greater
+module _ (first : ℕ) (c : ℕ → ℕ → Bool) (Z : ℕ → Bool) (inside : (i : ℕ) → Z i ≡ true → (1 ≤ i) × (i ≤ size)) (j : ℕ) where
+  pub kept-one : kept (not (eqb j first)) Z (c (j + 1)) ≡ kept true Z (turned first c (j + 1))
+  kept-one = ap (λ t. kept t Z (c (j + 1))) (go (eqb j first)) ∙ kept-turned first c true Z inside j
+    where
+      go : (t : Bool) → not t ≡ cond t (not true) true
+      go true = refl
+      go false = refl
+
+  pub kept-zero : kept (eqb j first) Z (c (j + 1)) ≡ kept false Z (turned first c (j + 1))
+  kept-zero = ap (λ t. kept t Z (c (j + 1))) (go (eqb j first)) ∙ kept-turned first c false Z inside j
+    where
+      go : (t : Bool) → t ≡ cond t (not false) false
+      go true = refl
+      go false = refl
+
+  pub grown-one : (G : ℕ → Bool) → either G (kept (not (eqb j first)) Z (c (j + 1))) ≡ grown false G Z (turned first c (j + 1))
+  unfolding grown kept
+  grown-one G = ap (either G) kept-one
 
 -- one column more, as it stands in the words
 pub sought-next : (c : ℕ → ℕ → Bool) (first : ℕ) (high : Bool) (z₀ z z′ : Slice) (j : ℕ) (b : Bool) → j < 32 → b ≡ cond (eqb j first) (not high) high

@@ -9,7 +9,7 @@ ghost use mathlib.Core.Bool.{true, not, cond};
 ghost use Prim.Native.Nat.{_+_, _-_, _*_, _/_, _^_, _<_, _≤_};
 ghost use lib.Dec.{eqb};
 ghost use lib.ListN.{length};
-ghost use Rattle.rowset.specs.Sets.{any};
+ghost use Rattle.rowset.specs.Sets.{any, either};
 ghost use Rattle.rowset.specs.Columns.{width, inColumns};
 ghost use Rattle.rowset.specs.Counts.{equalRight, readWithin};
 ghost use Rattle.rowset.specs.Integers.{fromBits, integerIn};
@@ -273,32 +273,78 @@ fn turned_bits(first: usize, w: u32) -> u32
     }
 }
 
+// The rows of z whose bit in column j + 1 is b are put in g.
+fn grow_rows(g: &mut [u64], z: &[u64], columns: &[u64], j: usize, b: bool, used: usize)
+    requires { ⌜ (length (now g) ≡ 16) × (length (now z) ≡ 16) × (16 * (j + 1) ≤ length (now columns)) × (used ≤ 16) × NonePast used (rowsOf (now z)) ⌝ }
+    ensures { λ r. ⌜ rowsOf (now (g .exit)) ≡ either (rowsOf (now (g .entry))) (kept b (rowsOf (now (z .entry))) (matrixColumn (now (columns .entry)) (j + 1))) ⌝ }
+{
+    let mask = mask_of(b);
+    let from = COLUMN * j;
+    let mut k = 0;
+    while k < used {
+        g[k] = g[k] | (z[k] & (columns[from + k] ^ mask));
+        k += 1;
+    }
+}
+
+// GREAT at column j + 1, where z has no row past its first four words: what `grow` and `keep` do, in place.
+fn compare_four(g: &mut [u64], z: &mut [u64], columns: &[u64], first: usize, j: usize, b: bool)
+    requires { ⌜ (length (now g) ≡ 16) × (length (now z) ≡ 16) × (16 * (j + 1) ≤ length (now columns)) × NonePast 4 (rowsOf (now z)) ⌝ }
+    ensures greater { λ r. ⌜ rowsOf (now (g .exit)) ≡ grown b (rowsOf (now (g .entry))) (rowsOf (now (z .entry))) (turned first (matrixColumn (now (columns .entry))) (j + 1)) ⌝ }
+    ensures equal { λ r. ⌜ rowsOf (now (z .exit)) ≡ kept b (rowsOf (now (z .entry))) (turned first (matrixColumn (now (columns .entry))) (j + 1)) ⌝ }
+{
+    if b {
+        keep_rows(z, columns, j, j != first, 4);
+        return;
+    }
+    grow_rows(g, z, columns, j, j != first, 4);
+    keep_rows(z, columns, j, j == first, 4);
+}
+
+// Whether all columns are there and z has no row past its first four words.
+fn in_four(columns: &[u64], z: &[u64]) -> bool
+    requires { ⌜ length (now z) ≡ 16 ⌝ }
+    ensures { λ r. ⌜ (r ≡ true → (512 ≤ length (now (columns .entry))) × NonePast 4 (rowsOf (now (z .entry)))) ⌝ }
+{
+    if columns.len() < ALL {
+        return false;
+    }
+    words_used(z) <= 4
+}
+
 // GREAT: the selected rows that are greater than w, of which as many last digits are looked at as there are columns, and those that equal it. Beside the rows found greater, g, it carries the rows that are equal so far, z, and stops where there are none.
 pub fn great_from(columns: &[u64], first: usize, w: u32, x: Slice) -> Compared
     ensures greater { λ r. ⌜ component (r .greater) ≡ greaterThan (integerIn (matrixColumn (now (columns .entry))) first (width - first)) (fromBits (width - first) w) (component x) ⌝ }
     ensures equal { λ r. ⌜ component (r .equal) ≡ sameAs (integerIn (matrixColumn (now (columns .entry))) first (width - first)) (fromBits (width - first) w) (component x) ⌝ }
 {
     let v = turned_bits(first, w);
-    let mut g = Slice::empty();
-    let mut z = x;
+    let four = in_four(columns, &x.words);
+    let mut g = [0u64; COLUMN];
+    let mut z = x.words;
     let mut j = first;
     while j < WIDTH {
-        if slice::zero(z) {
+        if slice::zero(Slice { words: z }) {
             return Compared {
-                greater: g,
-                equal: z,
+                greater: Slice { words: g },
+                equal: Slice { words: z },
             };
         }
         let digit = WIDTH - 1 - j;
         let b = (v >> digit) % 2 == 1;
-        let c = ordered(columns, first, j);
-        g = grow(g, z, c, b);
-        z = keep(z, c, b);
+        if four {
+            compare_four(&mut g, &mut z, columns, first, j, b);
+        } else {
+            let c = ordered(columns, first, j);
+            let more = grow(Slice { words: g }, Slice { words: z }, c, b);
+            let rest = keep(Slice { words: z }, c, b);
+            g = more.words;
+            z = rest.words;
+        }
         j += 1;
     }
     Compared {
-        greater: g,
-        equal: z,
+        greater: Slice { words: g },
+        equal: Slice { words: z },
     }
 }
 
