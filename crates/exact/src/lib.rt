@@ -1,29 +1,15 @@
 // The tree with exactly t rows at a vertex r on the machine: the columns are loaded once, the start prefers rows at r, a walk over it fills the path matrix from r, and exchanges take rows at r out until t are left.
-ghost use Prim.Native.Nat.{_-_};
 ghost use mathlib.Core.Path.{_≡_};
-ghost use Rattle.matrix.specs.Matrix.{matrixColumn};
 ghost use Rattle.path.specs.steps.Walks.{endsIn};
 ghost use Rattle.reductions.specs.steps.Columns.{givenOf};
 ghost use Rattle.reductions.specs.steps.Exchanges.{Ends};
-ghost use Rattle.rowset.specs.Columns.{width};
-ghost use Rattle.rowset.specs.Integers.{integerIn, signed};
 ghost use Rattle.rowset.specs.Sets.{count};
 ghost use Rattle.slice.specs.Slices.{size, component};
-ghost use Rattle.table.specs.Loads.{loadedRow};
 ghost use Rattle.exact.specs.steps.Reduced.{reducedFrom, Makes};
 use reductions::Reduced;
 use slice::SIZE;
 use slice::Slice;
 use slice::rows::rows_among;
-
-// The words of a table's columns.
-const COLUMNS: usize = 512;
-
-// The weight column as a table's columns, and the number of columns on the left that only repeat the sign.
-struct Weights {
-    columns: [u64; COLUMNS],
-    first: usize,
-}
 
 // What is made: whether there is a tree at all, whether there is one with exactly t rows at r, and its rows, none where there is none.
 pub struct Made {
@@ -43,19 +29,6 @@ fn count_rows(x: Slice) -> usize
         count += slice::get(x, i) as usize;
     }
     count
-}
-
-// The weight column, to be lent.
-fn weights_of(weight: &[u8]) -> Weights
-    ensures { λ r. ⌜ integerIn (matrixColumn (r .columns)) (r .first) (width - r .first) ≡ (λ i. signed (loadedRow 4 (now (weight .entry)) i)) ⌝ }
-{
-    let stored = loads::prices(weight);
-    let first = loads::sign_columns(&stored.columns);
-    let columns = stored.columns;
-    Weights {
-        columns: columns,
-        first: first,
-    }
 }
 
 // A tree over the rows of a slice with as many exchanges made as it has rows at r more than t; none where it has fewer.
@@ -117,20 +90,15 @@ pub fn make(
 ) -> Made
     ensures { λ o. ⌜ Makes (record { n = n; m = m; rows = component rows; left = now (left .entry); right = now (right .entry); weight = now (weight .entry) }) r t (o .joined) (o .whole) (component (o .chosen)) ⌝ }
 {
-    let lefts = loads::ends(left);
-    let rights = loads::ends(right);
-    let weights = weights_of(weight);
-    let first = weights.first;
+    let mut lefts = [0u64; loads::ALL];
+    loads::put_ends(left, &mut lefts);
+    let mut rights = [0u64; loads::ALL];
+    loads::put_ends(right, &mut rights);
+    let mut weights = [0u64; loads::ALL];
+    loads::put_prices(weight, &mut weights);
+    let first = loads::sign_columns(&weights);
     let used = rows_among(m, rows);
-    let start = start::start_of(
-        &lefts.columns,
-        &rights.columns,
-        &weights.columns,
-        first,
-        used,
-        n as usize,
-        r,
-    );
+    let start = start::start_of(&lefts, &rights, &weights, first, used, n as usize, r);
     if !start.whole {
         return Made {
             joined: false,
@@ -145,9 +113,9 @@ pub fn make(
         left,
         right,
         weight,
-        &lefts.columns,
-        &rights.columns,
-        &weights.columns,
+        &lefts,
+        &rights,
+        &weights,
         first,
         r,
         t,

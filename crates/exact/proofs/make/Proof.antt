@@ -1,15 +1,17 @@
 -- `exact::make` meets its contract: there is no tree, or exchanges are made on the start. Assumes nothing.
 use borrow.Author.Needs.{needs}
 use borrow.Author.Tests.{not-true, not-false}
+use Rattle.loads.proofs.Numbers.{zeros, length-put}
+use Rattle.loads.proofs.Signs.{sign-integer}
 use Rattle.exact.proofs.Makes.{makes-none, makes-some}
 use Rattle.exact.proofs.make.Statement.{statement}
 use Rattle.exact.proofs.make.Tie as tie
 
 returns : tie.Need-returns
-returns c = makes-none _ _ _ (c .before .before .before .before .before .before .before .before .before .before .before .before .before .before .before .before .ends .ensures .0) (c .before .before .before .before .before .before .before .before .before .before .before .before .before .before .before .ends2 .ensures .0) (c .before .before .before .before .before .before .before .before .before .before .before .before .before .rows-among .ensures) (c .before .before .before .before .before .before .before .before .before .before .before .before .before .before .weights-of .ensures) (c .before .before .before .start-of .ensures .0) (not-true _ (c .before .if1 .taken))
+returns c = makes-none _ _ _ (c .before .before .before .before .before .before .before .before .before .before .before .before .before .before .put-ends .ensures .1 .0 zeros) (c .before .before .before .before .before .before .before .before .before .before .before .before .put-ends2 .ensures .1 .0 zeros) (c .before .before .before .before .before .before .before .rows-among .ensures) (sign-integer _ (c .before .before .before .before .before .before .before .before .sign-columns .ensures) (c .before .before .before .before .before .before .before .before .before .before .put-prices .ensures .1 zeros)) (c .before .before .before .start-of .ensures .0) (not-true _ (c .before .if1 .taken))
 
 returns-2 : tie.Need-returns-2
-returns-2 c = makes-some _ _ _ (c .before .before .before .before .before .before .before .before .before .before .before .before .before .before .before .before .before .before .before .before .before .before .before .before .before .before .before .before .ends .ensures .0) (c .before .before .before .before .before .before .before .before .before .before .before .before .before .before .before .before .before .before .before .before .before .before .before .before .before .before .before .ends2 .ensures .0) (c .before .before .before .before .before .before .before .before .before .before .before .before .before .before .before .before .before .before .before .before .before .before .before .before .before .rows-among .ensures) (c .before .before .before .before .before .before .before .before .before .before .before .before .before .before .before .before .before .before .before .before .before .before .before .before .before .before .weights-of .ensures) (c .before .before .before .before .before .before .before .before .before .before .before .before .before .before .before .start-of .ensures .0) (not-false _ (c .before .before .before .before .before .before .before .before .before .before .before .before .before .if1 .left)) (c .before .before .before .before .before .before .before .before .before .before .before .before .before .before .before .start-of .ensures .1) (c .before .reduce .ensures)
+returns-2 c = makes-some _ _ _ (c .before .before .before .before .before .before .before .before .before .before .before .before .before .before .before .before .before .before .before .before .put-ends .ensures .1 .0 zeros) (c .before .before .before .before .before .before .before .before .before .before .before .before .before .before .before .before .before .before .put-ends2 .ensures .1 .0 zeros) (c .before .before .before .before .before .before .before .before .before .before .before .before .before .rows-among .ensures) (sign-integer _ (c .before .before .before .before .before .before .before .before .before .before .before .before .before .before .sign-columns .ensures) (c .before .before .before .before .before .before .before .before .before .before .before .before .before .before .before .before .put-prices .ensures .1 zeros)) (c .before .before .before .before .before .before .before .before .before .start-of .ensures .0) (not-false _ (c .before .before .before .before .before .before .before .if1 .left)) (c .before .before .before .before .before .before .before .before .before .start-of .ensures .1) (c .before .reduce .ensures)
 
 pub make-spec : {M : Type 1} → statement M
 make-spec =
@@ -18,9 +20,17 @@ make-spec =
     (λ c κs. search needs)
     (λ c κs. search needs)
     (λ c κs. search needs)
+    (λ c. search (needs, length-put _ _ 4 (c .before .put-prices .ensures .0) zeros))
     (λ c κs. search needs)
+    (λ c κs. search needs)
+    (λ c. search (needs, length-put _ _ 1 (c .before .before .before .before .before .before .before .before .put-ends .ensures .0) zeros))
+    (λ c. search (needs, length-put _ _ 1 (c .before .before .before .before .before .before .before .put-ends2 .ensures .0) zeros))
+    (λ c. search (needs, length-put _ _ 4 (c .before .before .before .before .before .before .put-prices .ensures .0) zeros))
     (λ c κs. search needs)
     (λ c κs. search needs)
     returns
+    (λ c. search (needs, length-put _ _ 1 (c .before .before .before .before .before .before .before .before .before .before .before .before .before .before .before .before .put-ends .ensures .0) zeros))
+    (λ c. search (needs, length-put _ _ 1 (c .before .before .before .before .before .before .before .before .before .before .before .before .before .before .before .put-ends2 .ensures .0) zeros))
+    (λ c. search (needs, length-put _ _ 4 (c .before .before .before .before .before .before .before .before .before .before .before .before .before .before .put-prices .ensures .0) zeros))
     (λ c κs. search needs)
     returns-2)
