@@ -1,5 +1,5 @@
-// Byte columns loaded straight into the words of a table's columns, to be lent: ends, with one byte a row, and prices, with four. Only the words that the rows reach are written, and of a table of ends only the last eight columns.
-// A column that cannot be loaded, one of over 1,024 rows or whose length is not a number of whole rows, gives zeros.
+// Byte columns loaded straight into the words of a table's columns, which the caller lends: ends, with one byte a row, and prices, with four. Only the words that the rows reach are written, and of a table of ends only the last eight columns.
+// Columns of zeros then hold the table. A column that cannot be loaded, one of over 1,024 rows or whose length is not a number of whole rows, leaves all as it was.
 // The bytes of eight rows, each eight after the one before it, go into one word, a block. The bits k of its bytes are then taken out together, so that eight blocks give 64 rows.
 ghost use mathlib.Core.Path.{_≡_};
 ghost use Prim.Native.Nat.{ℕ, _+_, _-_, _*_, _/_, _<_, _≤_};
@@ -10,7 +10,6 @@ ghost use Rattle.planes.specs.steps.Blocks.{fromDigits, rowByte, blockOf, wordO
 ghost use Rattle.slice.specs.Slices.{size};
 ghost use Rattle.table.specs.Loads.{loadedRow};
 ghost use Rattle.loads.specs.steps.Stores.{Rows, withPlanes, withBytes, withWords, withLoad, Zeros};
-use lent::Stored;
 
 // The number of columns of a table, the words of a column and of a table, and the bits of a word.
 const WIDTH: usize = 32;
@@ -172,25 +171,6 @@ pub fn put_prices(column: &[u8], columns: &mut [u64; ALL])
     ensures rows { λ u. ⌜ (Zeros (now (columns .entry)) → inColumns (matrixColumn (now (columns .exit))) 0 width ≡ loadedRow 4 (now (column .entry))) ⌝ }
 {
     put(column, 4, columns);
-}
-
-// The columns of a table with one byte a row: the number in the last eight columns, and so in all, is the row's.
-pub fn ends(column: &[u8]) -> Stored
-    ensures last { λ r. ⌜ inColumns (matrixColumn (r .columns)) 24 (width - 24) ≡ loadedRow 1 (now (column .entry)) ⌝ }
-    ensures rows { λ r. ⌜ inColumns (matrixColumn (r .columns)) 0 width ≡ loadedRow 1 (now (column .entry)) ⌝ }
-{
-    let mut r = Stored { columns: [0; ALL] };
-    put_ends(column, &mut r.columns);
-    r
-}
-
-// The columns of a table with four bytes a row, least significant first.
-pub fn prices(column: &[u8]) -> Stored
-    ensures { λ r. ⌜ inColumns (matrixColumn (r .columns)) 0 width ≡ loadedRow 4 (now (column .entry)) ⌝ }
-{
-    let mut r = Stored { columns: [0; ALL] };
-    put_prices(column, &mut r.columns);
-    r
 }
 
 // The number of columns on the left that GREAT, MIN and MAX may leave out: those before the last of the columns on the left that equal column 1.
