@@ -184,9 +184,9 @@ fn exchange_rows(
     ensures passed { λ r. ⌜ stateOf r (now (list .exit)) (now (own .exit)) ≡ visits (swapAt n (component used) (λ k. signed (inRow 4 (now (weight .entry)) k)) (now (left .entry)) (now (right .entry)) (now (weight .entry))) m (stateOf start (now (list .entry)) (now (own .entry))) ⌝ }
     ensures few { λ r. ⌜ r .count ≤ 3 * m ⌝ }
 {
-    let weights = table::load_quads(weight).table;
-    let first = search::sign_columns(weights);
-    let stored = lent::columns_of(weights);
+    let mut weights = [0u64; loads::ALL];
+    loads::put_prices(weight, &mut weights);
+    let first = loads::sign_columns(&weights);
     swap_rows(
         n,
         m,
@@ -194,7 +194,7 @@ fn exchange_rows(
         left,
         right,
         weight,
-        &stored.columns,
+        &weights,
         first,
         start,
         list,
