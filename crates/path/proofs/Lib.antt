@@ -2,3 +2,4 @@ pub mod Causes
 pub mod Walks
 pub mod Paths
 pub mod Result
+pub mod Steps

@@ -1,14 +1,18 @@
 // MatrixPath on the machine: a walk over the marked rows from the source vertex, which fills a path matrix of its own; the caller's matrix is written once nothing can be refused any more.
+ghost use mathlib.Core.Bool.{true, cond};
 ghost use mathlib.Core.Path.{_≡_};
 ghost use mathlib.Core.List.{[], _∷_, _++_};
 ghost use Prim.Native.Nat.{_≤_};
 ghost use lib.ListN.{length, take, drop};
 ghost use Rattle.refusal.specs.Outcomes.{refusalOf};
-ghost use Rattle.slice.specs.Slices.{size, component};
+ghost use Rattle.matrix.specs.Matrix.{matrixColumn, withColumn};
+ghost use Rattle.rowset.specs.Searches.{equalTo};
+ghost use Rattle.rowset.specs.Sets.{either};
+ghost use Rattle.slice.specs.Slices.{size, component, written};
 ghost use Rattle.star.specs.MatrixPath.{matrixPath, matrixAfter};
 ghost use Rattle.star.specs.Refusals.{wrongSource, fewWords, unreached, beforeWalk, refusal};
 ghost use Rattle.star.specs.Call.{tableOf, callOf, workOf};
-ghost use Rattle.path.specs.steps.Walks.{endsIn, stateOf, arrive, pass, along, step, walk, claimWalk, ownPath, ownAfter};
+ghost use Rattle.path.specs.steps.Walks.{endsIn, walk, claimWalk, ownPath, ownAfter};
 use checks::first;
 use checks::refused_at;
 use checks::refused_if;
@@ -26,91 +30,60 @@ pub const ALL_WORDS: usize = 4080;
 // The number of columns on the left that are empty in a table of bytes.
 const UPPER: usize = 24;
 
-// How far the walk has come: the rows whose left end is reached, those whose right end is, and the vertices reached.
-struct Front {
-    lefts: Slice,
-    rights: Slice,
-    reached: Slice,
-}
-
-// Vertex v is reached along the rows of path.
-fn arrive(
-    left: &[u64],
-    right: &[u64],
-    rows: Slice,
-    at: Front,
-    v: u32,
-    path: Slice,
-    own: &mut [u64],
-) -> Front
-    ensures { λ r. ⌜ stateOf r (now (own .exit)) ≡ arrive (endsIn (now (left .entry))) (endsIn (now (right .entry))) (component rows) (stateOf at (now (own .entry))) v (component path) ⌝ }
+// x, and with it the rows that hold v, by MATCH.
+fn reach(x: Slice, ends: &[u64], v: u32, rows: Slice) -> Slice
+    ensures { λ r. ⌜ component r ≡ either (component x) (equalTo (endsIn (now (ends .entry))) v (component rows)) ⌝ }
 {
-    matrix::write_column(own, v as usize, path);
-    Front {
-        lefts: slice::or(at.lefts, lent::match_from(left, UPPER, v, rows)),
-        rights: slice::or(at.rights, lent::match_from(right, UPPER, v, rows)),
-        reached: slice::put(at.reached, v as usize, true),
-    }
+    slice::or(x, lent::match_from(ends, UPPER, v, rows))
 }
 
-// Row i is taken from vertex u to vertex v.
-fn pass(
-    left: &[u64],
-    right: &[u64],
-    rows: Slice,
-    at: Front,
-    i: usize,
-    u: u32,
-    v: u32,
-    own: &mut [u64],
-) -> Front
-    ensures { λ r. ⌜ stateOf r (now (own .exit)) ≡ pass (endsIn (now (left .entry))) (endsIn (now (right .entry))) (component rows) (stateOf at (now (own .entry))) i u v ⌝ }
+// The first of two vertices where the test holds, else the second.
+fn choose(test: bool, first: u32, second: u32) -> u32
+    ensures { λ r. ⌜ r ≡ cond test first second ⌝ }
+{
+    if test {
+        return first;
+    }
+    second
+}
+
+// Row i is taken from vertex u to vertex v, whose path is that of u with row i.
+fn lead(own: &mut [u64], i: usize, u: u32, v: u32)
+    ensures { λ r. ⌜ now (own .exit) ≡ withColumn (now (own .entry)) v (written (matrixColumn (now (own .entry)) u) i true) ⌝ }
 {
     let path = slice::put(matrix::read_column(own, u as usize), i, true);
-    arrive(left, right, rows, at, v, path, own)
+    matrix::write_column(own, v as usize, path);
 }
 
-// Row i is taken from its end that is reached to the other.
-fn along(left: &[u64], right: &[u64], rows: Slice, at: Front, i: usize, own: &mut [u64]) -> Front
-    ensures { λ r. ⌜ stateOf r (now (own .exit)) ≡ along (endsIn (now (left .entry))) (endsIn (now (right .entry))) (component rows) (stateOf at (now (own .entry))) i ⌝ }
-{
-    if i == 0 {
-        return at;
-    }
-    let a = lent::row_from(left, UPPER, i);
-    let b = lent::row_from(right, UPPER, i);
-    if slice::get(at.lefts, i) {
-        return pass(left, right, rows, at, i, a, b, own);
-    }
-    pass(left, right, rows, at, i, b, a, own)
-}
-
-// One step of the walk: the uppermost row with exactly one end reached is taken.
-fn step(left: &[u64], right: &[u64], rows: Slice, at: Front, own: &mut [u64]) -> Front
-    ensures { λ r. ⌜ stateOf r (now (own .exit)) ≡ step (endsIn (now (left .entry))) (endsIn (now (right .entry))) (component rows) (stateOf at (now (own .entry))) ⌝ }
-{
-    let i = slice::fnd(slice::xor(at.lefts, at.rights));
-    along(left, right, rows, at, i, own)
-}
-
-// The walk of n steps from vertex s: the vertices reached.
+// The walk of n steps from vertex s: the vertices reached. At each step the uppermost row with exactly one end reached is taken from that end to the other; such rows are those that only one
+// of `lefts`, the rows whose left end is reached, and `rights` has. Where there is none, the steps that are left change nothing.
 pub fn walk(left: &[u64], right: &[u64], rows: Slice, s: u32, n: u32, own: &mut [u64]) -> Slice
     ensures reached { λ r. ⌜ component r ≡ walk (endsIn (now (left .entry))) (endsIn (now (right .entry))) (component rows) s (now (own .entry)) n .reached ⌝ }
     ensures words { λ r. ⌜ now (own .exit) ≡ walk (endsIn (now (left .entry))) (endsIn (now (right .entry))) (component rows) s (now (own .entry)) n .words ⌝ }
 {
     let none = Slice::empty();
-    let start = Front {
-        lefts: none,
-        rights: none,
-        reached: none,
-    };
-    let mut at = arrive(left, right, rows, start, s, none, own);
+    matrix::write_column(own, s as usize, none);
+    let mut lefts = reach(none, left, s, rows);
+    let mut rights = reach(none, right, s, rows);
+    let mut reached = slice::put(none, s as usize, true);
     let mut k = 0;
     while k < n {
-        at = step(left, right, rows, at, own);
+        let i = slice::fnd(slice::xor(lefts, rights));
+        if i == 0 {
+            return reached;
+        }
+        let ahead = slice::get(lefts, i);
+        let a = lent::row_from(left, UPPER, i);
+        let b = lent::row_from(right, UPPER, i);
+        let u = choose(ahead, a, b);
+        let v = choose(ahead, b, a);
+        lead(own, i, u, v);
+        lefts = reach(lefts, left, v, rows);
+        rights = reach(rights, right, v, rows);
+        reached = slice::put(reached, v as usize, true);
         k += 1;
     }
-    at.reached
+    reached
 }
 
 // Cause 10: the smallest vertex of 1 to n that is not reached.

@@ -9,14 +9,13 @@ use Rattle.rowset.specs.Searches.{equalTo}
 use Rattle.rowset.specs.Sets.{empty, upTo, both, either, oneOf, uppermost}
 use Rattle.matrix.specs.Matrix.{matrixColumn, withColumn}
 use Rattle.refusal.specs.declared.Refusal.{Refusal}
-use Rattle.slice.specs.Slices.{size, component, written}
+use Rattle.slice.specs.Slices.{size, written}
 use Rattle.star.specs.Call.{Call}
 use Rattle.star.specs.MatrixPath.{matrixOr}
 use Rattle.star.specs.Refusals.{unreached, beforeWalk, orElse, refusal}
 use Rattle.table.specs.Loads.{loadedRow}
 use Rattle.table.specs.Tables.{width}
 use Rattle.claim.specs.Claims.{claimRows}
-use Rattle.path.specs.declared.Front.{Front}
 
 -- the rows of T whose left end is reached and those whose right end is, the vertices reached, and the words of the path matrix
 pub record State : Type 0 where
@@ -24,16 +23,6 @@ pub record State : Type 0 where
   pub rights : ℕ → Bool
   pub reached : ℕ → Bool
   pub words : List ℕ
-
--- the state that the machine's slices and the words of its matrix stand for
-abbrev pub stateOf : Front → List ℕ → State
-stateOf x words =
-    record {
-      lefts = component (x .lefts);
-      rights = component (x .rights);
-      reached = component (x .reached);
-      words = words;
-    }
 
 -- the ends in a table of bytes, of which the words are given: the numbers in its last eight columns
 abbrev pub endsIn : List ℕ → ℕ → ℕ
