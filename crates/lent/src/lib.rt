@@ -211,6 +211,20 @@ fn match_four(columns: &[u64], first: usize, w: u32, x: Slice) -> Slice
     Slice { words: z }
 }
 
+// The rows of MATCH where all columns are there and x has no row past its first eight words.
+fn match_eight(columns: &[u64], first: usize, w: u32, x: Slice) -> Slice
+    requires { ⌜ (512 ≤ length (now columns)) × NonePast 8 (component x) ⌝ }
+    ensures { λ r. ⌜ component r ≡ equalRight (matrixColumn (now (columns .entry))) w (width - first) (component x) ⌝ }
+{
+    let mut z = x.words;
+    let mut j = WIDTH;
+    while first < j {
+        j -= 1;
+        keep_rows(&mut z, columns, j, (w >> (WIDTH - 1 - j)) % 2 == 1, 8);
+    }
+    Slice { words: z }
+}
+
 // The rows of MATCH where all columns are there, over all words.
 fn match_all(columns: &[u64], first: usize, w: u32, x: Slice) -> Slice
     requires { ⌜ 512 ≤ length (now columns) ⌝ }
@@ -225,13 +239,17 @@ fn match_all(columns: &[u64], first: usize, w: u32, x: Slice) -> Slice
     Slice { words: z }
 }
 
-// The rows of MATCH where all columns are there. The number of words is a constant of either loop, so that the compiler keeps them in registers.
+// The rows of MATCH where all columns are there. The number of words is a constant of each loop, so that the compiler keeps them in registers.
 fn match_words(columns: &[u64], first: usize, w: u32, x: Slice) -> Slice
     requires { ⌜ 512 ≤ length (now columns) ⌝ }
     ensures { λ r. ⌜ component r ≡ equalRight (matrixColumn (now (columns .entry))) w (width - first) (component x) ⌝ }
 {
-    if words_used(&x.words) <= 4 {
+    let used = words_used(&x.words);
+    if used <= 4 {
         return match_four(columns, first, w, x);
+    }
+    if used <= 8 {
+        return match_eight(columns, first, w, x);
     }
     match_all(columns, first, w, x)
 }
