@@ -9,8 +9,8 @@ use slice::Slice;
 pub fn turn_column(matrix: &mut [u64], j: usize, e: usize, ring: Slice)
     ensures { λ r. ⌜ now (matrix .exit) ≡ columnTurned (now (matrix .entry)) j e (component ring) ⌝ }
 {
-    let x = matrix::read_column(matrix, j);
-    if slice::get(x, e) {
+    if lent::bit_at(matrix, j, e) {
+        let x = matrix::read_column(matrix, j);
         matrix::write_column(matrix, j, slice::xor(x, ring));
     }
 }

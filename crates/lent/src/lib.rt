@@ -60,7 +60,7 @@ pub fn columns_of(t: Table) -> Stored
 }
 
 // Component i of column j.
-fn bit_at(columns: &[u64], j: usize, i: usize) -> bool
+pub fn bit_at(columns: &[u64], j: usize, i: usize) -> bool
     ensures { λ r. ⌜ r ≡ matrixColumn (now (columns .entry)) j i ⌝ }
 {
     if j < 1 {
