@@ -41,11 +41,6 @@ unfolding numbersOf
 numbers-append [] r = refl
 numbers-append (q ∷ rs) r = ap (λ (t : List ℕ). q .kind ∷ q .out ∷ q .into ∷ t) (numbers-append rs r)
 
-pub length-numbers : (rs : List Record) → length (numbersOf rs) ≡ 3 * length rs
-unfolding numbersOf
-length-numbers [] = refl
-length-numbers (r ∷ rs) = omega (arith, length-numbers rs)
-
 -- one record more
 pub numbered-more : (rs : List Record) (l : List ℕ) (r : Record) → 3 * length rs + 3 ≤ length l → stored (numbered rs l) (length rs) (r .kind) (r .out) (r .into) ≡ numbered (rs ++ (r ∷ [])) l
 unfolding numbered

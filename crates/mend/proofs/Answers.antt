@@ -26,7 +26,7 @@ use Rattle.mending.proofs.Promise.{joined-tree, spanned, mends}
 use Rattle.mending.specs.Mending.{Drawing, gapless, exchanged}
 use Rattle.path.proofs.Paths as P
 use Rattle.record.specs.declared.Record.{Record}
-use Rattle.recordlist.specs.Stored.{storedTo}
+use Rattle.recordlist.specs.steps.Stored.{storedTo}
 use Rattle.refusal.specs.declared.Refusal.{Refusal}
 use Rattle.rowset.proofs.Laws.{both-subset}
 use Rattle.rowset.proofs.Members.{both-in}

@@ -11,7 +11,7 @@ use native.Mathlib.Omega.{arith}
 use Rattle.drawings.specs.Mend.{listed}
 use Rattle.groups.specs.steps.Machine.{numbersOf}
 use Rattle.record.specs.declared.Record.{Record}
-use Rattle.recordlist.specs.Stored.{recordAt, storedTo}
+use Rattle.recordlist.specs.steps.Stored.{recordAt, storedTo}
 
 -- a record of the numbers is that record
 numbers-at : (rs : List Record) (l : List ℕ) (k : ℕ) (d : Record) → k < length rs → record { kind = getD (numbersOf rs ++ l) (3 * k) 0; out = getD (numbersOf rs ++ l) (3 * k + 1) 0; into = getD (numbersOf rs ++ l) (3 * k + 2) 0 } ≡ getD rs k d

@@ -21,7 +21,7 @@ ghost use Rattle.star.specs.Refusals.{orElse, refusal};
 ghost use Rattle.table.specs.Loads.{loadedRow};
 ghost use Rattle.drawings.specs.Mend.{claimCauses, fewRecords, redrawn, unmended, mend, mendMarks, mendList};
 ghost use Rattle.record.specs.declared.Record.{Record};
-ghost use Rattle.recordlist.specs.Stored.{storedTo};
+ghost use Rattle.recordlist.specs.steps.Stored.{storedTo};
 ghost use Rattle.mend.specs.Answers.{answerOf};
 ghost use Rattle.groups.specs.steps.Machine.{stateOf, visits};
 ghost use Rattle.mend.specs.steps.Machine.{pathOf, outOf, swapped, swapAt};

@@ -14,7 +14,7 @@ ghost use Rattle.drawings.specs.Bytes.{MendCall};
 ghost use Rattle.drawings.specs.Door.{mendFields, mendDoor, mendDoorMarks, mendDoorList};
 ghost use Rattle.mend.specs.Answers.{answerOf};
 ghost use Rattle.record.specs.declared.Record.{Record};
-ghost use Rattle.recordlist.specs.Stored.{storedTo};
+ghost use Rattle.recordlist.specs.steps.Stored.{storedTo};
 ghost use Rattle.star.specs.Call.{callOf, workOf};
 ghost use Rattle.star.specs.Door.{answerAfter, doorReturns};
 

@@ -6,7 +6,7 @@ use lib.ListN.{length, set, length-set}
 use mathlib.Core.List.{List, [], _∷_, map}
 use mathlib.Core.Path.{_≡_, refl, ap, _∙_}
 use Rattle.record.specs.declared.Record.{Record}
-use Rattle.recordlist.specs.Stored.{recordAt, storedTo}
+use Rattle.recordlist.specs.steps.Stored.{recordAt, storedTo}
 
 pub set-past : {X : Type 0} (l : List X) (k : ℕ) (x : X) → (k < length l → ⊥) → l ≡ set l k x
 set-past [] k x past = refl

@@ -2,7 +2,7 @@
 ghost use Prim.Native.Nat.{ℕ};
 ghost use lib.ListN.{set};
 ghost use mathlib.Core.Path.{_≡_};
-ghost use Rattle.recordlist.specs.Stored.{recordAt, storedTo};
+ghost use Rattle.recordlist.specs.steps.Stored.{recordAt, storedTo};
 use record::Record;
 
 // The numbers of the records of three passes over 1,024 rows.

@@ -45,7 +45,7 @@ use denote.Enum.Laws as EL
 use Rattle.drawings.specs.Mend.{mend as mends, mendMarks, mendList}
 use Rattle.record.specs.declared.Record.{Record}
 use Rattle.record.proofs.Record as T
-use Rattle.recordlist.specs.Stored.{storedTo}
+use Rattle.recordlist.specs.steps.Stored.{storedTo}
 use Rattle.recordlist.proofs.Lists.{map-same}
 use Rattle.recordlist.proofs.write_records as write
 use Rattle.recordlist.proofs.write_records.Symbol as write-def

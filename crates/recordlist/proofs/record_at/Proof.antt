@@ -6,7 +6,7 @@ use mathlib.Core.Bool.{cond}
 use mathlib.Core.Path.{sym, ap, _≡_}
 use Rattle.recordlist.proofs.record_at.Statement.{statement}
 use Rattle.recordlist.proofs.record_at.Tie as tie
-use Rattle.recordlist.specs.Stored.{recordAt}
+use Rattle.recordlist.specs.steps.Stored.{recordAt}
 
 returns : tie.Need-returns
 unfolding recordAt

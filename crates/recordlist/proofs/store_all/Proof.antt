@@ -49,7 +49,7 @@ use denote.Signature.{Slot, plain}
 use Rattle.record.specs.declared.Record.{Record}
 use Rattle.record.proofs.Record as T
 use Rattle.record.proofs.Record.Laws as T′
-use Rattle.recordlist.specs.Stored.{recordAt, storedTo}
+use Rattle.recordlist.specs.steps.Stored.{recordAt, storedTo}
 use Rattle.recordlist.proofs.Again.{LentAgain, lends-again, comes-back}
 use Rattle.recordlist.proofs.Lists.{stored-length}
 use Rattle.recordlist.proofs.record_at as record-at

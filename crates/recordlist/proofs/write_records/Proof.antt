@@ -45,7 +45,7 @@ use denote.Exit.{yes}
 use denote.Signature.{Slot, plain}
 use Rattle.record.specs.declared.Record.{Record}
 use Rattle.record.proofs.Record as T
-use Rattle.recordlist.specs.Stored.{storedTo}
+use Rattle.recordlist.specs.steps.Stored.{storedTo}
 use Rattle.recordlist.proofs.store_all as store-all
 use Rattle.recordlist.proofs.store_all.Symbol as store-all-def
 use Rattle.recordlist.proofs.store_all.Symbol.{name as #recordlist·store-all}

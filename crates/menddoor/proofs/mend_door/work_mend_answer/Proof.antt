@@ -5,7 +5,7 @@ use lib.ListN.{length}
 use mathlib.Core.Path.{refl, ap, _∙_}
 use native.Mathlib.Omega.{arith}
 use Rattle.drawings.specs.Door.{mendFields, mendDoor, mendDoorMarks, mendDoorList}
-use Rattle.recordlist.specs.Stored.{storedTo}
+use Rattle.recordlist.specs.steps.Stored.{storedTo}
 use Rattle.menddoor.proofs.mend_door.work_mend_answer.Statement.{statement}
 use Rattle.menddoor.proofs.mend_door.work_mend_answer.Tie as tie
 use Rattle.star.specs.Door.{answerAfter, wellLent, doorReturns}
