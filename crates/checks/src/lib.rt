@@ -8,6 +8,7 @@ ghost use mathlib.Core.Path.{_≡_};
 ghost use lib.ListN.{length, getD};
 ghost use Rattle.rowset.specs.Bytes.{little, inRow};
 ghost use Rattle.rowset.specs.Sets.{both, uppermost, count};
+ghost use Rattle.rowset.specs.Words.{inWords};
 ghost use Rattle.slice.specs.Slices.{component};
 ghost use Rattle.refusal.specs.Outcomes.{refusalOf};
 ghost use Rattle.star.specs.Call.{Call, marked, tableOf};
@@ -169,14 +170,14 @@ fn wrong_ends(n: u32, a: u32, b: u32) -> bool
     a == 0 || n < a || b == 0 || n < b || a == b
 }
 
-// Whether row k is one of the rows, and its ends are wrong.
-fn wrong_row(n: u32, rows: Slice, left: &[u8], right: &[u8], k: usize) -> bool
-    ensures { λ r. ⌜ r ≡ wrongRow (component rows) n (now (left .entry)) (now (right .entry)) k ⌝ }
+// Whether row k is one of the rows, lent as words, and its ends are wrong.
+fn wrong_row(n: u32, rows: &[u64], left: &[u8], right: &[u8], k: usize) -> bool
+    ensures { λ r. ⌜ r ≡ wrongRow (inWords (now (rows .entry))) n (now (left .entry)) (now (right .entry)) k ⌝ }
 {
     if !wrong_ends(n, row_byte(left, k) as u32, row_byte(right, k) as u32) {
         return false;
     }
-    slice::get(rows, k)
+    inplace::row_in(rows, k)
 }
 
 // The uppermost such row of 1 to m, 0 where there is none.
@@ -186,7 +187,7 @@ fn first_bad_row(n: u32, m: usize, rows: Slice, left: &[u8], right: &[u8]) -> us
 {
     let mut i = 1;
     while i <= m {
-        if wrong_row(n, rows, left, right, i) {
+        if wrong_row(n, &rows.words, left, right, i) {
             return i;
         }
         i += 1;
@@ -194,12 +195,12 @@ fn first_bad_row(n: u32, m: usize, rows: Slice, left: &[u8], right: &[u8]) -> us
     0
 }
 
-// Whether row i, of ends a and b, is one of the rows and a set of pairs has its pair, which is put in.
-fn repeated(above: &mut [u64], rows: Slice, i: usize, a: u8, b: u8) -> bool
-    ensures seen { λ r. ⌜ r ≡ seenPair (component rows) (now (above .entry)) i a b ⌝ }
-    ensures after { λ r. ⌜ now (above .exit) ≡ withSeen (component rows) (now (above .entry)) i a b ⌝ }
+// Whether row i, of ends a and b, is one of the rows, lent as words, and a set of pairs has its pair, which is put in.
+fn repeated(above: &mut [u64], rows: &[u64], i: usize, a: u8, b: u8) -> bool
+    ensures seen { λ r. ⌜ r ≡ seenPair (inWords (now (rows .entry))) (now (above .entry)) i a b ⌝ }
+    ensures after { λ r. ⌜ now (above .exit) ≡ withSeen (inWords (now (rows .entry))) (now (above .entry)) i a b ⌝ }
 {
-    if !slice::get(rows, i) {
+    if !inplace::row_in(rows, i) {
         return false;
     }
     pairs::put(above, a, b)
@@ -215,7 +216,7 @@ fn first_repeat(m: usize, rows: Slice, left: &[u8], right: &[u8]) -> usize
     while row <= m {
         if repeated(
             &mut above,
-            rows,
+            &rows.words,
             row,
             row_byte(left, row),
             row_byte(right, row),
@@ -262,14 +263,14 @@ pub fn table_check(
     first(lengths, rows_check(n, m, rows, left, right))
 }
 
-// Whether the row at a position is one of the rows, and its claim byte is other than 0 and 1.
-fn wrong_mark(rows: Slice, mark: &[u8], at: usize) -> bool
-    ensures { λ r. ⌜ r ≡ wrongByte (component rows) (now (mark .entry)) at ⌝ }
+// Whether the row at a position is one of the rows, lent as words, and its claim byte is other than 0 and 1.
+fn wrong_mark(rows: &[u64], mark: &[u8], at: usize) -> bool
+    ensures { λ r. ⌜ r ≡ wrongByte (inWords (now (rows .entry))) (now (mark .entry)) at ⌝ }
 {
     if row_byte(mark, at) <= 1 {
         return false;
     }
-    slice::get(rows, at)
+    inplace::row_in(rows, at)
 }
 
 // The uppermost of the rows of 1 to m whose claim byte is other than 0 and 1, 0 where there is none.
@@ -279,7 +280,7 @@ fn first_bad_mark(m: usize, rows: Slice, mark: &[u8]) -> usize
 {
     let mut at = 1;
     while at <= m {
-        if wrong_mark(rows, mark, at) {
+        if wrong_mark(&rows.words, mark, at) {
             return at;
         }
         at += 1;
@@ -309,14 +310,14 @@ pub fn claim_check(
     refused_at(6, first_bad_mark(m, rows, mark) as u32)
 }
 
-// Whether a row is one of the rows, and the claim marks it.
-fn marked_row(rows: Slice, mark: &[u8], row: usize) -> bool
-    ensures { λ r. ⌜ r ≡ both (component rows) (marked (now (mark .entry))) row ⌝ }
+// Whether a row is one of the rows, lent as words, and the claim marks it.
+fn marked_row(rows: &[u64], mark: &[u8], row: usize) -> bool
+    ensures { λ r. ⌜ r ≡ both (inWords (now (rows .entry))) (marked (now (mark .entry))) row ⌝ }
 {
     if row_byte(mark, row) != 1 {
         return false;
     }
-    slice::get(rows, row)
+    inplace::row_in(rows, row)
 }
 
 // The number of rows among the first m of a slice that the claim marks.
@@ -326,7 +327,7 @@ fn count_marks(m: usize, rows: Slice, mark: &[u8]) -> usize
     let mut marks = 0;
     let mut i = 0;
     while i < m {
-        if marked_row(rows, mark, i + 1) {
+        if marked_row(&rows.words, mark, i + 1) {
             marks += 1;
         }
         i += 1;

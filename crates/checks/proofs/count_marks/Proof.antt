@@ -6,17 +6,18 @@ use mathlib.Core.Path.{_≡_, sym, _∙_}
 use native.Mathlib.Omega.{arith}
 use Rattle.rowset.specs.Sets.{both, count}
 use Rattle.rowset.proofs.Laws.{count-bound}
-use Rattle.slice.specs.Slices.{component}
+use Rattle.inplace.proofs.Laws.{component-words}
+use Rattle.rowset.specs.Words.{inWords}
 use Rattle.star.specs.Call.{marked}
 use Rattle.checks.proofs.Laws.{count-zero, count-in, count-out}
 use Rattle.checks.proofs.count_marks.Statement.{statement}
 use Rattle.checks.proofs.count_marks.Tie as tie
 
 abbrev Inv-loop : tie.InvT-loop
-Inv-loop m rows mark marks₀ i₀ marks i = (i ≤ m) × (marks ≡ count i (both (component rows) (marked mark)))
+Inv-loop m mark rows marks₀ i₀ marks i = (i ≤ m) × (marks ≡ count i (both (inWords (rows .words)) (marked mark)))
 
 abbrev μ-loop : tie.MeasureT-loop
-μ-loop m rows mark marks₀ i₀ marks i = m - i
+μ-loop m mark rows marks₀ i₀ marks i = m - i
 
 loop-holds : tie.Need-loop-holds Inv-loop μ-loop
 loop-holds c = (omega arith, count-zero _)
@@ -29,8 +30,8 @@ marked-row-requires c κs = tt
 
 add-marks : tie.Need-add-marks Inv-loop μ-loop
 add-marks c =
-    let a = c .before .before .before .before .before .args in
-    omega (arith, count-bound (c .before .before .before .loop .i) (both (component (a .rows)) (marked (a .mark .now))))
+    let a = c .before .before .before .before .before .before .before .before .args in
+    omega (arith, count-bound (c .before .before .before .before .before .before .loop .i) (both (inWords (a .t2 .words)) (marked (a .mark .now))))
 
 add-i : tie.Need-add-i Inv-loop μ-loop
 add-i c = omega arith
@@ -47,7 +48,7 @@ loop-again c = (
 returns : tie.Need-returns Inv-loop μ-loop
 returns c =
     let e : c .before .loop .i ≡ c .before .before .before .args .m = omega arith in
-    rw e at (c .before .loop .inv .1)
+    rw component-words (rw e at (c .before .loop .inv .1))
 
 pub count-marks-spec : {M : Type 1} → statement M
 count-marks-spec =

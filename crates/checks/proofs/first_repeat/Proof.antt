@@ -4,7 +4,8 @@ use Prim.Native.Nat.{ℕ, _+_, _-_, _≤_}
 use mathlib.Core.List.{List}
 use mathlib.Core.Path.{_≡_, sym, subst, _∙_}
 use native.Mathlib.Omega.{arith}
-use Rattle.slice.specs.Slices.{component}
+use Rattle.inplace.proofs.Laws.{component-words}
+use Rattle.rowset.specs.Words.{inWords}
 use Rattle.star.specs.Refusals.{repeatsAbove}
 use Rattle.checks.proofs.Laws.{Passed, passed-none, passed-more, passed-found, passed-all}
 use Rattle.checks.proofs.Repeats.{Above, above-none, above-more, above-repeats}
@@ -12,11 +13,11 @@ use Rattle.checks.proofs.first_repeat.Statement.{statement}
 use Rattle.checks.proofs.first_repeat.Tie as tie
 
 abbrev Inv-loop : tie.InvT-loop
-Inv-loop m rows left right above₀ row₀ above row =
-    (1 ≤ row) × (row ≤ m + 1) × Passed (repeatsAbove (component rows) left right) row × Above (component rows) left right above row
+Inv-loop m left right rows above₀ row₀ above row =
+    (1 ≤ row) × (row ≤ m + 1) × Passed (repeatsAbove (inWords (rows .words)) left right) row × Above (inWords (rows .words)) left right above row
 
 abbrev μ-loop : tie.MeasureT-loop
-μ-loop m rows left right above₀ row₀ above row = m + 1 - row
+μ-loop m left right rows above₀ row₀ above row = m + 1 - row
 
 loop-holds : tie.Need-loop-holds Inv-loop μ-loop
 loop-holds c = (omega arith, omega arith, passed-none _, above-none _ _ _)
@@ -35,27 +36,28 @@ repeated-requires c κs = tt
 
 -- what was handed in, where the row's pair has been put in the set
 abbrev start : tie.After-repeated Inv-loop μ-loop → tie.Start Inv-loop μ-loop
-start c = c .before .before .before .before .before .before .before .before
+start c = c .before .before .before .before .before .before .before .before .before .before .before
 
 -- what the set says of the row, and the set of the rows above the next one
 module _ (c : tie.After-repeated Inv-loop μ-loop) where
   abbrev at : ℕ
-  at = c .before .before .before .before .before .loop .row
+  at = c .before .before .before .before .before .before .before .before .loop .row
 
-  repeats : c .repeated .result ≡ repeatsAbove (component (start c .args .rows)) (start c .args .left .now) (start c .args .right .now) at
+  repeats : c .repeated .result ≡ repeatsAbove (inWords (start c .args .t2 .words)) (start c .args .left .now) (start c .args .right .now) at
   repeats =
       c .repeated .ensures .0
-      ∙ above-repeats _ _ _ _ _ _ _ (c .before .before .row-byte .ensures) (c .before .row-byte2 .ensures) (omega arith) (omega arith) (c .before .before .before .before .before .loop .inv .3)
+      ∙ above-repeats _ _ _ _ _ _ _ (c .before .before .row-byte .ensures) (c .before .row-byte2 .ensures) (omega arith) (omega arith) (c .before .before .before .before .before .before .before .before .loop .inv .3)
 
-  next : Above (component (start c .args .rows)) (start c .args .left .now) (start c .args .right .now) (c .repeated .last .0) (at + 1)
+  next : Above (inWords (start c .args .t2 .words)) (start c .args .left .now) (start c .args .right .now) (c .repeated .last .0) (at + 1)
   next =
-      subst (λ (l : List ℕ). Above (component (start c .args .rows)) (start c .args .left .now) (start c .args .right .now) l (at + 1)) (sym (c .repeated .ensures .1))
-      (above-more _ _ _ _ _ _ _ (c .before .before .row-byte .ensures) (c .before .row-byte2 .ensures) (omega arith) (omega arith) (c .before .before .before .before .before .loop .inv .3) (omega arith))
+      subst (λ (l : List ℕ). Above (inWords (start c .args .t2 .words)) (start c .args .left .now) (start c .args .right .now) l (at + 1)) (sym (c .repeated .ensures .1))
+      (above-more _ _ _ _ _ _ _ (c .before .before .row-byte .ensures) (c .before .row-byte2 .ensures) (omega arith) (omega arith) (c .before .before .before .before .before .before .before .before .loop .inv .3) (omega arith))
 
 returns : tie.Need-returns Inv-loop μ-loop
 returns c =
-    passed-found _ _ _ (omega arith) (omega arith) (c .before .before .before .before .before .before .before .loop .inv .2)
-    (sym (repeats (c .before .before)) ∙ c .if1 .taken)
+    rw component-words
+    (passed-found _ _ _ (omega arith) (omega arith) (c .before .before .before .before .before .before .before .before .before .before .loop .inv .2)
+    (sym (repeats (c .before .before)) ∙ c .if1 .taken))
 
 add-row : tie.Need-add-row Inv-loop μ-loop
 add-row c = omega arith
@@ -65,11 +67,11 @@ loop-less c = omega arith
 
 loop-again : tie.Need-loop-again Inv-loop μ-loop
 loop-again c =
-    let l = c .before .before .before .before .before .before .before .loop in
+    let l = c .before .before .before .before .before .before .before .before .before .before .loop in
     (omega arith, omega arith, passed-more _ _ (l .inv .2) (sym (repeats (c .before .before)) ∙ c .if1 .left), next (c .before .before))
 
 returns-2 : tie.Need-returns-2 Inv-loop μ-loop
-returns-2 c = passed-all _ _ _ (omega arith) (c .before .loop .inv .2)
+returns-2 c = rw component-words (passed-all _ _ _ (omega arith) (c .before .loop .inv .2))
 
 pub first-repeat-spec : {M : Type 1} → statement M
 first-repeat-spec =

@@ -8,12 +8,12 @@ use Rattle.checks.proofs.repeated.Tie as tie
 
 returns : tie.Need-returns
 unfolding seenPair withSeen
-returns c = (rw (sym (c .before .get .ensures) ∙ not-true _ (c .if1 .taken)), rw (sym (c .before .get .ensures) ∙ not-true _ (c .if1 .taken)))
+returns c = (rw (sym (c .before .row-in .ensures) ∙ not-true _ (c .if1 .taken)), rw (sym (c .before .row-in .ensures) ∙ not-true _ (c .if1 .taken)))
 
 returns-2 : tie.Need-returns-2
 unfolding seenPair withSeen
 returns-2 c =
-    let e = sym (c .before .before .before .before .before .get .ensures) ∙ not-false _ (c .before .before .before .before .if1 .left) in
+    let e = sym (c .before .before .before .before .before .row-in .ensures) ∙ not-false _ (c .before .before .before .before .if1 .left) in
     (rw e (c .before .before .put .ensures .0), rw e (c .before .before .put .ensures .1))
 
 pub repeated-spec : {M : Type 1} → statement M

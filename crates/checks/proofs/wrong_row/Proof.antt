@@ -3,7 +3,7 @@ use borrow.Author.Needs.{needs}
 use borrow.Author.Tests.{not-true, not-false}
 use mathlib.Core.Path.{sym, _∙_}
 use Rattle.star.specs.Refusals.{wrongRow}
-use Rattle.slice.specs.Slices.{component}
+use Rattle.rowset.specs.Words.{inWords}
 use Rattle.checks.proofs.Laws.{and-refuted, and-shown}
 use Rattle.checks.proofs.wrong_row.Statement.{statement}
 use Rattle.checks.proofs.wrong_row.Tie as tie
@@ -13,15 +13,15 @@ unfolding wrongRow
 returns c =
     let e = c .before in
     let ends = rw (e .before .before .row-byte .ensures, e .before .row-byte2 .ensures) at (e .wrong-ends .ensures) in
-    let a = e .before .before .before .before .before .args in
-    and-refuted (component (a .rows) (a .k)) (sym ends ∙ not-true _ (c .if1 .taken))
+    let a = e .before .before .before .before .before .before .args in
+    and-refuted (inWords (a .rows .now) (a .k)) (sym ends ∙ not-true _ (c .if1 .taken))
 
 returns-2 : tie.Need-returns-2
 unfolding wrongRow
 returns-2 c =
     let e = c .before .before in
     let ends = rw (e .before .before .row-byte .ensures, e .before .row-byte2 .ensures) at (e .wrong-ends .ensures) in
-    and-shown (sym ends ∙ not-false _ (c .before .if1 .left)) (c .get .ensures)
+    and-shown (sym ends ∙ not-false _ (c .before .if1 .left)) (c .row-in .ensures)
 
 pub wrong-row-spec : {M : Type 1} → statement M
 wrong-row-spec =
