@@ -4,7 +4,7 @@ ghost use Prim.Native.Nat.{ℕ, _<_};
 ghost use mathlib.Core.Bool.{true, false};
 ghost use mathlib.Core.Path.{_≡_};
 ghost use lib.ListN.{length};
-ghost use Rattle.rowset.specs.Sets.{either, oneOf, uppermost};
+ghost use Rattle.rowset.specs.Sets.{either, oneOf, uppermost, count};
 ghost use Rattle.rowset.specs.Words.{inWords};
 ghost use Rattle.slice.specs.Slices.{size, bit, component, written};
 use slice::Slice;
@@ -27,6 +27,19 @@ pub fn row_in(words: &[u64], i: usize) -> bool
         return false;
     }
     (words[k] >> ((i - 1) % BITS)) % 2 == 1
+}
+
+// The number of rows of a slice.
+pub fn count_rows(x: Slice) -> usize
+    ensures { λ r. ⌜ r ≡ count size (component x) ⌝ }
+{
+    let mut count = 0;
+    let mut i = 0;
+    while i < slice::SIZE {
+        i += 1;
+        count += row_in(&x.words, i) as usize;
+    }
+    count
 }
 
 // Component i of sixteen words becomes 1.

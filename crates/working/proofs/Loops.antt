@@ -1,4 +1,4 @@
--- Laws of the loops over a column, a slice and the numbers: a truth value as a number, one row more, and a column that is packed in place.
+-- Laws of the loops over a column, a slice and the numbers: one row more, and a column that is packed in place.
 -- Assumes nothing.
 use Prim.Native.Nat.{ℕ, suc, _+_, _<_, _≤_}
 use mathlib.Core.Bool.{Bool, true, false, cond}
@@ -10,30 +10,13 @@ use native.Mathlib.Numerals.{add-one}
 use native.Mathlib.Omega.{arith}
 use lib.ListN.{length, getD, take, drop, set, length-append, length-set}
 use lib.Seq.{take-suc-set, take-set-le, drop-set-lt, getD-drop, drop-drop}
-use Rattle.rowset.specs.Sets.{upTo, put, sum, count}
+use Rattle.inplace.proofs.Counts.{bool-number}
+use Rattle.rowset.specs.Sets.{upTo, put}
 use Rattle.slice.specs.Slices.{size, written}
 use Rattle.worktable.specs.Packing.{keptFrom, lowermost}
 use Rattle.worktable.proofs.Packing.{kept-suc}
 
--- a truth value as a number
-pub bool-number : (b s : Bool) → b ≡ s → boolByte b ≡ cond s 1 0
-bool-number b true e = rw e
-bool-number b false e = rw e
-
--- it is at most 1
-pub bool-small : (b : Bool) → boolByte b ≤ 1
-bool-small true = omega arith
-bool-small false = omega arith
-
--- no row, and one row more
-pub count-none : (p : ℕ → Bool) → count 0 p ≡ 0
-unfolding count sum
-count-none p = refl
-
-pub count-more : (p : ℕ → Bool) (i n : ℕ) (b : Bool) → n ≡ count i p → b ≡ p (i + 1) → n + boolByte b ≡ count (i + 1) p
-unfolding count sum
-count-more p i n b e h = rw (bool-number b (p (i + 1)) h, e, add-one i)
-
+-- the lowermost row of no row, and of one row more
 pub lowermost-none : (p : ℕ → Bool) → lowermost 0 p ≡ 0
 unfolding lowermost
 lowermost-none p = refl

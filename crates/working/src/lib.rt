@@ -42,19 +42,6 @@ fn because(number: u32) -> Refusal
     }
 }
 
-// The number of rows of a slice.
-fn count_rows(x: Slice) -> usize
-    ensures { λ r. ⌜ r ≡ count size (component x) ⌝ }
-{
-    let mut count = 0;
-    let mut i = 0;
-    while i < SIZE {
-        i += 1;
-        count += slice::get(x, i) as usize;
-    }
-    count
-}
-
 // The first number where the test holds, else the second.
 fn choose(test: bool, first: usize, second: usize) -> usize
     ensures { λ r. ⌜ r ≡ cond test first second ⌝ }
@@ -215,7 +202,7 @@ fn pack_table(
     pack(right, x, END);
     pack(weight, x, PRICE);
     number_rows(numbers, x, true);
-    write_rows(words, slice::rows::rows_to(count_rows(x)));
+    write_rows(words, slice::rows::rows_to(inplace::count_rows(x)));
 }
 
 // MERGE: the rows in use are packed to the top in their order, the rest is cleared, and the numbers are filled. Refused 3 where a length is wrong.
@@ -305,7 +292,7 @@ pub fn add_row(
     ensures table { λ r. ⌜ working (now (words .exit)) (now (left .exit)) (now (right .exit)) (now (weight .exit)) (now (numbers .exit)) ≡ added (working (now (words .entry)) (now (left .entry)) (now (right .entry)) (now (weight .entry)) (now (numbers .entry))) a b price ⌝ }
 {
     let x = rows_in_use(words);
-    if count_rows(x) == SIZE {
+    if inplace::count_rows(x) == SIZE {
         return Added::Refused(because(17));
     }
     if wrong_sizes(

@@ -9,7 +9,8 @@ use native.Mathlib.Nat.{div-le-self}
 use native.Mathlib.Omega.{arith}
 use Rattle.slice.specs.Slices.{component}
 use Rattle.worktable.specs.Packing.{ofRows, keptFrom, keptRows}
-use Rattle.working.proofs.Loops.{bool-small, Keeping, keeping-none, keeping-more}
+use Rattle.inplace.proofs.Counts.{bool-small}
+use Rattle.working.proofs.Loops.{Keeping, keeping-none, keeping-more}
 use Rattle.working.proofs.keep_rows.Statement.{statement}
 use Rattle.working.proofs.keep_rows.Tie as tie
 

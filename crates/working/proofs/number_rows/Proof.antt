@@ -14,7 +14,7 @@ use Rattle.rowset.proofs.Laws.{count-bound}
 use Rattle.slice.specs.Slices.{component}
 use Rattle.slice.proofs.Stores.{Filled, filled-none, filled-more, filled-all}
 use Rattle.worktable.specs.Packing.{newNumber, ownNumber, numbersFrom}
-use Rattle.working.proofs.Loops.{bool-small, count-none, count-more}
+use Rattle.inplace.proofs.Counts.{bool-small, count-none, count-more}
 use Rattle.working.proofs.number_rows.Statement.{statement}
 use Rattle.working.proofs.number_rows.Tie as tie
 
