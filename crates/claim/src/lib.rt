@@ -1,12 +1,12 @@
 // Between the bytes of a claim and slices of rows: the rows that a claim marks, the claim that marks a slice's rows, and the weight of a slice's rows, an integer, in the 64 bits that stand for it.
 ghost use mathlib.Core.Path.{_≡_};
-ghost use mathlib.Core.Bool.{Bool, cond};
+ghost use mathlib.Core.Bool.{Bool};
 ghost use Prim.Native.Nat.{ℕ, _+_, _*_, _≤_, _<_};
 ghost use lib.ListN.{length};
 ghost use Rattle.rowset.specs.Bytes.{inRow};
 ghost use Rattle.rowset.specs.Integers.{fromBits, signed, total};
 ghost use Rattle.rowset.specs.Sets.{both};
-ghost use Rattle.rowset.specs.Words.{wordAt, inWords};
+ghost use Rattle.rowset.specs.Words.{wordAt};
 ghost use Rattle.rowset.specs.steps.Flipped.{flipped};
 ghost use Rattle.slice.specs.Slices.{size, bit, component};
 ghost use Rattle.star.specs.Call.{marked, claimOf};
@@ -58,27 +58,13 @@ pub fn claim_rows(mark: &[u8], rows: Slice) -> Slice
     slice::and(rows, mark_rows(mark))
 }
 
-// The byte of the claim for the row at index i of a slice's words, 0 past their end. The words are lent, so that the slice is not copied for each row.
-fn row_mark(words: &[u64], i: usize) -> u8
-    ensures { λ r. ⌜ r ≡ cond (inWords (now (words .entry)) (i + 1)) 1 0 ⌝ }
-{
-    if slice::SIZE <= i {
-        return 0;
-    }
-    let k = i / 64;
-    if words.len() <= k {
-        return 0;
-    }
-    ((words[k] >> (i % 64)) % 2) as u8
-}
-
-// The claim is written anew: 1 for each row of the slice, 0 for every other.
+// The claim is written anew: 1 for each row of the slice, 0 for every other. The slice is lent as words, so that it is not copied for each row.
 pub fn write_claim(mark: &mut [u8], rows: Slice)
     ensures { λ r. ⌜ now (mark .exit) ≡ claimOf (length (now (mark .entry))) (component rows) ⌝ }
 {
     let mut i = 0;
     while i < mark.len() {
-        mark[i] = row_mark(&rows.words, i);
+        mark[i] = inplace::row_in(&rows.words, i + 1) as u8;
         i += 1;
     }
 }

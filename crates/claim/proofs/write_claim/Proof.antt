@@ -1,17 +1,17 @@
 -- `claim::write_claim` meets its contract. The loop's invariant: the bytes before index i are those of the claim, and the length is as it was.
 -- The measure is what is left of the column. Assumes nothing.
 use Prim.Native.Nat.{ℕ, suc, _+_, _-_, _<_}
-use borrow.Author.Needs.{needs}
 use lib.ListN.{length, getD}
 use mathlib.Core.Bool.{Bool, cond}
 use mathlib.Core.List.{List, [], _∷_}
 use mathlib.Core.Path.{_≡_, refl, sym, ap, ap₂, _∙_}
 use native.Mathlib.Nat.{zero-add}
 use native.Mathlib.Omega.{arith}
+use Rattle.inplace.proofs.Laws.{component-words}
 use Rattle.slice.specs.Slices.{component}
-use Rattle.slice.proofs.Laws.{same-words}
 use Rattle.slice.proofs.Stores.{Filled, filled-none, filled-more, filled-all}
 use Rattle.star.specs.Call.{claimFrom, claimOf}
+use Rattle.claim.proofs.Laws.{as-digit}
 use Rattle.claim.proofs.write_claim.Statement.{statement}
 use Rattle.claim.proofs.write_claim.Tie as tie
 
@@ -34,8 +34,14 @@ abbrev μ-loop : tie.MeasureT-loop
 loop-holds : tie.Need-loop-holds Inv-loop μ-loop
 loop-holds c = filled-none refl
 
-row-mark-requires : tie.Need-row-mark-requires Inv-loop μ-loop
-row-mark-requires c κs = search needs
+add-row-in : tie.Need-add-row-in Inv-loop μ-loop
+add-row-in c = omega arith
+
+row-in-requires : tie.Need-row-in-requires Inv-loop μ-loop
+row-in-requires c κs = tt
+
+cast-mark : tie.Need-cast-mark Inv-loop μ-loop
+cast-mark c = tt
 
 slice-write-mark : tie.Need-slice-write-mark Inv-loop μ-loop
 slice-write-mark c = omega arith
@@ -49,7 +55,7 @@ loop-less c = omega arith
 loop-again : tie.Need-loop-again Inv-loop μ-loop
 loop-again c =
     let l = c .before .before .before .before .before .loop in
-    filled-more (l .inv) (omega arith) (c .row-mark .ensures ∙ ap (λ (p : ℕ → Bool). cond (p (l .i + 1)) 1 0) (sym (same-words _ _ (λ k q. refl))))
+    filled-more (l .inv) (omega arith) (as-digit _ (c .row-in .ensures ∙ ap (λ (p : ℕ → Bool). p (l .i + 1)) (sym (component-words _))))
 
 same-length : tie.Need-same-length Inv-loop μ-loop
 same-length c = c .before .loop .inv .full
@@ -66,7 +72,9 @@ write-claim-spec =
     Inv-loop
     μ-loop
     loop-holds
-    row-mark-requires
+    add-row-in
+    row-in-requires
+    cast-mark
     slice-write-mark
     add-i
     loop-less
