@@ -143,7 +143,7 @@ fn first_found(
     let mut i = 0;
     while i < m {
         let at = i + 1;
-        if slice::get(rows, at) {
+        if inplace::row_in(&rows.words, at) {
             let y = compared_rows(matrix, &weights, first, left, right, weight, at);
             let heavier = y.greater;
             if slice::some(heavier) {
