@@ -97,7 +97,7 @@ component-words p = component-ext (record { words = columnWordsFrom p 0 columnWo
         ∙ ap (λ (b : Bool). b && p (64 * k + j + 1)) (sym (upTo-inside size (64 * k + j + 1) (omega arith) (omega arith)))
 
 -- where a column lies inside the words, and where it does not
-hasColumn-inside : (l : List ℕ) (j : ℕ) → 1 ≤ j → columnWords * j ≤ length l → hasColumn l j ≡ true
+pub hasColumn-inside : (l : List ℕ) (j : ℕ) → 1 ≤ j → columnWords * j ≤ length l → hasColumn l j ≡ true
 unfolding hasColumn
 hasColumn-inside l j low high = ap₂ _&&_ (le-leb 1 j low) (le-leb (columnWords * j) (length l) high)
 
@@ -109,7 +109,7 @@ pub hasColumn-above : (l : List ℕ) (j : ℕ) → length l < columnWords * j �
 unfolding hasColumn
 hasColumn-above l j h = ap (λ (b : Bool). leb 1 j && b) (lt-leb (columnWords * j) (length l) h) ∙ and-false (leb 1 j)
 
-hasColumn-bounds : (l : List ℕ) (j : ℕ) → hasColumn l j ≡ true → (1 ≤ j) × (columnWords * j ≤ length l)
+pub hasColumn-bounds : (l : List ℕ) (j : ℕ) → hasColumn l j ≡ true → (1 ≤ j) × (columnWords * j ≤ length l)
 unfolding hasColumn
 hasColumn-bounds l j e =
     let h = and-eq-true-iff (leb 1 j) (leb (columnWords * j) (length l)) .0 e in
@@ -158,7 +158,7 @@ module _ (l : List ℕ) (j : ℕ) (low : 1 ≤ j) (high : columnWords * j ≤ le
 
 module _ (l : List ℕ) (j : ℕ) (p : ℕ → Bool) where
   -- what holds of the words as they are, and of those with the column stored where it is inside, holds after a column is written
-  withColumn-cases : (P : List ℕ → Type 0) → P l
+  pub withColumn-cases : (P : List ℕ → Type 0) → P l
       → (1 ≤ j → columnWords * j ≤ length l → P (paste l (columnWords * (j - 1)) (columnWordsFrom p 0 columnWords) columnWords)) → P (withColumn l j p)
   withColumn-cases P kept stored = go (hasColumn l j) refl
     where
