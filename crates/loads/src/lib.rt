@@ -187,3 +187,19 @@ pub fn sign_columns(columns: &[u64]) -> usize
     }
     j - 1
 }
+
+// The end that row i has after a load of a column of ends, read from its byte.
+pub fn end_at(column: &[u8], i: usize) -> u32
+    ensures { λ r. ⌜ r ≡ loadedRow 1 (now (column .entry)) i ⌝ }
+{
+    if slice::SIZE < column.len() {
+        return 0;
+    }
+    if i < 1 {
+        return 0;
+    }
+    if column.len() < i {
+        return 0;
+    }
+    column[i - 1] as u32
+}
