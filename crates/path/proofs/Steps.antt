@@ -3,13 +3,18 @@
 use Prim.Native.Nat.{ℕ, zero, suc, _+_, _-_, _≤_}
 use native.Mathlib.Nat.{zero-add, suc-add}
 use native.Mathlib.Omega.{arith}
-use mathlib.Core.Bool.{Bool, true, false, cond}
+use lib.ListN.{replicate}
+use mathlib.Core.Bool.{Bool, true, false, cond, _&&_, and-false}
 use mathlib.Core.List.{List}
 use mathlib.Core.Logic.{_≢_}
-use mathlib.Core.Path.{_≡_, refl, sym, ap, _∙_, subst}
+use mathlib.Core.Path.{_≡_, refl, sym, ap, _∙_, subst, fun-ext}
 use Rattle.rowset.specs.Searches.{equalTo}
-use Rattle.rowset.specs.Sets.{empty, either, oneOf, uppermost}
+use Rattle.rowset.specs.Sets.{empty, upTo, either, oneOf, uppermost}
+use Rattle.rowset.specs.Words.{inWords}
+use Rattle.inplace.proofs.Laws.{words-component}
 use Rattle.matrix.specs.Matrix.{matrixColumn, withColumn}
+use Rattle.slice.proofs.Bits.{bit-of-zero}
+use Rattle.slice.proofs.Laws.{component-replicate}
 use Rattle.slice.specs.Slices.{size, written}
 use Rattle.path.proofs.Walks.{along-none, along-ahead, along-back}
 use Rattle.path.specs.steps.Walks.{State, nowhere, arrive, pass, along, step, steps, walk}
@@ -17,6 +22,14 @@ use Rattle.path.specs.steps.Walks.{State, nowhere, arrive, pass, along, 
 -- the state of four parts
 abbrev pub state : (L R Q : ℕ → Bool) → List ℕ → State
 state L R Q w = record { lefts = L; rights = R; reached = Q; words = w }
+
+-- words of zeros have no component
+abbrev zeros : List ℕ
+zeros = replicate 16 0
+
+zeros-none : inWords zeros ≡ empty
+unfolding empty
+zeros-none = words-component zeros ∙ fun-ext (λ i. component-replicate 0 i ∙ ap (λ (b : Bool). upTo size i && b) (bit-of-zero _) ∙ and-false (upTo size i))
 
 module _ (a b : ℕ → ℕ) (T : ℕ → Bool) where
   -- row i is taken from u to v
@@ -27,17 +40,17 @@ module _ (a b : ℕ → ℕ) (T : ℕ → Bool) where
       go true h = along-ahead a b T x i n h ∙ rw (e, f, h)
       go false h = along-back a b T x i n h ∙ rw (e, f, h)
 
-  pub step-taken : (L R Q : ℕ → Bool) {L' R' Q' : ℕ → Bool} (w : List ℕ) {w' : List ℕ} (i u v : ℕ) {X : ℕ → Bool} → X ≡ oneOf L R → i ≡ uppermost size X → i ≢ 0
+  pub step-taken : (L R Q : ℕ → Bool) {L' R' Q' : ℕ → Bool} (w : List ℕ) {w' : List ℕ} (i u v : ℕ) → i ≡ uppermost size (oneOf L R) → i ≢ 0
       → u ≡ cond (L i) (a i) (b i) → v ≡ cond (L i) (b i) (a i)
       → w' ≡ withColumn w v (written (matrixColumn w u) i true) → L' ≡ either L (equalTo a v T) → R' ≡ either R (equalTo b v T) → Q' ≡ written Q v true
       → state L' R' Q' w' ≡ step a b T (state L R Q w)
   unfolding step pass arrive
-  step-taken L R Q w i u v x e n f g p q r s =
-      rw (p, q, r, s) (sym (ap (along a b T (state L R Q w)) (sym (e ∙ ap (uppermost size) x)) ∙ passed (state L R Q w) i u v n f g))
+  step-taken L R Q w i u v e n f g p q r s =
+      rw (p, q, r, s) (sym (ap (along a b T (state L R Q w)) (sym e) ∙ passed (state L R Q w) i u v n f g))
 
-  pub step-none : (L R Q : ℕ → Bool) (w : List ℕ) {i : ℕ} {X : ℕ → Bool} → X ≡ oneOf L R → i ≡ uppermost size X → i ≡ 0 → step a b T (state L R Q w) ≡ state L R Q w
+  pub step-none : (L R Q : ℕ → Bool) (w : List ℕ) {i : ℕ} → i ≡ uppermost size (oneOf L R) → i ≡ 0 → step a b T (state L R Q w) ≡ state L R Q w
   unfolding step
-  step-none L R Q w x e z = along-none a b T (state L R Q w) _ (sym (e ∙ ap (uppermost size) x) ∙ z)
+  step-none L R Q w e z = along-none a b T (state L R Q w) _ (sym e ∙ z)
 
   -- where a step changes nothing, no more steps do
   stay : (x : State) (k j : ℕ) → step a b T (steps a b T x k) ≡ steps a b T x k → steps a b T x (j + k) ≡ steps a b T x k
@@ -52,7 +65,7 @@ module _ (a b : ℕ → ℕ) (T : ℕ → Bool) where
       within = (n - k, omega arith)
 
   -- the steps from where the walk begins: vertex s alone is reached, and its path is empty
-  pub begun : {E L R Q : ℕ → Bool} (w : List ℕ) {w' : List ℕ} (s n : ℕ) → E ≡ empty → w' ≡ withColumn w s E → L ≡ either E (equalTo a s T) → R ≡ either E (equalTo b s T) → Q ≡ written E s true
+  pub begun : {E L R Q : ℕ → Bool} (w : List ℕ) {w' : List ℕ} (s n : ℕ) → E ≡ empty → w' ≡ withColumn w s E → L ≡ either (inWords zeros) (equalTo a s T) → R ≡ either (inWords zeros) (equalTo b s T) → Q ≡ written (inWords zeros) s true
       → steps a b T (state L R Q w') n ≡ walk a b T s w n
   unfolding walk nowhere arrive
-  begun w s n e p q r t = rw (p, q, r, t, e)
+  begun w s n e p q r t = rw (p, q, r, t, e, zeros-none)

@@ -8,10 +8,12 @@ ghost use Rattle.refusal.specs.Outcomes.{refusalOf};
 ghost use Rattle.matrix.specs.Matrix.{matrixColumn, withColumn};
 ghost use Rattle.rowset.specs.Searches.{equalTo};
 ghost use Rattle.rowset.specs.Sets.{either};
+ghost use Rattle.rowset.specs.Words.{inWords};
 ghost use Rattle.slice.specs.Slices.{size, component, written};
 ghost use Rattle.star.specs.MatrixPath.{matrixPath, matrixAfter};
 ghost use Rattle.star.specs.Refusals.{wrongSource, fewWords, unreached, beforeWalk, refusal};
 ghost use Rattle.star.specs.Call.{tableOf, callOf, workOf};
+ghost use Rattle.table.specs.Loads.{loadedRow};
 ghost use Rattle.path.specs.steps.Walks.{endsIn, walk, claimWalk, ownPath, ownAfter};
 use checks::first;
 use checks::refused_at;
@@ -22,7 +24,7 @@ use slice::rows::rows_among;
 use slice::rows::rows_to;
 use slice::words::rows_in_use;
 
-// The words of a column of a path matrix, and of a matrix with as many columns as there can be vertices.
+// The words of a slice and of a column of a path matrix, and of a matrix with as many columns as there can be vertices.
 const WORDS: usize = 16;
 
 pub const ALL_WORDS: usize = 4080;
@@ -30,11 +32,12 @@ pub const ALL_WORDS: usize = 4080;
 // The number of columns on the left that are empty in a table of bytes.
 const UPPER: usize = 24;
 
-// x, and with it the rows that hold v, by MATCH.
-fn reach(x: Slice, ends: &[u64], v: u32, rows: Slice) -> Slice
-    ensures { λ r. ⌜ component r ≡ either (component x) (equalTo (endsIn (now (ends .entry))) v (component rows)) ⌝ }
+// The rows that hold v, by MATCH, come to those of x.
+fn reach(x: &mut [u64; WORDS], ends: &[u64], v: u32, rows: Slice)
+    ensures rows { λ r. ⌜ inWords (now (x .exit)) ≡ either (inWords (now (x .entry))) (equalTo (endsIn (now (ends .entry))) v (component rows)) ⌝ }
+    ensures size { λ r. ⌜ length (now (x .exit)) ≡ 16 ⌝ }
 {
-    slice::or(x, lent::match_from(ends, UPPER, v, rows))
+    inplace::join(x, lent::match_from(ends, UPPER, v, rows));
 }
 
 // The first of two vertices where the test holds, else the second.
@@ -51,39 +54,64 @@ fn choose(test: bool, first: u32, second: u32) -> u32
 fn lead(own: &mut [u64], i: usize, u: u32, v: u32)
     ensures { λ r. ⌜ now (own .exit) ≡ withColumn (now (own .entry)) v (written (matrixColumn (now (own .entry)) u) i true) ⌝ }
 {
-    let path = slice::put(matrix::read_column(own, u as usize), i, true);
+    let path = matrix::read_column(own, u as usize);
     matrix::write_column(own, v as usize, path);
+    matrix::put_component(own, v as usize, i);
 }
 
-// The walk of n steps from vertex s: the vertices reached. At each step the uppermost row with exactly one end reached is taken from that end to the other; such rows are those that only one
-// of `lefts`, the rows whose left end is reached, and `rights` has. Where there is none, the steps that are left change nothing.
-pub fn walk(left: &[u64], right: &[u64], rows: Slice, s: u32, n: u32, own: &mut [u64]) -> Slice
-    ensures reached { λ r. ⌜ component r ≡ walk (endsIn (now (left .entry))) (endsIn (now (right .entry))) (component rows) s (now (own .entry)) n .reached ⌝ }
-    ensures words { λ r. ⌜ now (own .exit) ≡ walk (endsIn (now (left .entry))) (endsIn (now (right .entry))) (component rows) s (now (own .entry)) n .words ⌝ }
+// The walk, with the columns of ends as they stand after a load for MATCH. At each step the uppermost row with exactly one end reached is taken from that end to the other; such rows are those
+// that only one of `lefts`, the rows whose left end is reached, and `rights` has. Where there is none, the steps that are left change nothing. The three slices are changed in place.
+fn walk_loaded(
+    left: &[u8],
+    right: &[u8],
+    left_ends: &[u64],
+    right_ends: &[u64],
+    rows: Slice,
+    s: u32,
+    n: u32,
+    own: &mut [u64],
+) -> Slice
+    requires { ⌜ (endsIn (now «left_ends») ≡ loadedRow 1 (now left)) × (endsIn (now «right_ends») ≡ loadedRow 1 (now right)) ⌝ }
+    ensures reached { λ r. ⌜ component r ≡ walk (loadedRow 1 (now (left .entry))) (loadedRow 1 (now (right .entry))) (component rows) s (now (own .entry)) n .reached ⌝ }
+    ensures words { λ r. ⌜ now (own .exit) ≡ walk (loadedRow 1 (now (left .entry))) (loadedRow 1 (now (right .entry))) (component rows) s (now (own .entry)) n .words ⌝ }
 {
-    let none = Slice::empty();
-    matrix::write_column(own, s as usize, none);
-    let mut lefts = reach(none, left, s, rows);
-    let mut rights = reach(none, right, s, rows);
-    let mut reached = slice::put(none, s as usize, true);
+    matrix::write_column(own, s as usize, Slice::empty());
+    let mut lefts = [0u64; WORDS];
+    reach(&mut lefts, left_ends, s, rows);
+    let mut rights = [0u64; WORDS];
+    reach(&mut rights, right_ends, s, rows);
+    let mut reached = [0u64; WORDS];
+    inplace::put_row(&mut reached, s as usize);
     let mut k = 0;
     while k < n {
-        let i = slice::fnd(slice::xor(lefts, rights));
+        let i = inplace::first_difference(&lefts, &rights);
         if i == 0 {
-            return reached;
+            return Slice { words: reached };
         }
-        let ahead = slice::get(lefts, i);
-        let a = lent::row_from(left, UPPER, i);
-        let b = lent::row_from(right, UPPER, i);
+        let ahead = inplace::row_in(&lefts, i);
+        let a = loads::end_at(left, i);
+        let b = loads::end_at(right, i);
         let u = choose(ahead, a, b);
         let v = choose(ahead, b, a);
         lead(own, i, u, v);
-        lefts = reach(lefts, left, v, rows);
-        rights = reach(rights, right, v, rows);
-        reached = slice::put(reached, v as usize, true);
+        reach(&mut lefts, left_ends, v, rows);
+        reach(&mut rights, right_ends, v, rows);
+        inplace::put_row(&mut reached, v as usize);
         k += 1;
     }
-    reached
+    Slice { words: reached }
+}
+
+// The walk of n steps from vertex s over rows whose ends stand in byte columns: the vertices reached.
+pub fn walk(left: &[u8], right: &[u8], rows: Slice, s: u32, n: u32, own: &mut [u64]) -> Slice
+    ensures reached { λ r. ⌜ component r ≡ walk (loadedRow 1 (now (left .entry))) (loadedRow 1 (now (right .entry))) (component rows) s (now (own .entry)) n .reached ⌝ }
+    ensures words { λ r. ⌜ now (own .exit) ≡ walk (loadedRow 1 (now (left .entry))) (loadedRow 1 (now (right .entry))) (component rows) s (now (own .entry)) n .words ⌝ }
+{
+    let mut lefts = [0u64; loads::ALL];
+    loads::put_ends(left, &mut lefts);
+    let mut rights = [0u64; loads::ALL];
+    loads::put_ends(right, &mut rights);
+    walk_loaded(left, right, &lefts, &rights, rows, s, n, own)
 }
 
 // Cause 10: the smallest vertex of 1 to n that is not reached.
@@ -158,12 +186,8 @@ fn claim_walk(
     ensures answer { λ o. ⌜ refusalOf o ≡ unreached n (claimWalk n m (component rows) (now (left .entry)) (now (right .entry)) (now (mark .entry)) s (now (own .entry)) .reached) ⌝ }
     ensures words { λ o. ⌜ now (own .exit) ≡ claimWalk n m (component rows) (now (left .entry)) (now (right .entry)) (now (mark .entry)) s (now (own .entry)) .words ⌝ }
 {
-    let mut lefts = [0u64; loads::ALL];
-    loads::put_ends(left, &mut lefts);
-    let mut rights = [0u64; loads::ALL];
-    loads::put_ends(right, &mut rights);
     let marked = claim::claim_rows(mark, rows_among(m, rows));
-    let reached = walk(&lefts, &rights, marked, s, n, own);
+    let reached = walk(left, right, marked, s, n, own);
     joined_check(n, reached)
 }
 

@@ -1,10 +1,15 @@
--- `path::lead` meets its contract, by what its calls ensure. Assumes nothing.
+-- `path::lead` meets its contract, by what its calls ensure: the column of u is written as that of v, and row i is put in it. Assumes nothing.
 use borrow.Author.Needs.{needs}
+use mathlib.Core.Path.{_∙_}
+use Rattle.matrix.proofs.Components.{withColumn-put}
 use Rattle.path.proofs.lead.Statement.{statement}
 use Rattle.path.proofs.lead.Tie as tie
 
 returns : tie.Need-returns
-returns c = cc
+returns c =
+    let put = c .before .before in
+    let write = put .before .before .before .before in
+    put .put-component .ensures ∙ rw (write .write-column .ensures, write .before .before .read-column .ensures) (withColumn-put _ _ _ _)
 
 pub lead-spec : {M : Type 1} → statement M
 lead-spec =
