@@ -39,11 +39,7 @@ fn path_between(
 ) -> Slice
     ensures { λ r. ⌜ component r ≡ matrixColumn (walk (loadedRow 1 (now (left .entry))) (loadedRow 1 (now (right .entry))) (component tree) u (now (own .entry)) n .words) v ⌝ }
 {
-    let mut lefts = [0u64; loads::ALL];
-    loads::put_ends(left, &mut lefts);
-    let mut rights = [0u64; loads::ALL];
-    loads::put_ends(right, &mut rights);
-    path::walk(&lefts, &rights, tree, u, n, own);
+    path::walk(left, right, tree, u, n, own);
     matrix::read_column(own, v)
 }
 

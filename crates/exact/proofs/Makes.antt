@@ -19,14 +19,14 @@ use Rattle.exact.specs.steps.Reduced.{reducedBy, walked, reducedFrom, He
 
 -- ── The exchanges ──
 
-module _ (x : Given) (a b : ℕ → ℕ) (U T : ℕ → Bool) (r n t have : ℕ) (is : have ≡ count size (both T (x .at))) {whole : Bool} {chosen : ℕ → Bool} where
+module _ (x : Given) (U T : ℕ → Bool) (r n t have : ℕ) (is : have ≡ count size (both T (x .at))) {whole : Bool} {chosen : ℕ → Bool} where
   -- there are fewer than t rows at r
-  pub reduced-none : have < t → whole ≡ false → chosen ≡ empty → Ends (reducedFrom x a b U T r n t) whole chosen
+  pub reduced-none : have < t → whole ≡ false → chosen ≡ empty → Ends (reducedFrom x U T r n t) whole chosen
   unfolding reducedBy
   reduced-none l p q = rw (← is, lt-ltb have t l) (ends-none refl p q)
 
   -- there are not, and the exchanges are made for the rows that are not at r, with the path matrix from r
-  pub reduced-made : t ≤ have → (rest : ℕ → Bool) (own : List ℕ) → rest ≡ without U (x .at) → own ≡ walked a b T r n → Ends (exchangesTo x n (have - t) (firstState x rest T own)) whole chosen → Ends (reducedFrom x a b U T r n t) whole chosen
+  pub reduced-made : t ≤ have → (rest : ℕ → Bool) (own : List ℕ) → rest ≡ without U (x .at) → own ≡ walked (loadedRow 1 (x .left)) (loadedRow 1 (x .right)) T r n → Ends (exchangesTo x n (have - t) (firstState x rest T own)) whole chosen → Ends (reducedFrom x U T r n t) whole chosen
   unfolding reducedBy
   reduced-made l rest own p q e = rw (← is, le-ltb have t l, ← p, ← q) e
 
@@ -43,5 +43,5 @@ module _ (h : Held) (r t : ℕ) {a b : ℕ → ℕ} {U : ℕ → Bool} {w : ℕ 
 
   -- there is one, and exchanges are made on it
   pub makes-some : whole ≡ true → {at : ℕ → Bool} → at ≡ both U (touches (graphIn a b U (h .n)) r) → {left : Bool} {remaining : ℕ → Bool}
-      → Ends (reducedFrom (record { left = h .left; right = h .right; price = priceIn (h .weight); weight = w; at = at }) a b U chosen r (h .n) t) left remaining → Makes h r t true left remaining
+      → Ends (reducedFrom (record { left = h .left; right = h .right; price = priceIn (h .weight); weight = w; at = at }) U chosen r (h .n) t) left remaining → Makes h r t true left remaining
   makes-some e is-at ends = record { joins = sym e ∙ same-starts .all; ends = λ q. rw (is-at, ea, eb, eu, ew, same-starts .rows) at ends }

@@ -1,6 +1,5 @@
-// The tree with exactly t rows at a vertex r on the machine: the columns are loaded once, the start prefers rows at r, a walk over it fills the path matrix from r, and exchanges take rows at r out until t are left.
+// The tree with exactly t rows at a vertex r on the machine: the columns are loaded, the start prefers rows at r, a walk over it fills the path matrix from r, and exchanges take rows at r out until t are left.
 ghost use mathlib.Core.Path.{_≡_};
-ghost use Rattle.path.specs.steps.Walks.{endsIn};
 ghost use Rattle.reductions.specs.steps.Columns.{givenOf};
 ghost use Rattle.reductions.specs.steps.Exchanges.{Ends};
 ghost use Rattle.rowset.specs.Sets.{count};
@@ -37,8 +36,6 @@ fn reduce(
     left: &[u8],
     right: &[u8],
     weight: &[u8],
-    lefts: &[u64],
-    rights: &[u64],
     weights: &[u64],
     first: usize,
     r: u32,
@@ -49,7 +46,7 @@ fn reduce(
 ) -> Reduced
     ensures { λ o.
         let x = givenOf (now (left .entry)) (now (right .entry)) (now (weight .entry)) (now (weights .entry)) first (component at) in
-        ⌜ Ends (reducedFrom x (endsIn (now (lefts .entry))) (endsIn (now (rights .entry))) (component used) (component tree) r n t) (o .whole) (component (o .chosen)) ⌝ }
+        ⌜ Ends (reducedFrom x (component used) (component tree) r n t) (o .whole) (component (o .chosen)) ⌝ }
 {
     let have = count_rows(slice::and(tree, at));
     let least = t as usize;
@@ -61,7 +58,7 @@ fn reduce(
     }
     let rest = slice::difference::without(used, at);
     let mut own = [0u64; path::ALL_WORDS];
-    path::walk(lefts, rights, tree, r, n, &mut own);
+    path::walk(left, right, tree, r, n, &mut own);
     reductions::reduce(
         n as usize,
         left,
@@ -113,8 +110,6 @@ pub fn make(
         left,
         right,
         weight,
-        &lefts,
-        &rights,
         &weights,
         first,
         r,

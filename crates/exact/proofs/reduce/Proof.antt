@@ -8,11 +8,11 @@ use Rattle.exact.proofs.reduce.Statement.{statement}
 use Rattle.exact.proofs.reduce.Tie as tie
 
 returns : tie.Need-returns
-returns c = reduced-none _ _ _ _ _ _ _ _ _ (c .before .before .count-rows .ensures ∙ ap (count size) (c .before .before .before .and .ensures)) (c .before .if1 .taken) refl (c .empty .ensures)
+returns c = reduced-none _ _ _ _ _ _ _ (c .before .before .count-rows .ensures ∙ ap (count size) (c .before .before .before .and .ensures)) (c .before .if1 .taken) refl (c .empty .ensures)
 
 returns-2 : tie.Need-returns-2
 returns-2 c =
-    reduced-made _ _ _ _ _ _ _ _ _ (c .before .before .before .before .before .before .before .before .count-rows .ensures ∙ ap (count size) (c .before .before .before .before .before .before .before .before .before .and .ensures)) (c .before .before .before .before .before .before .before .if1 .left) _ _ (c .before .before .before .before .before .before .without .ensures) (c .before .before .before .before .walk .ensures .1) (c .before .reduce .ensures)
+    reduced-made _ _ _ _ _ _ _ (c .before .before .before .before .before .before .before .before .count-rows .ensures ∙ ap (count size) (c .before .before .before .before .before .before .before .before .before .and .ensures)) (c .before .before .before .before .before .before .before .if1 .left) _ _ (c .before .before .before .before .before .before .without .ensures) (c .before .before .before .before .walk .ensures .1) (c .before .reduce .ensures)
 
 pub reduce-spec : {M : Type 1} → statement M
 reduce-spec =

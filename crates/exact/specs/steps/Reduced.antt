@@ -30,9 +30,9 @@ abbrev pub walked : (a b : ℕ → ℕ) → (T : ℕ → Bool) → (r n : ℕ) �
 walked a b T r n = walk a b T r (replicate 4080 0) n .words
 
 -- the exchanges on the tree T over the rows U, of which those of `at` are at r
-abbrev pub reducedFrom : Given → (a b : ℕ → ℕ) → (U T : ℕ → Bool) → (r n t : ℕ) → Option State
-reducedFrom x a b U T r n t =
-    reducedBy x n (count size (both T (x .at))) t (firstState x (without U (x .at)) T (walked a b T r n))
+abbrev pub reducedFrom : Given → (U T : ℕ → Bool) → (r n t : ℕ) → Option State
+reducedFrom x U T r n t =
+    reducedBy x n (count size (both T (x .at))) t (firstState x (without U (x .at)) T (walked (loadedRow 1 (x .left)) (loadedRow 1 (x .right)) T r n))
 
 -- a table as it is handed in: the numbers of vertices and of rows, the rows in use, and three columns of bytes
 pub record Held : Type 0 where
@@ -60,4 +60,4 @@ givenIn h r =
 -- whether there is a tree, and where there is one, what is left of the start
 pub record Makes (h : Held) (r t : ℕ) (joined whole : Bool) (chosen : ℕ → Bool) : Type 0 where
   pub joins : joined ≡ not (isNone (start (loadedIn h) (weightIn h) r))
-  pub ends : joined ≡ true → Ends (reducedFrom (givenIn h r) (loadedRow 1 (h .left)) (loadedRow 1 (h .right)) (usedIn h) (chosenRows (start (loadedIn h) (weightIn h) r)) r (h .n) t) whole chosen
+  pub ends : joined ≡ true → Ends (reducedFrom (givenIn h r) (usedIn h) (chosenRows (start (loadedIn h) (weightIn h) r)) r (h .n) t) whole chosen
