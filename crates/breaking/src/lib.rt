@@ -49,7 +49,7 @@ fn heaviest_price(weight: &[u8], x: Slice) -> u32
 {
     let mut weights = [0u64; loads::ALL];
     loads::put_prices(weight, &mut weights);
-    let heaviest = slice::fnd(lent::max_from(&weights, 0, x));
+    let heaviest = slice::fnd(extremes::max_from(&weights, 0, x));
     checks::row_weight(weight, heaviest)
 }
 

@@ -20,7 +20,7 @@ ghost use Rattle.cst.specs.Verdicts.{answerOf, equalRowsOf};
 use checks::row_byte;
 use checks::row_weight;
 use claim::flipped_weight;
-use lent::Compared;
+use great::Compared;
 use refusal::Outcome;
 use refusal::Refusal;
 use slice::Slice;
@@ -97,7 +97,7 @@ fn compared_rows(
         matrix::read_column(matrix, node1),
         matrix::read_column(matrix, node2),
     );
-    lent::great_from(weights, first, w, x)
+    great::great_from(weights, first, w, x)
 }
 
 // The exchange of row out for row into, which is not heavier. The difference of their weights is that of their flipped weights.

@@ -1,11 +1,7 @@
 pub mod Orders
 pub mod Columns
 pub mod Steps
-pub mod Extremes
 pub mod Signs
 pub mod Loops
 pub mod Stores
-pub mod Counts
 pub mod Words
-pub mod Preferred
-pub mod Matching

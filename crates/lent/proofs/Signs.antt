@@ -1,30 +1,27 @@
--- The integers that rows hold in bit columns, and the numbers that the loops compare: those of the columns of which the first is turned over.
--- Main statements: the order is the same (integer-order, integer-above, integer-same), so each search over the integers is one over those numbers (great-turned, same-turned, min-turned, max-turned).
+-- The integers that rows hold in bit columns, and the numbers that GREAT, MIN and MAX compare: those of the columns of which the first is turned over.
+-- Main statements: an integer and its number differ by the same for all rows (integer-parts); the rows kept at the column that is turned over are those with the other bit (kept-turned).
 -- Assumes nothing.
-use Prim.Native.Nat.{ℕ, zero, suc, _+_, _-_, _*_, _/_, _%_, _^_, _≤_, _<_}
-use borrow.Author.Tests.{ltb-true, ltb-false, lt-ltb, le-ltb, eqb-true, eqb-false, eq-eqb, ne-eqb}
-use lib.Dec.{eqb, ltb}
-use lib.IntN.{ℤ, pos, _-ℤ_}
-use lib.Pow.{pow-mono}
-use lib.Signed.{leZ, ltZ}
-use mathlib.Core.Bool.{Bool, true, false, not, cond, _&&_, and-eq-true-iff}
+use Prim.Native.Nat.{ℕ, zero, suc, _+_, _-_, _*_, _^_, _≤_, _<_}
+use borrow.Author.Tests.{lt-ltb, le-ltb, eq-eqb, ne-eqb}
+use lib.Dec.{eqb, eqb·suc-suc}
+use lib.IntN.{pos}
+use mathlib.Core.Bool.{Bool, true, false, not, cond, _&&_}
 use mathlib.Core.Logic.{_≢_}
-use mathlib.Core.Path.{_≡_, refl, sym, ap, _∙_, fun-ext}
-use native.Mathlib.Nat.{pow-suc, mod-lt, div-eq-of-lt}
+use mathlib.Core.Path.{_≡_, refl, fun-ext}
+use native.Mathlib.Nat.{pow-suc}
 use native.Mathlib.Numerals.{add-one, one-add}
 use native.Mathlib.Omega.{arith}
 use Rattle.lent.proofs.Columns.{number-one}
-use Rattle.lent.proofs.Steps.{match-start}
-use Rattle.lent.specs.steps.Column.{turned, turnedBits, above, extreme}
-use Rattle.rowset.proofs.Integers.{up, down, integers, minus, pos-parts, leZ-true, lt-ltZ, le-leZ, le-ltZ}
-use Rattle.rowset.proofs.Laws.{any-ext, in-upTo, refuted}
+use Rattle.lent.specs.steps.Column.{turned, kept}
+use Rattle.rowset.proofs.Integers.{up, down, minus, pos-parts}
+use Rattle.rowset.proofs.Laws.{in-upTo}
 use Rattle.rowset.proofs.Numbers.{number-split, number-below}
 use Rattle.rowset.proofs.Signed.{small-bits}
 use Rattle.rowset.specs.Columns.{inColumns}
 use Rattle.rowset.specs.Integers.{fromBits, integerIn}
-use Rattle.rowset.specs.Searches.{equalTo, greaterThan, sameAs, smallest, largest}
-use Rattle.rowset.specs.Sets.{upTo, without, any}
+use Rattle.rowset.specs.Sets.{upTo, without}
 use Rattle.slice.specs.Slices.{size}
+use Rattle.lent.proofs.Steps.{kept-at}
 
 -- the integer of k + 1 bits of which the first is b and the others are the number y
 pub bits-parts : (k x y : ℕ) (b : Bool) → x ≡ cond b 1 0 * 2 ^ k + y → y < 2 ^ k → up (fromBits (suc k) x) + 2 ^ k ≡ down (fromBits (suc k) x) + (cond (not b) 1 0 * 2 ^ k + y)
@@ -35,60 +32,6 @@ bits-parts k x y true e h =
 bits-parts k x y false e h =
     let p = pow-suc 2 k in
     rw (small-bits (suc k) x (omega arith), lt-ltb (2 * x) (2 ^ suc k) (omega arith)) (omega (arith, pos-parts x))
-
--- the integer that the last bits of w stand for
-word-case : (k y : ℕ) → y < 2 ^ suc k
-    → up (cond (ltb (2 * y) (2 ^ suc k)) (pos y) (pos y -ℤ pos (2 ^ suc k))) + 2 ^ k
-    ≡ down (cond (ltb (2 * y) (2 ^ suc k)) (pos y) (pos y -ℤ pos (2 ^ suc k))) + cond (ltb y (2 ^ k)) (y + 2 ^ k) (y - 2 ^ k)
-word-case k y h = go (ltb y (2 ^ k)) refl
-  where
-    go : (t : Bool) → ltb y (2 ^ k) ≡ t
-        → up (cond (ltb (2 * y) (2 ^ suc k)) (pos y) (pos y -ℤ pos (2 ^ suc k))) + 2 ^ k
-        ≡ down (cond (ltb (2 * y) (2 ^ suc k)) (pos y) (pos y -ℤ pos (2 ^ suc k))) + cond t (y + 2 ^ k) (y - 2 ^ k)
-    go true e = rw (lt-ltb (2 * y) (2 ^ suc k) (omega (arith, pow-suc 2 k, ltb-true y (2 ^ k) e))) (omega (arith, pos-parts y))
-    go false e =
-        rw (le-ltb (2 * y) (2 ^ suc k) (omega (arith, pow-suc 2 k, ltb-false y (2 ^ k) e)))
-        (omega (arith, pow-suc 2 k, ltb-false y (2 ^ k) e, minus (pos y) (pos (2 ^ suc k)), pos-parts y, pos-parts (2 ^ suc k)))
-
-positive : (k : ℕ) → 0 < 2 ^ k
-positive zero = omega arith
-positive (suc k) = omega (arith, pow-suc 2 k, positive k)
-
-word-parts : (k w : ℕ) → up (fromBits (suc k) w) + 2 ^ k ≡ down (fromBits (suc k) w) + turnedBits (suc k) w
-unfolding fromBits turnedBits
-word-parts k w = word-case k (w % 2 ^ suc k) (mod-lt w (positive (suc k)))
-
--- those bits are no more than k, so before any column is read every selected row is equal to them so far
-turned-below : (k w : ℕ) → turnedBits k w < 2 ^ k
-unfolding turnedBits
-turned-below zero w = omega arith
-turned-below (suc k) w = go (ltb (w % 2 ^ suc k) (2 ^ k)) refl
-  where
-    go : (t : Bool) → ltb (w % 2 ^ suc k) (2 ^ k) ≡ t → cond t (w % 2 ^ suc k + 2 ^ k) (w % 2 ^ suc k - 2 ^ k) < 2 ^ suc k
-    go true e = omega (arith, pow-suc 2 k, ltb-true (w % 2 ^ suc k) (2 ^ k) e)
-    go false e = omega (arith, pow-suc 2 k, mod-lt w (positive (suc k)), positive k)
-
-pub all-equal : {v : ℕ} (k w : ℕ) (X : ℕ → Bool) → v ≡ turnedBits k w → X ≡ equalTo (λ i. 0) (v / 2 ^ k) X
-all-equal k w X e = rw e (sym (match-start (turnedBits k w / 2 ^ k) X (div-eq-of-lt (turned-below k w))))
-
--- the digits of w as the code has them: half, x, is 2 ^ n
-pub half-fits : (n : ℕ) → n ≤ 31 → (0 < 2 ^ n) × (2 ^ n ≤ 2147483648)
-half-fits n h = (positive n, pow-mono h)
-
-pub half-is : (n : ℕ) → n ≤ 31 → (1 * 2 ^ n) % 18446744073709551616 ≡ 2 ^ n
-half-is n h = omega (arith, half-fits n h)
-
-pub low-digits : (n w x : ℕ) → x ≡ 2 ^ n → w % (2 * x) < x → w % (2 * x) + x ≡ turnedBits (suc n) w
-unfolding turnedBits
-low-digits n w x e h =
-    let d : 2 * x ≡ 2 ^ suc n = omega (arith, pow-suc 2 n) in
-    rw (← d, ← e, lt-ltb (w % (2 * x)) x h)
-
-pub high-digits : (n w x : ℕ) → x ≡ 2 ^ n → x ≤ w % (2 * x) → w % (2 * x) - x ≡ turnedBits (suc n) w
-unfolding turnedBits
-high-digits n w x e h =
-    let d : 2 * x ≡ 2 ^ suc n = omega (arith, pow-suc 2 n) in
-    rw (← d, ← e, le-ltb (w % (2 * x)) x h)
 
 module _ (c : ℕ → ℕ → Bool) (first : ℕ) where
   turned-other : (n : ℕ) → n ≢ suc first → turned first c n ≡ c n
@@ -110,121 +53,34 @@ module _ (c : ℕ → ℕ → Bool) (first : ℕ) where
   first-split d k i = rw (← one-add k, number-split d first 1 k i, number-one d first i, add-one first)
 
   -- the integer of row i, and the number of the columns of which the first is turned over
-  integer-parts : (k i : ℕ) → 1 ≤ i → i ≤ size → up (integerIn c first (suc k) i) + 2 ^ k ≡ down (integerIn c first (suc k) i) + inColumns (turned first c) first (suc k) i
+  pub integer-parts : (k i : ℕ) → 1 ≤ i → i ≤ size → up (integerIn c first (suc k) i) + 2 ^ k ≡ down (integerIn c first (suc k) i) + inColumns (turned first c) first (suc k) i
   unfolding integerIn
   integer-parts k i l u =
       rw (first-split (turned first c) k i, turned-first i l u, turned-rest k i)
       (bits-parts k (inColumns c first (suc k) i) (inColumns c (suc first) k i) (c (suc first) i) (first-split c k i) (number-below c (suc first) k i))
 
-  -- the order of the integers is that of the numbers
-  order-some : (k i n : ℕ) → 1 ≤ i → i ≤ size → 1 ≤ n → n ≤ size
-      → ltZ (integerIn c first (suc k) i) (integerIn c first (suc k) n) ≡ ltb (inColumns (turned first c) first (suc k) i) (inColumns (turned first c) first (suc k) n)
-  order-some k i n li ui ln un = go (ltb a b) refl
+-- conjunctions are equal where their second parts are, if the first is true
+pub same-where : (x p q : Bool) → (x ≡ true → p ≡ q) → (x && p) ≡ (x && q)
+same-where true p q h = h refl
+same-where false p q h = refl
+
+-- in the first column that is read, turned over, the bit sought is the other one
+module _ (first : ℕ) (c : ℕ → ℕ → Bool) (high : Bool) (Z : ℕ → Bool) (inside : (i : ℕ) → Z i ≡ true → (1 ≤ i) × (i ≤ size)) where
+  kept-other : (C : ℕ → Bool) → kept (not high) Z C ≡ kept high Z (without (upTo size) C)
+  unfolding without
+  kept-other C = fun-ext (λ i. rw (kept-at (not high) Z C i, kept-at high Z (without (upTo size) C) i) (go (Z i) (upTo size i) (C i) high (λ e. let (l, u) = inside i e in in-upTo size i l u)))
     where
-      a : ℕ
-      a = inColumns (turned first c) first (suc k) i
+      go : (z u q h : Bool) → (z ≡ true → u ≡ true) → (z && cond (not h) q (not q)) ≡ (z && cond h (u && not q) (not (u && not q)))
+      go false u q h e = refl
+      go true u true true e = rw (e refl)
+      go true u false true e = rw (e refl)
+      go true u true false e = rw (e refl)
+      go true u false false e = rw (e refl)
 
-      b : ℕ
-      b = inColumns (turned first c) first (suc k) n
-
-      go : (t : Bool) → ltb a b ≡ t → ltZ (integerIn c first (suc k) i) (integerIn c first (suc k) n) ≡ t
-      go true e = lt-ltZ (integerIn c first (suc k) i) (integerIn c first (suc k) n) (omega (arith, integers, ltb-true a b e, integer-parts k i li ui, integer-parts k n ln un))
-      go false e = le-ltZ (integerIn c first (suc k) i) (integerIn c first (suc k) n) (omega (arith, integers, ltb-false a b e, integer-parts k i li ui, integer-parts k n ln un))
-
-  integer-order : (k i n : ℕ) → 1 ≤ i → i ≤ size → 1 ≤ n → n ≤ size
-      → ltZ (integerIn c first k i) (integerIn c first k n) ≡ ltb (inColumns (turned first c) first k i) (inColumns (turned first c) first k n)
-  unfolding integerIn fromBits inColumns
-  integer-order zero i n li ui ln un = refl
-  integer-order (suc k) i n li ui ln un = order-some k i n li ui ln un
-
-  above-some : (k w i : ℕ) → 1 ≤ i → i ≤ size
-      → ltZ (fromBits (suc k) w) (integerIn c first (suc k) i) ≡ ltb (turnedBits (suc k) w) (inColumns (turned first c) first (suc k) i)
-  above-some k w i l u = go (ltb a b) refl
+  pub kept-turned : (j : ℕ) → kept (cond (eqb j first) (not high) high) Z (c (j + 1)) ≡ kept high Z (turned first c (j + 1))
+  unfolding turned
+  kept-turned j = rw (add-one j, eqb·suc-suc) (go (eqb j first))
     where
-      a : ℕ
-      a = turnedBits (suc k) w
-
-      b : ℕ
-      b = inColumns (turned first c) first (suc k) i
-
-      go : (t : Bool) → ltb a b ≡ t → ltZ (fromBits (suc k) w) (integerIn c first (suc k) i) ≡ t
-      go true e = lt-ltZ (fromBits (suc k) w) (integerIn c first (suc k) i) (omega (arith, integers, ltb-true a b e, word-parts k w, integer-parts k i l u))
-      go false e = le-ltZ (fromBits (suc k) w) (integerIn c first (suc k) i) (omega (arith, integers, ltb-false a b e, word-parts k w, integer-parts k i l u))
-
-  integer-above : (k w i : ℕ) → 1 ≤ i → i ≤ size → ltZ (fromBits k w) (integerIn c first k i) ≡ ltb (turnedBits k w) (inColumns (turned first c) first k i)
-  unfolding integerIn fromBits turnedBits inColumns
-  integer-above zero w i l u = let e : w % 1 ≡ 0 = omega arith in rw e
-  integer-above (suc k) w i l u = above-some k w i l u
-
-  -- and so are the integers equal where the numbers are
-  same-some : (k w i : ℕ) → 1 ≤ i → i ≤ size
-      → (leZ (integerIn c first (suc k) i) (fromBits (suc k) w) && leZ (fromBits (suc k) w) (integerIn c first (suc k) i))
-      ≡ eqb (inColumns (turned first c) first (suc k) i) (turnedBits (suc k) w)
-  same-some k w i l u = go (eqb a b) refl
-    where
-      a : ℕ
-      a = inColumns (turned first c) first (suc k) i
-
-      b : ℕ
-      b = turnedBits (suc k) w
-
-      x : ℤ
-      x = integerIn c first (suc k) i
-
-      y : ℤ
-      y = fromBits (suc k) w
-
-      go : (t : Bool) → eqb a b ≡ t → (leZ x y && leZ y x) ≡ t
-      go true e =
-          let d = eqb-true a b e in
-          rw (
-            le-leZ x y (omega (arith, integers, d, word-parts k w, integer-parts k i l u)),
-            le-leZ y x (omega (arith, integers, d, word-parts k w, integer-parts k i l u)),
-          )
-      go false e =
-          refuted _
-          (λ h.
-          let (low, high) = and-eq-true-iff (leZ x y) _ .0 h in
-          eqb-false a b e (omega (arith, integers, leZ-true x y low, leZ-true y x high, word-parts k w, integer-parts k i l u)))
-
-  integer-same : (k w i : ℕ) → 1 ≤ i → i ≤ size
-      → (leZ (integerIn c first k i) (fromBits k w) && leZ (fromBits k w) (integerIn c first k i))
-      ≡ eqb (inColumns (turned first c) first k i) (turnedBits k w)
-  unfolding integerIn fromBits turnedBits inColumns
-  integer-same zero w i l u = let e : w % 1 ≡ 0 = omega arith in rw e
-  integer-same (suc k) w i l u = same-some k w i l u
-
-  -- X selects only rows of 1 to 1,024
-  module _ (X : ℕ → Bool) (inside : (i : ℕ) → X i ≡ true → (1 ≤ i) × (i ≤ size)) (k : ℕ) where
-    same-where : (i : ℕ) (p q : Bool) → (X i ≡ true → p ≡ q) → (X i && p) ≡ (X i && q)
-    same-where i p q h = go (X i) refl
-      where
-        go : (b : Bool) → X i ≡ b → (b && p) ≡ (b && q)
-        go true e = h e
-        go false e = refl
-
-    pub great-turned : {v : ℕ} (w : ℕ) → v ≡ turnedBits k w → above (inColumns (turned first c) first k) v X ≡ greaterThan (integerIn c first k) (fromBits k w) X
-    unfolding greaterThan above
-    great-turned w h = rw h (fun-ext (λ i. same-where i _ _ (λ e. let (l, u) = inside i e in sym (integer-above k w i l u))))
-
-    pub same-turned : {v : ℕ} (w : ℕ) → v ≡ turnedBits k w → equalTo (inColumns (turned first c) first k) v X ≡ sameAs (integerIn c first k) (fromBits k w) X
-    unfolding sameAs equalTo
-    same-turned w h = rw h (fun-ext (λ i. same-where i _ _ (λ e. let (l, u) = inside i e in sym (integer-same k w i l u))))
-
-    smaller-any : (i : ℕ) → X i ≡ true
-        → any size (λ n. X n && ltZ (integerIn c first k n) (integerIn c first k i))
-        ≡ any size (λ n. X n && ltb (inColumns (turned first c) first k n) (inColumns (turned first c) first k i))
-    smaller-any i e = any-ext size _ _ (λ n l u. let (li, ui) = inside i e in ap (λ b. X n && b) (integer-order k n i l u li ui))
-
-    larger-any : (i : ℕ) → X i ≡ true
-        → any size (λ n. X n && ltZ (integerIn c first k i) (integerIn c first k n))
-        ≡ any size (λ n. X n && ltb (inColumns (turned first c) first k i) (inColumns (turned first c) first k n))
-    larger-any i e = any-ext size _ _ (λ n l u. let (li, ui) = inside i e in ap (λ b. X n && b) (integer-order k i n li ui l u))
-
-    pub min-turned : smallest size (integerIn c first k) X ≡ extreme false size (inColumns (turned first c) first k) X
-    unfolding smallest extreme
-    min-turned = fun-ext (λ i. same-where i _ _ (λ e. ap not (smaller-any i e)))
-
-    pub max-turned : largest size (integerIn c first k) X ≡ extreme true size (inColumns (turned first c) first k) X
-    unfolding largest extreme
-    max-turned = fun-ext (λ i. same-where i _ _ (λ e. ap not (larger-any i e)))
+      go : (t : Bool) → kept (cond t (not high) high) Z (c (suc j)) ≡ kept high Z (cond t (without (upTo size) (c (suc j))) (c (suc j)))
+      go true = kept-other (c (suc j))
+      go false = refl

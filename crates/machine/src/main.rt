@@ -1,9 +1,9 @@
 // Runs the machine on cases whose results are known from outside, and prints what it gives; the file stdout has what it should print.
 // Standard input has a line for each case: what is printed before its result.
-use lent::Compared;
-use lent::Matched;
+use great::Compared;
 use libc::STDIN_FILENO;
 use libc::STDOUT_FILENO;
+use matching::Matched;
 use refusal::Refusal;
 use slice::Slice;
 use table::Table;

@@ -69,7 +69,7 @@ fn path_of(own: &[u64], left: &[u8], right: &[u8], i: usize) -> Slice
 fn row_out(path: Slice, weights: &[u64], first: usize, weight: &[u8], i: usize) -> usize
     ensures { λ r. ⌜ r ≡ outOf (integerIn (matrixColumn (now (weights .entry))) first (width - first)) (now (weight .entry)) (component path) i ⌝ }
 {
-    let e = slice::fnd(lent::max_from(weights, first, path));
+    let e = slice::fnd(extremes::max_from(weights, first, path));
     if flipped_weight(weight, i) < flipped_weight(weight, e) {
         return e;
     }

@@ -48,14 +48,14 @@ pub struct Fragment {
 pub fn cheapest(weight: &[u64], first: usize, x: Slice) -> usize
     ensures { λ r. ⌜ r ≡ uppermost size (smallest size (integerIn (matrixColumn (now (weight .entry))) first (width - first)) (component x)) ⌝ }
 {
-    slice::fnd(lent::min_from(weight, first, x))
+    slice::fnd(extremes::min_from(weight, first, x))
 }
 
 // x, and with it the rows that hold v, by MATCH over the columns after the first ones.
 pub fn reach(x: Slice, ends: &[u64], first: usize, v: u32, rows: Slice) -> Slice
     ensures { λ r. ⌜ component r ≡ either (component x) (equalTo (inColumns (matrixColumn (now (ends .entry))) first (width - first)) v (component rows)) ⌝ }
 {
-    slice::or(x, lent::match_from(ends, first, v, rows))
+    slice::or(x, matching::match_from(ends, first, v, rows))
 }
 
 // No rows: the whole tree of one vertex, or what is left where there is no tree.
@@ -78,9 +78,15 @@ pub fn begin(left: &[u64], right: &[u64], rows: Slice, i: usize) -> Fragment
     let u = lent::row_from(left, UPPER, i);
     let v = lent::row_from(right, UPPER, i);
     Fragment {
-        lefts: reach(lent::match_from(left, UPPER, u, rows), left, UPPER, v, rows),
+        lefts: reach(
+            matching::match_from(left, UPPER, u, rows),
+            left,
+            UPPER,
+            v,
+            rows,
+        ),
         rights: reach(
-            lent::match_from(right, UPPER, u, rows),
+            matching::match_from(right, UPPER, u, rows),
             right,
             UPPER,
             v,

@@ -37,7 +37,7 @@ fn reach(x: &mut [u64; WORDS], ends: &[u64], v: u32, rows: Slice)
     ensures rows { λ r. ⌜ inWords (now (x .exit)) ≡ either (inWords (now (x .entry))) (equalTo (endsIn (now (ends .entry))) v (component rows)) ⌝ }
     ensures size { λ r. ⌜ length (now (x .exit)) ≡ 16 ⌝ }
 {
-    inplace::join(x, lent::match_from(ends, UPPER, v, rows));
+    inplace::join(x, matching::match_from(ends, UPPER, v, rows));
 }
 
 // The first of two vertices where the test holds, else the second.

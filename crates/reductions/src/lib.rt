@@ -61,7 +61,7 @@ fn heaviest(weights: &[u64], first: usize, x: Slice) -> usize
         let w = integerIn (matrixColumn (now (weights .entry))) first (width - first) in
         ⌜ r ≡ uppermost size (largest size w (component x)) ⌝ }
 {
-    slice::fnd(lent::max_from(weights, first, x))
+    slice::fnd(extremes::max_from(weights, first, x))
 }
 
 // The search over the path and the rows at r: the dearest row at r on row i's path, the uppermost among equals; 0 where there is none.

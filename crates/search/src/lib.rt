@@ -1,7 +1,7 @@
-// The searches MATCH, MIN, MAX and GREAT over the rows of a table that a slice selects. Their loops stand in the crate `lent`, over columns that are lent, where the first columns may be left out.
+// The searches MATCH, MIN, MAX and GREAT over the rows of a table that a slice selects. Their loops stand in the crates `matching`, `great` and `extremes`, over columns that are lent, where the first columns may be left out.
 // What a row holds in the others is the row itself, for MATCH, where every row is below 2 ^ (32 - first) (the law `small-row`); the integer is the row's, for GREAT, MIN and MAX, where `sign_columns` are left out (the law `sign-row`).
-use lent::Compared;
-use lent::Matched;
+use great::Compared;
+use matching::Matched;
 use slice::Slice;
 use table::Table;
 ghost use mathlib.Core.Path.{_≡_};
@@ -35,7 +35,7 @@ pub fn match_rows(t: Table, w: u32, x: Slice) -> Slice
     ensures { λ r. ⌜ component r ≡ equalTo (row t) w (component x) ⌝ }
 {
     let stored = lent::columns_of(t);
-    lent::match_from(&stored.columns, 0, w, x)
+    matching::match_from(&stored.columns, 0, w, x)
 }
 
 // MATCH whole: the selected rows that equal w, and the number of columns read from column 32 to the left until no row was left in the running.
@@ -44,7 +44,7 @@ pub fn match_count(t: Table, w: u32, x: Slice) -> Matched
     ensures read { λ r. ⌜ r .read ≡ columnsRead size (column t) w (component x) ⌝ }
 {
     let stored = lent::columns_of(t);
-    lent::match_right(&stored.columns, 0, w, x)
+    matching::match_right(&stored.columns, 0, w, x)
 }
 
 // GREAT: the selected rows that are greater than w, in the order of the integers that 32 bits stand for, and those that equal it.
@@ -53,7 +53,7 @@ pub fn great(t: Table, w: u32, x: Slice) -> Compared
     ensures equal { λ r. ⌜ component (r .equal) ≡ sameAs (λ i. signed (row t i)) (signed w) (component x) ⌝ }
 {
     let stored = lent::columns_of(t);
-    lent::great_from(&stored.columns, 0, w, x)
+    great::great_from(&stored.columns, 0, w, x)
 }
 
 // MIN: the selected rows than which no selected row is smaller, in that order.
@@ -61,7 +61,7 @@ pub fn min(t: Table, x: Slice) -> Slice
     ensures { λ r. ⌜ component r ≡ smallest size (λ i. signed (row t i)) (component x) ⌝ }
 {
     let stored = lent::columns_of(t);
-    lent::min_from(&stored.columns, 0, x)
+    extremes::min_from(&stored.columns, 0, x)
 }
 
 // MAX: the selected rows than which no selected row is larger, in that order.
@@ -69,5 +69,5 @@ pub fn max(t: Table, x: Slice) -> Slice
     ensures { λ r. ⌜ component r ≡ largest size (λ i. signed (row t i)) (component x) ⌝ }
 {
     let stored = lent::columns_of(t);
-    lent::max_from(&stored.columns, 0, x)
+    extremes::max_from(&stored.columns, 0, x)
 }

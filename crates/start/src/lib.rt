@@ -120,7 +120,7 @@ pub fn start_of(
         let g = graphIn (endsIn (now (lefts .entry))) (endsIn (now (rights .entry))) (component rows) n in
         ⌜ component (t .at) ≡ both (component rows) (touches g r) ⌝ }
 {
-    let found = lent::match_from(lefts, UPPER, r, rows);
+    let found = matching::match_from(lefts, UPPER, r, rows);
     let at = mst1::reach(found, rights, UPPER, r, rows);
     if n < 2 {
         return nothing(n == 1, at);

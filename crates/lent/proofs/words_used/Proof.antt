@@ -46,7 +46,7 @@ words-used-spec =
     (λ c. (omega arith, λ p h u. absurd (omega arith)))
     (λ c. omega arith)
     (λ c. omega arith)
-    (λ c. omega (arith, c .before .before .loop .inv .0, c .before .before .before .pre))
+    (λ c. omega (arith, c .before .loop .inv .0))
     (λ c. omega arith)
     (λ c. omega arith)
     returns

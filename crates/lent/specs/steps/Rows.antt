@@ -1,10 +1,13 @@
 -- A set of rows as the words of a slice, while a search narrows it in place.
 -- Assumes nothing.
-use Prim.Native.Nat.{ℕ, _*_, _<_}
-use mathlib.Core.Bool.{Bool, true, false, cond}
+use Prim.Native.Nat.{ℕ, _+_, _*_, _<_}
+use mathlib.Core.Bool.{Bool, false, cond, _&&_}
 use mathlib.Core.List.{List}
 use mathlib.Core.Path.{_≡_}
+use lib.Dec.{leb}
+use Rattle.matrix.specs.Matrix.{hasColumn, matrixColumn}
 use Rattle.slice.specs.Slices.{component}
+use Rattle.lent.specs.steps.Column.{kept}
 
 -- the rows that the words l have, as a slice's words have them
 abbrev pub rowsOf : List ℕ → ℕ → Bool
@@ -14,10 +17,10 @@ rowsOf l = component (record { words = l })
 abbrev pub NonePast : ℕ → (ℕ → Bool) → Type 0
 NonePast n P = (i : ℕ) → 64 * n < i → P i ≡ false
 
--- P has one row or none
-abbrev pub AtMostOne : (ℕ → Bool) → Type 0
-AtMostOne P = (i k : ℕ) → P i ≡ true → P k ≡ true → i ≡ k
-
 -- the word whose exclusive or with a word of a column has a 1 for each row whose bit is b
 unfoldable pub mask : Bool → ℕ
 mask b = cond b 0 18446744073709551615
+
+-- Z after column j + 1 of the words l: of the rows in the first `used` words those whose bit there is b, and the rows past them as they were; Z itself where there is no such column
+unfoldable pub narrowed : List ℕ → ℕ → Bool → ℕ → (ℕ → Bool) → ℕ → Bool
+narrowed l j b used Z i = cond (hasColumn l (j + 1) && leb i (64 * used)) (kept b Z (matrixColumn l (j + 1)) i) (Z i)

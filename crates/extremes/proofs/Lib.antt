@@ -1,0 +1,5 @@
+pub mod Extremes
+pub mod Signs
+pub mod Loops
+pub mod Preferred
+pub mod Words
