@@ -2,11 +2,9 @@
 ghost use mathlib.Core.Path.{_≡_};
 ghost use Rattle.reductions.specs.steps.Columns.{givenOf};
 ghost use Rattle.reductions.specs.steps.Exchanges.{Ends};
-ghost use Rattle.rowset.specs.Sets.{count};
 ghost use Rattle.slice.specs.Slices.{size, component};
 ghost use Rattle.exact.specs.steps.Reduced.{reducedFrom, Makes};
 use reductions::Reduced;
-use slice::SIZE;
 use slice::Slice;
 use slice::rows::rows_among;
 
@@ -15,19 +13,6 @@ pub struct Made {
     pub joined: bool,
     pub whole: bool,
     pub chosen: Slice,
-}
-
-// The number of rows of a slice.
-fn count_rows(x: Slice) -> usize
-    ensures { λ r. ⌜ r ≡ count size (component x) ⌝ }
-{
-    let mut count = 0;
-    let mut i = 0;
-    while i < SIZE {
-        i += 1;
-        count += slice::get(x, i) as usize;
-    }
-    count
 }
 
 // A tree over the rows of a slice with as many exchanges made as it has rows at r more than t; none where it has fewer.
@@ -48,7 +33,7 @@ fn reduce(
         let x = givenOf (now (left .entry)) (now (right .entry)) (now (weight .entry)) (now (weights .entry)) first (component at) in
         ⌜ Ends (reducedFrom x (component used) (component tree) r n t) (o .whole) (component (o .chosen)) ⌝ }
 {
-    let have = count_rows(slice::and(tree, at));
+    let have = inplace::count_rows(slice::and(tree, at));
     let least = t as usize;
     if have < least {
         return Reduced {
