@@ -41,7 +41,8 @@ use Rattle.quoting.proofs.Causes.{causes-in-order, row-asked}
 use Rattle.quoting.proofs.Means.{last-cause}
 use Rattle.quoting.specs.Breaking.{unanswered, breaksAt, neverBreaks, breakingTold, breakingOr, breakingPrice}
 use Rattle.quoting.specs.Quote.{rowAsked}
-use Rattle.breaking.proofs.Paths.{path-heaviest, walked-path}
+use Rattle.breaking.proofs.Paths.{path-heaviest}
+use Rattle.path.proofs.Trees.{walked-path}
 
 -- a call that the checks refuse
 pub call-refused : (c : Call) (k : ℕ) {o : Outcome} {r : Refusal} → refusalOf o ≡ refusal (rowAsked c k) → o ≡ Refused r → unanswered r ≡ breakingPrice c k
@@ -135,7 +136,7 @@ module _ (c : Call) (k : ℕ) {o : Outcome} (checked : refusalOf o ≡ refusal (
         let (la, ha) = fine .left k row in
         let (lb, hb) = fine .right k row in
         let few : c .n ≤ size = omega (arith, t .few-vertices) in
-        let found : P ≡ onPath g (f .chosen) (g .a k) (g .b k) = path ∙ rw (left, right, rows, loaded (c .left) (t .left-length), loaded (c .right) (t .right-length)) (walked-path g fine (f .chosen) spans few (t .few-rows) (g .a k) (g .b k) la ha lb hb words (omega (arith, t .few-vertices))) in
+        let found : P ≡ onPath g (f .chosen) (g .a k) (g .b k) = path ∙ rw (left, right, rows, loaded (c .left) (t .left-length), loaded (c .right) (t .right-length)) (walked-path g fine (f .chosen) spans few (t .few-rows) (g .a k) la ha words (omega (arith, t .few-vertices)) (g .b k) lb hb) in
         rw (price, found, loaded-weights c t, path-heaviest g fine (f .chosen) spans few (t .few-rows) w (g .a k) (g .b k)) (sym told-built)
 
   module _ {rows : ℕ → Bool} (others : rows ≡ takeOut (c .inUse) k) {whole : Bool} {chosen : ℕ → Bool} (grown : Grows (On rows) loadedWeights whole chosen) where

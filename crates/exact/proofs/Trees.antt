@@ -1,7 +1,7 @@
 -- From the start and the exchanges on the machine to the tree of the definition, over a table that is taken.
--- Main statements: the start over the loaded columns is that over the table (start-loaded); the walk over a spanning tree fills its path matrix (walked-paths);
+-- Main statements: the start over the loaded columns is that over the table (start-loaded);
 -- whether there is a tree (no-tree, some-tree), and what is left is the tree of the definition (left-tree). Assumes nothing.
-use Prim.Native.Nat.{ℕ, _-_, _*_, _≤_, _<_}
+use Prim.Native.Nat.{ℕ, _-_, _*_, _≤_}
 use lib.Dec.{ltb}
 use lib.IntN.{ℤ}
 use lib.ListN.{length, replicate, length-replicate}
@@ -17,30 +17,23 @@ use Rattle.degree.proofs.Shifted.{shifted}
 use Rattle.degree.proofs.Start.{low, start-built}
 use Rattle.degree.specs.Degree as degree
 use Rattle.degree.specs.Degree.{touches, rowsAt, start, swaps, reduced, treeWith}
-use Rattle.exchange.specs.Turned.{PathsFrom}
 use Rattle.graph.proofs.Builder.{built-spanning, not-built}
-use Rattle.graph.proofs.Path.{path-inside, tree-joined}
-use Rattle.graph.proofs.Trail.{trail-vertices, trail-columns}
 use Rattle.graph.specs.Builder.{Fragment, tree}
 use Rattle.graph.specs.Graph.{Graph, Sound, joined}
-use Rattle.graph.specs.Tree.{SpanningTree, onPath}
-use Rattle.graph.specs.steps.Trail.{trail}
-use Rattle.matrix.proofs.Laws.{matrixColumn-words}
+use Rattle.graph.specs.Tree.{SpanningTree}
 use Rattle.mst1.proofs.Answers.{loaded-weights}
 use Rattle.mst1.proofs.Cut.{over, tree-cut}
 use Rattle.offers.proofs.Offers.{Priced}
-use Rattle.path.proofs.Walks.{walk-shows}
-use Rattle.path.specs.steps.Walks.{walk}
+use Rattle.path.proofs.Trees.{walked-path, walked-room}
 use Rattle.reductions.proofs.Swaps.{Ready, first-ready, ends-swaps}
 use Rattle.reductions.specs.steps.Columns.{priceIn}
 use Rattle.reductions.specs.steps.Exchanges.{Given, found, firstState, exchangesTo, isMade, rowsLeft, Ends}
-use Rattle.rowset.proofs.Laws.{clash, refuted, sum-cut, both-inside}
+use Rattle.rowset.proofs.Laws.{clash, refuted, sum-cut}
 use Rattle.rowset.proofs.Members.{both-in}
 use Rattle.rowset.proofs.Signed.{signed-parts}
 use Rattle.rowset.specs.Bytes.{inRow}
-use Rattle.rowset.specs.Integers.{signed}
 use Rattle.rowset.specs.Sets.{upTo, both, without, count}
-use Rattle.rowset.specs.Words.{columnWords, columnWordsFrom}
+use Rattle.rowset.specs.Words.{columnWords}
 use Rattle.rowset.specs.steps.Flipped.{flipped}
 use Rattle.slice.specs.Slices.{size}
 use Rattle.star.proofs.Accepted.{Taken, taken, used-row, sound}
@@ -50,7 +43,7 @@ use Rattle.star.specs.Mst1.{chosenRows}
 use Rattle.star.specs.Refusals.{isNone, Accepted}
 use Rattle.table.proofs.Loads.{load-taken, loaded-taken}
 use Rattle.table.specs.Loads.{loadedRow}
-use Rattle.exact.specs.steps.Reduced.{reducedBy, reducedFrom, walked, Held, usedIn, loadedIn, weightIn, givenIn, Makes}
+use Rattle.exact.specs.steps.Reduced.{reducedBy, reducedFrom, walked, Held, usedIn, loadedIn, weightIn, Makes}
 
 -- ── Positions past the table's rows change nothing ──
 
@@ -65,22 +58,6 @@ module _ (g : Graph) (ok : Sound g) (k : ℕ) (l : g .m ≤ k) where
       start-built (over g k) over-sound w r L h
       ∙ tree-cut g (shifted g w r L) k l (λ i u. refuted (g .rows i) (λ q. omega (arith, ok .position i q .1)))
       ∙ sym (start-built g ok w r L h)
-
--- ── The path matrix from r ──
-
--- after n steps from u the column of each vertex is the tree path to it
-module _ (g : Graph) (ok : Sound g) (T : ℕ → Bool) (tree : SpanningTree g T) (few : g .n ≤ size) (short : g .m ≤ size) (u : ℕ) (lu : 1 ≤ u) (hu : u ≤ g .n) (words : List ℕ) (room : columnWords * g .n ≤ length words) where
-  walked-paths : PathsFrom g T u (walk (g .a) (g .b) T u words (g .n) .words)
-  unfolding joined
-  walked-paths v lv hv =
-      let shown = walk-shows g ok T (tree .inside) few short u lu hu words room (g .n) in
-      let reached : trail g T u (g .n) .vertices v ≡ true = ap (λ (p : ℕ → Bool). p v) (trail-vertices g T u (g .n)) ∙ tree-joined g ok T tree u v lu hu lv hv in
-      let column = shown .columns v reached ∙ ap (λ (p : ℕ → Bool). columnWordsFrom p 0 columnWords) (trail-columns g ok T tree u lu hu (g .n) v reached) in
-      matrixColumn-words (walk (g .a) (g .b) T u words (g .n) .words) v lv (omega (arith, shown .room)) (onPath g T u v) column
-      ∙ both-inside size (onPath g T u v) (λ i e. let b = ok .position i (tree .inside i (path-inside g ok T tree u v i e)) in (b .0, omega (arith, b .1)))
-
-  walked-room : columnWords * g .n ≤ length (walk (g .a) (g .b) T u words (g .n) .words)
-  walked-room = walk-shows g ok T (tree .inside) few short u lu hu words room (g .n) .room
 
 -- ── The start over the loaded columns ──
 
@@ -233,7 +210,7 @@ module _ (c : Call) (ok : Accepted c) (r : ℕ) (v : Vertex (c .n) r) where
       ready =
           let room : columnWords * c .n ≤ length (replicate {A = ℕ} 4080 0) = omega (arith, length-replicate {A = ℕ} 4080 0, few-vertices) in
           first-ready (c .n) (c .m) (c .left) (c .right) (used c) (weightOf c) (priceIn (c .weight)) r plain few priced (v .0) (v .1) chosen (start-tree e) own
-          (walked-paths G fine chosen (start-tree e) (omega (arith, few-vertices)) few r (v .0) (v .1) (replicate 4080 0) room)
+          (walked-path G fine chosen (start-tree e) (omega (arith, few-vertices)) few r (v .0) (v .1) (replicate 4080 0) room)
           (walked-room G fine chosen (start-tree e) (omega (arith, few-vertices)) few r (v .0) (v .1) (replicate 4080 0) room)
 
       made-swaps : (k : ℕ) → Ends (exchangesTo given (c .n) k (firstState given others chosen own)) left remaining → ((left ≡ false) × (swaps G (weightOf c) r k chosen ≡ none)) ⊎ ((left ≡ true) × (swaps G (weightOf c) r k chosen ≡ some remaining))
