@@ -8,7 +8,6 @@ use mathlib.Core.Path.{_≡_, sym}
 use Rattle.rowset.specs.Columns.{inColumns}
 use Rattle.slice.specs.Slices.{size, component}
 use Rattle.slice.specs.declared.Slice.{Slice}
-use Rattle.table.specs.Tables.{column}
 use Rattle.extremes.specs.steps.Column.{preferred, extreme}
 use Rattle.extremes.proofs.Extremes.{extreme-start, extreme-step}
 use Rattle.lent.proofs.Loops.{next-count, next-column, component-in}

@@ -18,7 +18,6 @@ use Rattle.rowset.proofs.Laws.{any-some, none-any, clash}
 use Rattle.slice.specs.Slices.{size, bit}
 use Rattle.slice.proofs.Bits.{bit-of-zero, bit-zero, bit-suc, bit-at-trailing}
 use Rattle.slice.proofs.Laws.{component-inside}
-use Rattle.lent.specs.steps.Column.{kept}
 use Rattle.lent.specs.steps.Rows.{rowsOf, NonePast, mask}
 use Rattle.extremes.specs.steps.Column.{AtMostOne}
 use Rattle.lent.proofs.Loops.{component-in}

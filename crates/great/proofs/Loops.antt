@@ -13,7 +13,6 @@ use Rattle.rowset.proofs.Laws.{upwards}
 use Rattle.rowset.specs.Searches.{equalTo}
 use Rattle.slice.specs.Slices.{size, component}
 use Rattle.slice.specs.declared.Slice.{Slice}
-use Rattle.table.specs.Tables.{column}
 use Rattle.lent.specs.steps.Column.{kept}
 use Rattle.great.specs.steps.Column.{grown, above}
 use Rattle.great.proofs.Steps.{match-step, great-step, great-start, grown-none}

@@ -19,7 +19,6 @@ use Rattle.rowset.proofs.Laws.{refuted}
 use Rattle.rowset.specs.Columns.{inColumns}
 use Rattle.rowset.specs.Integers.{fromBits, integerIn}
 use Rattle.rowset.specs.Searches.{equalTo, greaterThan, sameAs}
-use Rattle.rowset.specs.Sets.{any}
 use Rattle.slice.specs.Slices.{size}
 use Rattle.lent.proofs.Signs.{integer-parts, same-where}
 

@@ -5,7 +5,7 @@ use mathlib.Core.Bool.{Bool, true, false, not, cond, _&&_, _||_, and-assoc, and-
 use mathlib.Core.Path.{_≡_, refl, fun-ext, ap, _∙_}
 use lib.Dec.{leb·suc-zero, eqb}
 use Rattle.rowset.specs.Columns.{inColumns}
-use Rattle.rowset.specs.Sets.{empty, both, either, any}
+use Rattle.rowset.specs.Sets.{empty, both, either}
 use Rattle.rowset.specs.Searches.{equalTo}
 use Rattle.lent.specs.steps.Column.{kept, turned}
 use Rattle.great.specs.steps.Column.{grown, above}

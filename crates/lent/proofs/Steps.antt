@@ -8,7 +8,7 @@ use borrow.Author.Tests.{ne-eqb}
 use Rattle.rowset.specs.Sets.{empty, both, without}
 use Rattle.rowset.specs.Searches.{equalTo}
 use Rattle.lent.specs.steps.Column.{kept}
-use Rattle.lent.proofs.Orders.{before, ahead}
+use Rattle.lent.proofs.Orders.{ahead}
 
 -- a row is kept where it is in Z and its bit is the one asked for
 pub kept-at : (d : Bool) (Z C : ℕ → Bool) (i : ℕ) → kept d Z C i ≡ (Z i && cond d (C i) (not (C i)))

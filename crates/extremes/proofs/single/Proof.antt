@@ -2,10 +2,9 @@
 -- The measure is what is left of the words. Assumes nothing.
 use Prim.Native.Nat.{_-_, _≤_}
 use native.Mathlib.Omega.{arith}
-use borrow.Author.Needs.{needs}
 use borrow.Author.Tests.{eqb-true}
 use mathlib.Core.Logic.{⊎-elim}
-use mathlib.Core.Path.{_≡_, refl, sym}
+use mathlib.Core.Path.{refl}
 use Rattle.rowset.proofs.Laws.{clash}
 use Rattle.extremes.proofs.Words.{OneWord, word-none, word-zero, word-first, word-all}
 use Rattle.extremes.proofs.single.Statement.{statement}
