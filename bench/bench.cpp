@@ -1,6 +1,6 @@
 // The doors against a plain implementation in C and, where they are installed, LEMON, Boost Graph and igraph: MST1, CST, the quote, the breaking price,
-// districts, mends and outlets; MST1 and CST on working tables too. One process, one table at a time; the median of many rounds. What is found is
-// compared, so that a solver that is wrong is told.
+// districts, mends and outlets; MST1 and CST on working tables too. One process, one table at a time; the solvers take turns, and the median of all
+// calls is told. What is found is compared, so that a solver that is wrong is told.
 // usage: bench [PLOT]    prints the times; writes a plot (SVG) of time against the number of rows to the file PLOT
 //        bench --count   calls each solver twice and has callgrind write out the instructions of the second call (bench/counts.sh)
 #include <cstring>
@@ -14,6 +14,7 @@ void measure(uint32_t n, size_t m, int32_t from, int32_t to) {
     Table t = make(n, m, from, to);
     std::printf("n %u, m %zu, prices from %d to %d\n", n, m, int(from), int(to));
     Rows rows(t, plain_build(t));
+    rows.add_doors();
     rows.add("star_quote", door_quote);
     rows.add("star_breaking", door_breaking, t, plain_price(t));
     rows.add("plain build", plain_build);
@@ -22,7 +23,7 @@ void measure(uint32_t n, size_t m, int32_t from, int32_t to) {
     rows.print();
 }
 
-// A working table of 1,024 rows, half of them struck, and the same rows packed.
+// A working table of 1,024 rows, half of them struck, and the others packed.
 struct Working {
     Table all, packed;
     uint64_t in_use[STAR_COLUMN_WORDS];
@@ -66,13 +67,19 @@ void measure_working(uint32_t n) {
         star_merge(c.in_use, STAR_COLUMN_WORDS, c.all.left.data(), t.rows(), c.all.right.data(), t.rows(), c.all.weight.data(), t.weight.size(), c.numbers, STAR_MAX_ROWS, answer, 16);
         return int64_t(c.all.left[p.rows() - 1] == p.left.back() && answer[0] == STAR_PASSED);
     };
-    std::printf("n %u, %d rows, half of them struck; star_mst1, star_cst and the libraries on the %zu others packed\n", n, int(STAR_MAX_ROWS), p.rows());
-    Rows rows(p, expected);
-    rows.add("star_work_mst1", work_mst1, a, expected);
-    rows.add("star_work_cst", work_cst, a, expected);
+    std::printf("n %u, %d rows, half of them struck; each library takes the rows in use of the same columns\n", n, int(STAR_MAX_ROWS));
+    a.in_use = w.in_use;
+    Rows rows(a, expected);
+    rows.add("star_work_mst1", work_mst1);
+    rows.add("star_work_cst", work_cst);
     rows.add("star_merge", merge, a, 1);
     rows.add_libraries();
     rows.print();
+    std::printf("n %u, the same %zu rows packed\n", n, p.rows());
+    Rows plain(p, expected);
+    plain.add_doors();
+    plain.add_libraries();
+    plain.print();
 }
 
 // The rows of junction 1 are as many as there can be, 254 of the 1,024: each but one of them goes out before one is left.
@@ -87,19 +94,19 @@ Table boiler_house() {
     return t;
 }
 
-// star_outlets with t rows at r; the total is what the first call gives.
-void add_outlets(Rows &rows, const char *name, uint32_t r, uint32_t count) {
-    uint8_t answer[16];
-    auto outlets = [&, r, count](Table &t) {
+// star_outlets with t rows at r, on a table of its own, since the tree that it marks is not a least one; the total is what the first call gives.
+void add_outlets(Rows &rows, Table &own, const char *name, uint32_t r, uint32_t count) {
+    auto outlets = [r, count](Table &t) {
+        uint8_t answer[16];
         star_outlets(t.n, t.left.data(), t.rows(), t.right.data(), t.rows(), t.weight.data(), t.weight.size(), t.mark.data(), t.rows(), r, count, answer, 16);
         return answer[0] == STAR_PASSED ? amount(answer) : INT64_MIN;
     };
-    rows.add(name, outlets, rows.t, outlets(rows.t));
+    rows.add(name, outlets, own, outlets(own));
 }
 
 // The doors that make plans, on the largest tables.
 void measure_plans() {
-    Table t = make(255, STAR_MAX_ROWS, 0, STAR_MAX_PRICE), boiler = boiler_house();
+    Table t = make(255, STAR_MAX_ROWS, 0, STAR_MAX_PRICE), boiler = boiler_house(), t_own = t, boiler_own = boiler;
     std::vector<uint8_t> claim(t.rows()), forests(t.rows());
     std::vector<star_record> records(2 * t.rows());
     uint32_t ends[STAR_MAX_RUNS];
@@ -117,15 +124,17 @@ void measure_plans() {
     };
     std::printf("n %u, m %zu: eight districts; a claim of random marks mended; the fewest rows at a junction\n", t.n, t.rows());
     Rows rows(t, plain_build(t));
+    rows.add_doors();
     rows.add("star_districts", districts);
     rows.add("star_mend", mend, t, mend(t));
-    add_outlets(rows, "star_outlets", t.left[t.rows() / 2], 1);
+    add_outlets(rows, t_own, "star_outlets", t.left[t.rows() / 2], 1);
     rows.add_libraries();
     rows.print();
     std::printf("n %u, m %zu, with 254 rows at junction 1, of which one is left\n", boiler.n, boiler.rows());
     Rows others(boiler, plain_build(boiler));
-    add_outlets(others, "star_outlets, 1 of 254", 1, 1);
-    add_outlets(others, "star_outlets, 128", 1, 128);
+    others.add_doors();
+    add_outlets(others, boiler_own, "star_outlets, 1 of 254", 1, 1);
+    add_outlets(others, boiler_own, "star_outlets, 128", 1, 128);
     others.add_libraries();
     others.print();
 }
@@ -137,8 +146,10 @@ std::vector<Line> grown(uint32_t n, const std::vector<size_t> &sizes) {
     for (size_t m : sizes) {
         Table t = make(n, m, 0, STAR_MAX_PRICE);
         Rows rows(t, plain_build(t));
+        rows.add_doors();
         rows.add("plain build", plain_build);
         rows.add_libraries();
+        rows.run();
         for (size_t i = 0; i < lines.size(); i++) {
             lines[i].m.push_back(double(m));
             lines[i].us.push_back(rows.rows[i].us);

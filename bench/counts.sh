@@ -5,13 +5,13 @@ set -eu
 work=$(mktemp -d)
 trap 'rm -rf "$work"' EXIT
 valgrind --tool=callgrind --callgrind-out-file="$work/out" "$1" --count >"$work/titles" 2>"$work/log" || { cat "$work/titles" "$work/log"; exit 1; }
-# A title stands before its solvers, of which the first is star_mst1; each solver has a file of its own, in order.
+# A title stands before its solvers, of which the first is star_mst1 or star_work_mst1; each solver has a file of its own, in order.
 mapfile -t titles < <(grep '^n ' "$work/titles")
 table=0
 for ((k = 1; ; k++)); do
     [ -f "$work/out.$k" ] || break
     name=$(sed -n 's/^desc: Trigger: Client Request: //p' "$work/out.$k")
     [ -n "$name" ] || continue
-    [ "$name" != star_mst1 ] || echo "${titles[table++]}"
+    case $name in star_mst1 | star_work_mst1) echo "${titles[table++]}" ;; esac
     printf '  %-22s %12d\n' "$name" "$(sed -n 's/^\(totals\|summary\): \([0-9]*\).*/\2/p' "$work/out.$k" | head -n 1)"
 done

@@ -4,6 +4,7 @@
 #include <chrono>
 #include <cstdio>
 #include <cstdlib>
+#include <functional>
 
 #if __has_include(<valgrind/callgrind.h>)
 #include <valgrind/callgrind.h>
@@ -34,57 +35,76 @@ template <class F> void count_of(F solve, Table &t, int64_t expected, const char
     check(got, expected, name);
 }
 
-// The median time of one call, in microseconds. A solver that is wrong ends the run.
-template <class F> double time_of(F solve, Table &t, int64_t expected, const char *name) {
-    using clock = std::chrono::steady_clock;
-    std::vector<double> times;
-    auto end = clock::now() + std::chrono::milliseconds(300);
-    do {
-        auto from = clock::now();
-        int64_t got = solve(t);
-        times.push_back(std::chrono::duration<double, std::micro>(clock::now() - from).count());
-        check(got, expected, name);
-    } while (clock::now() < end && times.size() < 20000);
-    std::nth_element(times.begin(), times.begin() + times.size() / 2, times.end());
-    return times[times.size() / 2];
-}
+// A solver of one table, what it has to give, and the times of its calls in microseconds.
+struct Row {
+    const char *name;
+    std::function<int64_t()> solve;
+    int64_t expected;
+    std::vector<double> times{};
+    double us = 0; // the median
 
-// The solvers of one table with their times. The first two are star_mst1 and star_cst, to which the others are related, and to the fastest library.
+    // Calls for some ten milliseconds. A solver that is wrong ends the run.
+    void round() {
+        using clock = std::chrono::steady_clock;
+        auto end = clock::now() + std::chrono::milliseconds(10);
+        do {
+            auto from = clock::now();
+            int64_t got = solve();
+            times.push_back(std::chrono::duration<double, std::micro>(clock::now() - from).count());
+            check(got, expected, name);
+        } while (clock::now() < end);
+    }
+
+    void settle() {
+        std::nth_element(times.begin(), times.begin() + long(times.size() / 2), times.end());
+        us = times[times.size() / 2];
+    }
+};
+
+// The solvers of one table with their times. The first two are MST1 and CST, to which the others are related, and to the fastest library. They take turns, round by round, so that
+// what else the machine does falls on all of them.
 struct Rows {
-    struct Row {
-        const char *name;
-        double us;
-    };
     Table &t;
     int64_t expected;
-    std::vector<Row> rows;
-    Row fastest{nullptr, 0};
+    std::vector<Row> rows{};
+    const Row *fastest = nullptr;
+    size_t first_library = 0;
 
-    Rows(Table &table, int64_t total) : t(table), expected(total) {
-        add("star_mst1", door_mst1);
-        add("star_cst", door_cst);
-    }
+    Rows(Table &table, int64_t total) : t(table), expected(total) {}
 
     template <class F> void add(const char *name, F solve) { add(name, solve, t, expected); }
 
     // On another table, or with another result.
     template <class F> void add(const char *name, F solve, Table &other, int64_t result) {
         if (counting) count_of(solve, other, result, name);
-        rows.push_back({name, counting ? 0 : time_of(solve, other, result, name)});
+        rows.push_back({name, [solve, &other]() mutable { return solve(other); }, result});
+    }
+
+    void add_doors() {
+        add("star_mst1", door_mst1);
+        add("star_cst", door_cst);
     }
 
     void add_libraries() {
-        for (const Library &l : libraries()) {
-            add(l.name, l.solve);
-            if (!fastest.name || rows.back().us < fastest.us) fastest = rows.back();
-        }
+        first_library = rows.size();
+        for (const Library &l : libraries()) add(l.name, l.solve);
     }
 
-    void print() const {
+    void run() {
+        if (counting) return;
+        for (int k = 0; k < 30; k++)
+            for (Row &r : rows) r.round();
+        for (Row &r : rows) r.settle();
+        for (size_t i = first_library; i < rows.size(); i++)
+            if (!fastest || rows[i].us < fastest->us) fastest = &rows[i];
+    }
+
+    void print() {
+        run();
         if (counting) return;
         for (const Row &r : rows) {
             std::printf("  %-22s %9.1f us   %6.2f of MST1  %6.2f of CST", r.name, r.us, r.us / rows[0].us, r.us / rows[1].us);
-            if (fastest.name) std::printf("  %6.2f of %s", r.us / fastest.us, fastest.name);
+            if (fastest) std::printf("  %6.2f of %s", r.us / fastest->us, fastest->name);
             std::printf("\n");
         }
     }

@@ -32,9 +32,12 @@ extern "C" {
 
 namespace {
 
+// A table; of a working table the rows in use, sixteen words.
 struct Table {
     uint32_t n;
     std::vector<uint8_t> left, right, weight, mark;
+    const uint64_t *in_use = nullptr;
+    bool used(size_t i) const { return !in_use || star_in_use(in_use, i + 1); }
     size_t rows() const { return left.size(); }
     int32_t price(size_t i) const { return star_get_price(weight.data(), i); }
 };
@@ -127,7 +130,8 @@ int64_t lemon_tree(Table &t) {
     std::vector<lemon::SmartGraph::Node> node(t.n + 1);
     for (uint32_t v = 1; v <= t.n; v++) node[v] = g.addNode();
     lemon::SmartGraph::EdgeMap<int64_t> cost(g); // 64 bits, since kruskal adds up in the costs' own type
-    for (size_t i = 0; i < t.rows(); i++) cost[g.addEdge(node[t.left[i]], node[t.right[i]])] = t.price(i);
+    for (size_t i = 0; i < t.rows(); i++)
+        if (t.used(i)) cost[g.addEdge(node[t.left[i]], node[t.right[i]])] = t.price(i);
     std::vector<lemon::SmartGraph::Edge> tree;
     lemon::kruskal(g, cost, std::back_inserter(tree));
     int64_t total = 0;
@@ -140,7 +144,8 @@ int64_t lemon_tree(Table &t) {
 int64_t boost_tree(Table &t) {
     using Graph = boost::adjacency_list<boost::vecS, boost::vecS, boost::undirectedS, boost::no_property, boost::property<boost::edge_weight_t, int32_t>>;
     Graph g(t.n);
-    for (size_t i = 0; i < t.rows(); i++) boost::add_edge(t.left[i] - 1u, t.right[i] - 1u, t.price(i), g);
+    for (size_t i = 0; i < t.rows(); i++)
+        if (t.used(i)) boost::add_edge(t.left[i] - 1u, t.right[i] - 1u, t.price(i), g);
     std::vector<boost::graph_traits<Graph>::edge_descriptor> tree;
     boost::kruskal_minimum_spanning_tree(g, std::back_inserter(tree));
     auto cost = boost::get(boost::edge_weight, g);
@@ -158,11 +163,15 @@ int64_t igraph_tree(Table &t) {
     igraph_vector_int_init(&ends, igraph_integer_t(2 * t.rows()));
     igraph_vector_init(&cost, igraph_integer_t(t.rows()));
     igraph_vector_int_init(&tree, 0);
-    for (size_t i = 0; i < t.rows(); i++) {
-        VECTOR(ends)[2 * i] = t.left[i] - 1;
-        VECTOR(ends)[2 * i + 1] = t.right[i] - 1;
-        VECTOR(cost)[i] = t.price(i);
-    }
+    igraph_integer_t k = 0;
+    for (size_t i = 0; i < t.rows(); i++)
+        if (t.used(i)) {
+            VECTOR(ends)[2 * k] = t.left[i] - 1;
+            VECTOR(ends)[2 * k + 1] = t.right[i] - 1;
+            VECTOR(cost)[k++] = t.price(i);
+        }
+    igraph_vector_int_resize(&ends, 2 * k);
+    igraph_vector_resize(&cost, k);
     igraph_create(&g, &ends, igraph_integer_t(t.n), IGRAPH_UNDIRECTED);
     igraph_minimum_spanning_tree(&g, &tree, &cost);
     int64_t total = 0;
