@@ -3,8 +3,9 @@
 -- Assumes nothing.
 use Prim.Native.Nat.{ℕ, zero, suc, _+_, _*_, _-_, _≤_, _<_}
 use borrow.Author.Tests.{ltb-false}
+use lib.Dec.{eqb, ltb}
 use lib.ListN.{length, getD, List·getD-eq-default}
-use mathlib.Core.Bool.{Bool, true, false, _&&_, and-true, and-false}
+use mathlib.Core.Bool.{Bool, true, false, _&&_, _||_, and-true, and-false}
 use mathlib.Core.List.{List, [], _∷_, _++_}
 use mathlib.Core.Logic.{⊎-elim}
 use mathlib.Core.Option.{Option, none, some}
@@ -18,9 +19,9 @@ use Rattle.refusal.specs.declared.Outcome.the-variants.{Done, Refused}
 use Rattle.refusal.specs.declared.Refusal.{Refusal}
 use Rattle.rowset.specs.Bytes.{little, inRow}
 use Rattle.rowset.specs.Sets.{upTo, both, uppermost, sum, count}
-use Rattle.rowset.proofs.Laws.{in-upTo, any-ext, sum-ext, uppermost-ext, uppermost-zero, uppermost-some, uppermost-is}
+use Rattle.rowset.proofs.Laws.{clash, in-upTo, any-ext, sum-ext, uppermost-ext, uppermost-zero, uppermost-some, uppermost-is}
 use Rattle.star.specs.Call.{Call, rowsOf, marked}
-use Rattle.star.specs.Refusals.{maxRows, badVertices, tooManyRows, badLengths, wrongRow, samePair, repeatsAbove, wrongByte, badClaim, rowCauses, tableCauses, orElse, refusal}
+use Rattle.star.specs.Refusals.{maxVertices, maxRows, badVertices, tooManyRows, badLengths, wrongRow, samePair, repeatsAbove, wrongByte, badClaim, rowCauses, tableCauses, orElse, refusal}
 use Rattle.star.proofs.Accepted.{none-head, none-tail, cause-none}
 
 -- ── The number in a row ──
@@ -107,10 +108,20 @@ pub done-next : (o : Outcome) (x y z : Option Refusal) → o ≡ Done → refusa
 unfolding refusalOf orElse
 done-next o x y z told e h = rw (← e, told) h
 
--- without a fault of the sizes there are at most 1,024 rows
-pub few-rows : (n m : ℕ) → none ≡ refusal (badVertices n ∷ tooManyRows m ∷ []) → m ≤ maxRows
-unfolding tooManyRows
-few-rows n m e = ltb-false maxRows m (cause-none _ 2 0 (none-head _ _ (none-tail (badVertices n) _ (sym e))))
+-- two tests of which neither holds
+pub neither : (a b : Bool) → (a || b) ≡ false → (a ≡ false) × (b ≡ false)
+neither true b e = clash refl e
+neither false b e = (refl, e)
+
+-- without a fault of the sizes there are at most 255 vertices and 1,024 rows
+module _ (n m : ℕ) (e : none ≡ refusal (badVertices n ∷ tooManyRows m ∷ [])) where
+  pub few-vertices : n ≤ maxVertices
+  unfolding badVertices
+  few-vertices = ltb-false maxVertices n (neither (eqb n 0) (ltb maxVertices n) (cause-none _ 1 0 (none-head _ _ (sym e))) .1)
+
+  pub few-rows : m ≤ maxRows
+  unfolding tooManyRows
+  few-rows = ltb-false maxRows m (cause-none _ 2 0 (none-head _ _ (none-tail (badVertices n) _ (sym e))))
 
 -- causes 1 to 4 and 15, and with them cause 6, by the checks that seek them
 pub table-in-order : (c : Call) → refusal (tableCauses c) ≡ orElse (refusal (badVertices (c .n) ∷ tooManyRows (rowsOf c) ∷ [])) (orElse (badLengths c) (refusal (rowCauses c)))

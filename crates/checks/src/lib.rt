@@ -2,18 +2,19 @@
 // What stands in rows that are not in use is not looked at.
 // Rows are counted from 1; 0 is no row, and a byte past a column's end reads 0.
 ghost use Prim.Native.Nat.{ℕ, _+_, _≤_};
-ghost use mathlib.Core.Bool.{Bool};
+ghost use mathlib.Core.Bool.{Bool, false};
 ghost use mathlib.Core.List.{List, [], _∷_, _++_};
 ghost use mathlib.Core.Path.{_≡_};
 ghost use lib.ListN.{length, getD};
 ghost use Rattle.rowset.specs.Bytes.{little, inRow};
 ghost use Rattle.rowset.specs.Sets.{both, uppermost, count};
 ghost use Rattle.rowset.specs.Words.{inWords};
+ghost use Rattle.pairs.specs.Pairs.{hasPair};
 ghost use Rattle.slice.specs.Slices.{component};
 ghost use Rattle.refusal.specs.Outcomes.{refusalOf};
 ghost use Rattle.star.specs.Call.{Call, marked, tableOf};
-ghost use Rattle.star.specs.Refusals.{maxRows, cause, causeAt, orElse, refusal, badVertices, tooManyRows, wrongLengths, wrongEnds, wrongRow, repeatsAbove, wrongByte, badClaim, badCount, rowCauses, tableCauses};
-ghost use Rattle.checks.specs.steps.Seen.{seenPair, withSeen};
+ghost use Rattle.star.specs.Refusals.{maxVertices, maxRows, cause, causeAt, orElse, refusal, badVertices, tooManyRows, wrongLengths, wrongEnds, wrongRow, repeatsAbove, wrongByte, badClaim, badCount, rowCauses, tableCauses};
+ghost use Rattle.checks.specs.steps.Seen.{seenPair, withSeen, Room};
 use refusal::Outcome;
 use refusal::Refusal;
 use slice::Slice;
@@ -22,6 +23,15 @@ use slice::Slice;
 pub const MAX_VERTICES: u32 = 255;
 
 pub const MAX_ROWS: usize = 1024;
+
+// Two numbers of vertices that many tables do not exceed, and the words that a set of pairs of as many needs.
+const FEW: u32 = 16;
+
+const FEW_WORDS: usize = 64;
+
+const SOME: u32 = 64;
+
+const SOME_WORDS: usize = 256;
 
 // The byte at index k, 0 past the column's end.
 fn byte_at(column: &[u8], k: usize) -> u8
@@ -206,16 +216,17 @@ fn repeated(above: &mut [u64], rows: &[u64], i: usize, a: u8, b: u8) -> bool
     pairs::put(above, a, b)
 }
 
-// The uppermost of the rows of 1 to m that joins the same pair of ends as one of them above it, 0 where there is none. One pass from the top: the pairs of the rows above are in a set of pairs.
-fn first_repeat(m: usize, rows: Slice, left: &[u8], right: &[u8]) -> usize
-    requires { ⌜ m ≤ maxRows ⌝ }
+// The uppermost of the rows of 1 to m that joins the same pair of ends as one of them above it, 0 where there is none. One pass from the top: the pairs of the rows above are in a lent set of pairs, empty at first, which has the word of each row's pair.
+fn first_repeat_in(above: &mut [u64], m: usize, rows: Slice, left: &[u8], right: &[u8]) -> usize
+    requires rows { ⌜ m ≤ maxRows ⌝ }
+    requires empty { ⌜ ((x y : ℕ) → hasPair (now above) x y ≡ false) ⌝ }
+    requires room { ⌜ Room (component rows) (now left) (now right) m (length (now above)) ⌝ }
     ensures { λ r. ⌜ r ≡ uppermost m (repeatsAbove (component rows) (now (left .entry)) (now (right .entry))) ⌝ }
 {
-    let mut above: [u64; pairs::WORDS] = [0; pairs::WORDS];
     let mut row = 1;
     while row <= m {
         if repeated(
-            &mut above,
+            above,
             &rows.words,
             row,
             row_byte(left, row),
@@ -228,16 +239,38 @@ fn first_repeat(m: usize, rows: Slice, left: &[u8], right: &[u8]) -> usize
     0
 }
 
-// Causes 4 and 15, of a table with at most 1,024 rows, whatever its weights and claim.
+// The same with a set of its own, a smaller one where there are fewer vertices. No row's ends are wrong.
+fn first_repeat(n: u32, m: usize, rows: Slice, left: &[u8], right: &[u8]) -> usize
+    requires vertices { ⌜ n ≤ maxVertices ⌝ }
+    requires rows { ⌜ m ≤ maxRows ⌝ }
+    requires ends { ⌜ uppermost m (wrongRow (component rows) n (now left) (now right)) ≡ 0 ⌝ }
+    ensures { λ r. ⌜ r ≡ uppermost m (repeatsAbove (component rows) (now (left .entry)) (now (right .entry))) ⌝ }
+{
+    if n <= FEW {
+        let mut few = [0u64; FEW_WORDS];
+        return first_repeat_in(&mut few, m, rows, left, right);
+    }
+    if n <= SOME {
+        let mut some = [0u64; SOME_WORDS];
+        return first_repeat_in(&mut some, m, rows, left, right);
+    }
+    let mut all = [0u64; pairs::WORDS];
+    first_repeat_in(&mut all, m, rows, left, right)
+}
+
+// Causes 4 and 15, of a table with at most 255 vertices and 1,024 rows, whatever its weights and claim. Repeats are sought only where no row's ends are wrong.
 fn rows_check(n: u32, m: usize, rows: Slice, left: &[u8], right: &[u8]) -> Outcome
-    requires { ⌜ m ≤ maxRows ⌝ }
+    requires vertices { ⌜ n ≤ maxVertices ⌝ }
+    requires rows { ⌜ m ≤ maxRows ⌝ }
     ensures { λ r.
         let table : Bool → List ℕ → List ℕ → Call = λ whole. tableOf n m whole (component rows) (now (left .entry)) (now (right .entry)) in
         ⌜ ((whole : Bool) (weight mark : List ℕ) → refusalOf r ≡ refusal (rowCauses (table whole weight mark))) ⌝ }
 {
     let ends = refused_at(4, first_bad_row(n, m, rows, left, right) as u32);
-    let repeats = refused_at(15, first_repeat(m, rows, left, right) as u32);
-    first(ends, repeats)
+    let Outcome::Done = ends else {
+        return ends;
+    };
+    refused_at(15, first_repeat(n, m, rows, left, right) as u32)
 }
 
 // Causes 1 to 4 and 15, of a table of m rows of which those of a slice are in use.

@@ -1,9 +1,9 @@
--- Laws of a set of pairs as words: a pair whose word is not there; two pairs of bytes have the same bit exactly where they are the same pair; and what is in the set once a pair is put in.
--- Main statements: same-bit, bit-same, has-with.
+-- Laws of a set of pairs as words: a pair whose word is not there; the words that the pairs of small numbers need; two pairs of bytes have the same bit exactly where they are the same pair; and what is in the set once a pair is put in.
+-- Main statements: pair-word, same-bit, bit-same, has-with.
 -- Assumes nothing.
 use Prim.Native.Nat.{ℕ, zero, suc, _+_, _*_, _/_, _%_, _^_, _≤_, _<_}
 use mathlib.Core.Bool.{Bool, true, false, _||_, or-false}
-use mathlib.Core.Logic.{_⊎_, inl, inr}
+use mathlib.Core.Logic.{_⊎_, inl, inr, _≢_}
 use mathlib.Core.List.{List}
 use mathlib.Core.Path.{_≡_, refl, sym, ap, _∙_}
 use borrow.Author.Tests.{ltb-true, ltb-false, eqb-true, eqb-false, eq-eqb, ne-eqb}
@@ -44,9 +44,9 @@ ordered a b = go (ltb a b) refl
     go true e = rising (ltb-true a b e) (rw e)
     go false e = falling (ltb-false a b e) (rw e)
 
--- the bit of a pair of bytes is one of 65,536
-pair-small : (a b : ℕ) → a < 256 → b < 256 → pairAt a b < 65536
-pair-small a b ha hb = elim (ordered a b) [ rising l e ↦ omega arith | falling l e ↦ omega arith ]
+-- the word of a pair of two numbers, not the same and at most n, is among the first 4 · n
+pub pair-word : (n a b : ℕ) → n < 256 → a ≤ n → b ≤ n → a ≢ b → pairAt a b / 64 < 4 * n
+pair-word n a b h ha hb apart = elim (ordered a b) [ rising l e ↦ omega arith | falling l e ↦ omega (arith, apart) ]
 
 -- two pairs of bytes have the same bit exactly where they are the same pair, in either order
 pub same-bit : (a b x y : ℕ) → ((a ≡ x) × (b ≡ y)) ⊎ ((a ≡ y) × (b ≡ x)) → pairAt a b ≡ pairAt x y
@@ -89,10 +89,10 @@ set-at l k j h = go (eqb (j / 64) (k / 64)) refl
         rw (getD-set-other l (k / 64) (j / 64) (bitOr (getD l (k / 64) 0) (2 ^ (k % 64))) 0 (eqb-false _ _ e), ne-eqb j k (λ z. eqb-false _ _ e (ap (λ n. n / 64) z)))
         (sym (or-false _))
 
--- with the pair of two bytes put in, the set of 1,024 words has that pair and those that it had
-pub has-with : (l : List ℕ) (a b x y : ℕ) → length l ≡ 1024 → a < 256 → b < 256 → hasPair (withPair l a b) x y ≡ (hasPair l x y || eqb (pairAt x y) (pairAt a b))
+-- with a pair put in whose word is there, the set has that pair and those that it had
+pub has-with : (l : List ℕ) (a b x y : ℕ) → pairAt a b / 64 < length l → hasPair (withPair l a b) x y ≡ (hasPair l x y || eqb (pairAt x y) (pairAt a b))
 unfolding hasPair withPair
-has-with l a b x y n ha hb = set-at l (pairAt a b) (pairAt x y) (omega (arith, pair-small a b ha hb))
+has-with l a b x y = set-at l (pairAt a b) (pairAt x y)
 
 -- words of 0 have no pair
 pub has-none : (n x y : ℕ) → hasPair (replicate n 0) x y ≡ false

@@ -1,10 +1,11 @@
 -- `checks::table_check` meets its contract: the sizes are refused, or the lengths and the rows decide in their order. Assumes nothing.
-use Prim.Native.Nat.{_≤_}
 use borrow.Author.Needs.{needs}
-use mathlib.Core.Path.{sym, ap, _∙_}
+use mathlib.Core.List.{[], _∷_}
+use mathlib.Core.Option.{none}
+use mathlib.Core.Path.{_≡_, sym, ap, _∙_}
 use Rattle.refusal.specs.Outcomes.{refusalOf}
-use Rattle.star.specs.Refusals.{maxRows, badLengths}
-use Rattle.checks.proofs.Laws.{refused-first, done-next, few-rows, table-in-order}
+use Rattle.star.specs.Refusals.{badVertices, tooManyRows, badLengths, refusal}
+use Rattle.checks.proofs.Laws.{refused-first, done-next, few-vertices, few-rows, table-in-order}
 use Rattle.checks.proofs.table_check.Statement.{statement}
 use Rattle.checks.proofs.table_check.Tie as tie
 
@@ -12,15 +13,15 @@ returns : tie.Need-returns
 returns c = refused-first _ _ _ _ (c .enum-told2 .given .1) (c .before .before .size-check .ensures) ∙ sym (table-in-order _)
 
 -- the sizes were taken
-sizes : (c : tie.After-enum-told) → c .before .before .before .before .before .before .before .args .m ≤ maxRows
+sizes : (c : tie.After-enum-told) → let x = c .before .before .before .before .before .before .before .args in none ≡ refusal (badVertices (x .n) ∷ tooManyRows (x .m) ∷ [])
 unfolding refusalOf
-sizes c = few-rows _ _ (ap refusalOf (sym (c .enum-told .given .1)) ∙ c .before .before .size-check .ensures)
+sizes c = ap refusalOf (sym (c .enum-told .given .1)) ∙ c .before .before .size-check .ensures
 
 lengths-check-requires : tie.Need-lengths-check-requires
-lengths-check-requires c κs = sizes c
+lengths-check-requires c κs = few-rows _ _ (sizes c)
 
 rows-check-requires : tie.Need-rows-check-requires
-rows-check-requires c κs = sizes (c .before)
+rows-check-requires c κs = (few-vertices _ _ (sizes (c .before)), few-rows _ _ (sizes (c .before)))
 
 returns-2 : tie.Need-returns-2
 unfolding badLengths
