@@ -3,13 +3,16 @@
 use slice::Slice;
 ghost use mathlib.Core.Path.{_≡_};
 ghost use Prim.Native.Nat.{_-_, _/_, _^_, _≤_};
+ghost use lib.Dec.{eqb};
 ghost use lib.ListN.{length};
 ghost use Rattle.rowset.specs.Columns.{width, inColumns};
 ghost use Rattle.rowset.specs.Counts.{equalRight, readWithin};
 ghost use Rattle.rowset.specs.Searches.{equalTo};
+ghost use Rattle.rowset.specs.Sets.{empty, either};
+ghost use Rattle.rowset.specs.Words.{inWords};
 ghost use Rattle.matrix.specs.Matrix.{matrixColumn};
 ghost use Rattle.slice.specs.Slices.{size, component};
-ghost use Rattle.lent.specs.steps.Rows.{NonePast};
+ghost use Rattle.lent.specs.steps.Rows.{rowsOf, NonePast};
 
 // The number of columns of a table, and the words of a column and of a table.
 const WIDTH: usize = 32;
@@ -24,16 +27,12 @@ pub struct Matched {
     pub read: usize,
 }
 
-// The selected rows before any column is read: all of them, or none where w is too large for the columns that are not left out.
-fn begin(first: usize, w: u32, x: Slice) -> Slice
-    ensures { λ r. ⌜ component r ≡ equalTo (λ i. 0) (w / 2 ^ (width - first)) (component x) ⌝ }
+// Whether w has no digit before those of the columns that are not left out.
+fn fits(first: usize, w: u32) -> bool
+    ensures { λ r. ⌜ r ≡ eqb (w / 2 ^ (width - first)) 0 ⌝ }
 {
     let columns = if first < WIDTH { WIDTH - first } else { 0 };
-    if (w as u64) >> columns == 0 {
-        x
-    } else {
-        Slice::empty()
-    }
+    (w as u64) >> columns == 0
 }
 
 // MATCH of w's last digits in the columns that are not left out, from column 32 to the left; it stops where no row is left in the running.
@@ -58,71 +57,211 @@ pub fn match_right(columns: &[u64], first: usize, w: u32, x: Slice) -> Matched
     Matched { rows: z, read: k }
 }
 
-// The rows of MATCH where all columns are there and x has no row past its first four words, with no test between the columns.
-fn match_four(columns: &[u64], first: usize, w: u32, x: Slice) -> Slice
-    requires { ⌜ (512 ≤ length (now columns)) × NonePast 4 (component x) ⌝ }
-    ensures { λ r. ⌜ component r ≡ equalRight (matrixColumn (now (columns .entry))) w (width - first) (component x) ⌝ }
+// Words of 0 get the rows of `rows`, which has none past its first four words.
+fn copy_four(z: &mut [u64], rows: &[u64; COLUMN])
+    requires { ⌜ (length (now z) ≡ 16) × (rowsOf (now z) ≡ empty) × NonePast 4 (rowsOf (now rows)) ⌝ }
+    ensures { λ u. ⌜ rowsOf (now (z .exit)) ≡ rowsOf (now (rows .entry)) ⌝ }
 {
-    let mut z = x.words;
+    let mut k = 0;
+    while k < 4 {
+        z[k] = rows[k];
+        k += 1;
+    }
+}
+
+// Of the rows of z, which has none past its first four words, those stay that MATCH gives, with no test between the columns.
+fn narrow_four(z: &mut [u64], columns: &[u64], first: usize, w: u32)
+    requires { ⌜ (length (now z) ≡ 16) × (512 ≤ length (now columns)) × NonePast 4 (rowsOf (now z)) ⌝ }
+    ensures { λ u. ⌜ rowsOf (now (z .exit)) ≡ equalRight (matrixColumn (now (columns .entry))) w (width - first) (rowsOf (now (z .entry))) ⌝ }
+{
     let mut j = WIDTH;
     while first < j {
         j -= 1;
-        lent::keep_rows(&mut z, columns, j, (w >> (WIDTH - 1 - j)) % 2 == 1, 4);
+        lent::keep_rows(z, columns, j, (w >> (WIDTH - 1 - j)) % 2 == 1, 4);
     }
-    Slice { words: z }
 }
 
-// The rows of MATCH where all columns are there and x has no row past its first eight words.
-fn match_eight(columns: &[u64], first: usize, w: u32, x: Slice) -> Slice
-    requires { ⌜ (512 ≤ length (now columns)) × NonePast 8 (component x) ⌝ }
-    ensures { λ r. ⌜ component r ≡ equalRight (matrixColumn (now (columns .entry))) w (width - first) (component x) ⌝ }
+// The rows of z, which has none past its first four words, come to those of x.
+fn put_four(x: &mut [u64], z: &[u64; COLUMN])
+    requires { ⌜ (length (now x) ≡ 16) × NonePast 4 (rowsOf (now z)) ⌝ }
+    ensures { λ u. ⌜ rowsOf (now (x .exit)) ≡ either (rowsOf (now (x .entry))) (rowsOf (now (z .entry))) ⌝ }
 {
-    let mut z = x.words;
+    let mut i = 0;
+    while i < 4 {
+        x[i] = x[i] | z[i];
+        i += 1;
+    }
+}
+
+// MATCH, its rows joined to those of x, where all columns are there and `rows` has no row past its first four words.
+fn join_four(x: &mut [u64], columns: &[u64], first: usize, w: u32, rows: &[u64; COLUMN])
+    requires { ⌜ (length (now x) ≡ 16) × (512 ≤ length (now columns)) × NonePast 4 (rowsOf (now rows)) ⌝ }
+    ensures { λ u. ⌜ rowsOf (now (x .exit)) ≡ either (rowsOf (now (x .entry))) (equalRight (matrixColumn (now (columns .entry))) w (width - first) (rowsOf (now (rows .entry)))) ⌝ }
+{
+    let mut z = [0u64; COLUMN];
+    copy_four(&mut z, rows);
+    narrow_four(&mut z, columns, first, w);
+    put_four(x, &z);
+}
+
+// Words of 0 get the rows of `rows`, which has none past its first eight words.
+fn copy_eight(z: &mut [u64], rows: &[u64; COLUMN])
+    requires { ⌜ (length (now z) ≡ 16) × (rowsOf (now z) ≡ empty) × NonePast 8 (rowsOf (now rows)) ⌝ }
+    ensures { λ u. ⌜ rowsOf (now (z .exit)) ≡ rowsOf (now (rows .entry)) ⌝ }
+{
+    let mut k = 0;
+    while k < 8 {
+        z[k] = rows[k];
+        k += 1;
+    }
+}
+
+// Of the rows of z, which has none past its first eight words, those stay that MATCH gives, with no test between the columns.
+fn narrow_eight(z: &mut [u64], columns: &[u64], first: usize, w: u32)
+    requires { ⌜ (length (now z) ≡ 16) × (512 ≤ length (now columns)) × NonePast 8 (rowsOf (now z)) ⌝ }
+    ensures { λ u. ⌜ rowsOf (now (z .exit)) ≡ equalRight (matrixColumn (now (columns .entry))) w (width - first) (rowsOf (now (z .entry))) ⌝ }
+{
     let mut j = WIDTH;
     while first < j {
         j -= 1;
-        lent::keep_rows(&mut z, columns, j, (w >> (WIDTH - 1 - j)) % 2 == 1, 8);
+        lent::keep_rows(z, columns, j, (w >> (WIDTH - 1 - j)) % 2 == 1, 8);
     }
-    Slice { words: z }
 }
 
-// The rows of MATCH where all columns are there, over all words.
-fn match_all(columns: &[u64], first: usize, w: u32, x: Slice) -> Slice
-    requires { ⌜ 512 ≤ length (now columns) ⌝ }
-    ensures { λ r. ⌜ component r ≡ equalRight (matrixColumn (now (columns .entry))) w (width - first) (component x) ⌝ }
+// The rows of z, which has none past its first eight words, come to those of x.
+fn put_eight(x: &mut [u64], z: &[u64; COLUMN])
+    requires { ⌜ (length (now x) ≡ 16) × NonePast 8 (rowsOf (now z)) ⌝ }
+    ensures { λ u. ⌜ rowsOf (now (x .exit)) ≡ either (rowsOf (now (x .entry))) (rowsOf (now (z .entry))) ⌝ }
 {
-    let mut z = x.words;
+    let mut i = 0;
+    while i < 8 {
+        x[i] = x[i] | z[i];
+        i += 1;
+    }
+}
+
+// MATCH, its rows joined to those of x, where all columns are there and `rows` has no row past its first eight words.
+fn join_eight(x: &mut [u64], columns: &[u64], first: usize, w: u32, rows: &[u64; COLUMN])
+    requires { ⌜ (length (now x) ≡ 16) × (512 ≤ length (now columns)) × NonePast 8 (rowsOf (now rows)) ⌝ }
+    ensures { λ u. ⌜ rowsOf (now (x .exit)) ≡ either (rowsOf (now (x .entry))) (equalRight (matrixColumn (now (columns .entry))) w (width - first) (rowsOf (now (rows .entry)))) ⌝ }
+{
+    let mut z = [0u64; COLUMN];
+    copy_eight(&mut z, rows);
+    narrow_eight(&mut z, columns, first, w);
+    put_eight(x, &z);
+}
+
+// Words of 0 get the rows of `rows`.
+fn copy_all(z: &mut [u64], rows: &[u64; COLUMN])
+    requires { ⌜ (length (now z) ≡ 16) × (rowsOf (now z) ≡ empty) ⌝ }
+    ensures { λ u. ⌜ rowsOf (now (z .exit)) ≡ rowsOf (now (rows .entry)) ⌝ }
+{
+    let mut k = 0;
+    while k < COLUMN {
+        z[k] = rows[k];
+        k += 1;
+    }
+}
+
+// Of the rows of z those stay that MATCH gives, with no test between the columns.
+fn narrow_all(z: &mut [u64], columns: &[u64], first: usize, w: u32)
+    requires { ⌜ (length (now z) ≡ 16) × (512 ≤ length (now columns)) ⌝ }
+    ensures { λ u. ⌜ rowsOf (now (z .exit)) ≡ equalRight (matrixColumn (now (columns .entry))) w (width - first) (rowsOf (now (z .entry))) ⌝ }
+{
     let mut j = WIDTH;
     while first < j {
         j -= 1;
-        lent::keep_rows(&mut z, columns, j, (w >> (WIDTH - 1 - j)) % 2 == 1, COLUMN);
+        lent::keep_rows(z, columns, j, (w >> (WIDTH - 1 - j)) % 2 == 1, COLUMN);
     }
-    Slice { words: z }
 }
 
-// The rows of MATCH where all columns are there. The number of words is a constant of each loop, so that the compiler keeps them in registers.
-fn match_words(columns: &[u64], first: usize, w: u32, x: Slice) -> Slice
-    requires { ⌜ 512 ≤ length (now columns) ⌝ }
-    ensures { λ r. ⌜ component r ≡ equalRight (matrixColumn (now (columns .entry))) w (width - first) (component x) ⌝ }
+// The rows of z come to those of x.
+fn put_all(x: &mut [u64], z: &[u64; COLUMN])
+    requires { ⌜ (length (now x) ≡ 16) ⌝ }
+    ensures { λ u. ⌜ rowsOf (now (x .exit)) ≡ either (rowsOf (now (x .entry))) (rowsOf (now (z .entry))) ⌝ }
 {
-    let used = lent::words_used(&x.words);
+    let mut i = 0;
+    while i < COLUMN {
+        x[i] = x[i] | z[i];
+        i += 1;
+    }
+}
+
+// MATCH, its rows joined to those of x, where all columns are there.
+fn join_all(x: &mut [u64], columns: &[u64], first: usize, w: u32, rows: &[u64; COLUMN])
+    requires { ⌜ (length (now x) ≡ 16) × (512 ≤ length (now columns)) ⌝ }
+    ensures { λ u. ⌜ rowsOf (now (x .exit)) ≡ either (rowsOf (now (x .entry))) (equalRight (matrixColumn (now (columns .entry))) w (width - first) (rowsOf (now (rows .entry)))) ⌝ }
+{
+    let mut z = [0u64; COLUMN];
+    copy_all(&mut z, rows);
+    narrow_all(&mut z, columns, first, w);
+    put_all(x, &z);
+}
+
+// The same for any rows. The number of words is a constant of each loop, so that the compiler keeps them in registers.
+fn join_words(x: &mut [u64], columns: &[u64], first: usize, w: u32, rows: &[u64; COLUMN])
+    requires { ⌜ (length (now x) ≡ 16) × (512 ≤ length (now columns)) ⌝ }
+    ensures { λ u. ⌜ rowsOf (now (x .exit)) ≡ either (rowsOf (now (x .entry))) (equalRight (matrixColumn (now (columns .entry))) w (width - first) (rowsOf (now (rows .entry)))) ⌝ }
+{
+    let used = lent::words_used(rows);
     if used <= 4 {
-        return match_four(columns, first, w, x);
+        join_four(x, columns, first, w, rows);
+        return;
     }
     if used <= 8 {
-        return match_eight(columns, first, w, x);
+        join_eight(x, columns, first, w, rows);
+        return;
     }
-    match_all(columns, first, w, x)
+    join_all(x, columns, first, w, rows);
+}
+
+// The same where columns may be missing.
+fn join_right(x: &mut [u64], columns: &[u64], first: usize, w: u32, rows: &[u64; COLUMN])
+    requires { ⌜ length (now x) ≡ 16 ⌝ }
+    ensures { λ u. ⌜ rowsOf (now (x .exit)) ≡ either (rowsOf (now (x .entry))) (equalRight (matrixColumn (now (columns .entry))) w (width - first) (rowsOf (now (rows .entry)))) ⌝ }
+{
+    let mut z = [0u64; COLUMN];
+    copy_all(&mut z, rows);
+    let matched = match_right(columns, first, w, Slice { words: z });
+    let found = matched.rows;
+    put_all(x, &found.words);
+}
+
+// MATCH, its rows joined to those of x: none where w is too large for the columns that are not left out.
+fn match_in(x: &mut [u64], columns: &[u64], first: usize, w: u32, rows: &[u64; COLUMN])
+    requires { ⌜ length (now x) ≡ 16 ⌝ }
+    ensures rows { λ u. ⌜ inWords (now (x .exit)) ≡ either (inWords (now (x .entry))) (equalTo (inColumns (matrixColumn (now (columns .entry))) first (width - first)) w (inWords (now (rows .entry)))) ⌝ }
+    ensures size { λ u. ⌜ length (now (x .exit)) ≡ 16 ⌝ }
+{
+    if !fits(first, w) {
+        return;
+    }
+    if columns.len() < ALL {
+        join_right(x, columns, first, w, rows);
+        return;
+    }
+    join_words(x, columns, first, w, rows);
+}
+
+// MATCH, its rows joined to those of x in place: the rows of `rows` that equal w become 1 in x.
+pub fn match_into(
+    x: &mut [u64; COLUMN],
+    columns: &[u64],
+    first: usize,
+    w: u32,
+    rows: &[u64; COLUMN],
+)
+    ensures rows { λ u. ⌜ inWords (now (x .exit)) ≡ either (inWords (now (x .entry))) (equalTo (inColumns (matrixColumn (now (columns .entry))) first (width - first)) w (inWords (now (rows .entry)))) ⌝ }
+    ensures size { λ u. ⌜ length (now (x .exit)) ≡ 16 ⌝ }
+{
+    match_in(x, columns, first, w, rows);
 }
 
 // MATCH: the selected rows that equal w.
 pub fn match_from(columns: &[u64], first: usize, w: u32, x: Slice) -> Slice
     ensures { λ r. ⌜ component r ≡ equalTo (inColumns (matrixColumn (now (columns .entry))) first (width - first)) w (component x) ⌝ }
 {
-    let start = begin(first, w, x);
-    if columns.len() < ALL {
-        let found = match_right(columns, first, w, start);
-        return found.rows;
-    }
-    match_words(columns, first, w, start)
+    let mut z = [0u64; COLUMN];
+    match_into(&mut z, columns, first, w, &x.words);
+    Slice { words: z }
 }
