@@ -6,6 +6,7 @@ ghost use Prim.Native.Nat.{_≤_};
 ghost use lib.ListN.{length, take, drop};
 ghost use Rattle.refusal.specs.Outcomes.{refusalOf};
 ghost use Rattle.matrix.specs.Matrix.{matrixColumn, withColumn};
+ghost use Rattle.lent.specs.steps.Rows.{rowsOf};
 ghost use Rattle.rowset.specs.Searches.{equalTo};
 ghost use Rattle.rowset.specs.Sets.{either};
 ghost use Rattle.rowset.specs.Words.{inWords};
@@ -33,11 +34,11 @@ pub const ALL_WORDS: usize = 4080;
 const UPPER: usize = 24;
 
 // The rows that hold v, by MATCH, come to those of x.
-fn reach(x: &mut [u64; WORDS], ends: &[u64], v: u32, rows: Slice)
-    ensures rows { λ r. ⌜ inWords (now (x .exit)) ≡ either (inWords (now (x .entry))) (equalTo (endsIn (now (ends .entry))) v (component rows)) ⌝ }
+fn reach(x: &mut [u64; WORDS], ends: &[u64], v: u32, rows: &[u64; WORDS])
+    ensures rows { λ r. ⌜ inWords (now (x .exit)) ≡ either (inWords (now (x .entry))) (equalTo (endsIn (now (ends .entry))) v (rowsOf (now (rows .entry)))) ⌝ }
     ensures size { λ r. ⌜ length (now (x .exit)) ≡ 16 ⌝ }
 {
-    inplace::join(x, matching::match_from(ends, UPPER, v, rows));
+    matching::match_into(x, ends, UPPER, v, rows);
 }
 
 // The first of two vertices where the test holds, else the second.
@@ -77,9 +78,9 @@ fn walk_loaded(
 {
     matrix::write_column(own, s as usize, Slice::empty());
     let mut lefts = [0u64; WORDS];
-    reach(&mut lefts, left_ends, s, rows);
+    reach(&mut lefts, left_ends, s, &rows.words);
     let mut rights = [0u64; WORDS];
-    reach(&mut rights, right_ends, s, rows);
+    reach(&mut rights, right_ends, s, &rows.words);
     let mut reached = [0u64; WORDS];
     inplace::put_row(&mut reached, s as usize);
     let mut k = 0;
@@ -94,8 +95,8 @@ fn walk_loaded(
         let u = choose(ahead, a, b);
         let v = choose(ahead, b, a);
         lead(own, i, u, v);
-        reach(&mut lefts, left_ends, v, rows);
-        reach(&mut rights, right_ends, v, rows);
+        reach(&mut lefts, left_ends, v, &rows.words);
+        reach(&mut rights, right_ends, v, &rows.words);
         inplace::put_row(&mut reached, v as usize);
         k += 1;
     }
