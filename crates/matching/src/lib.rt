@@ -57,15 +57,27 @@ pub fn match_right(columns: &[u64], first: usize, w: u32, x: Slice) -> Matched
     Matched { rows: z, read: k }
 }
 
-// Words of 0 get the rows of `rows`, which has none past its first four words.
-fn copy_four(z: &mut [u64], rows: &[u64; COLUMN])
-    requires { ⌜ (length (now z) ≡ 16) × (rowsOf (now z) ≡ empty) × NonePast 4 (rowsOf (now rows)) ⌝ }
+// Words of 0 get the rows of `rows`, which has none past its first words, as many as `used` says.
+fn copy_words(z: &mut [u64], rows: &[u64; COLUMN], used: usize)
+    requires { ⌜ (length (now z) ≡ 16) × (rowsOf (now z) ≡ empty) × (used ≤ 16) × NonePast used (rowsOf (now rows)) ⌝ }
     ensures { λ u. ⌜ rowsOf (now (z .exit)) ≡ rowsOf (now (rows .entry)) ⌝ }
 {
     let mut k = 0;
-    while k < 4 {
+    while k < used {
         z[k] = rows[k];
         k += 1;
+    }
+}
+
+// The rows of z, which has none past its first words, as many as `used` says, come to those of x.
+fn put_words(x: &mut [u64], z: &[u64; COLUMN], used: usize)
+    requires { ⌜ (length (now x) ≡ 16) × (used ≤ 16) × NonePast used (rowsOf (now z)) ⌝ }
+    ensures { λ u. ⌜ rowsOf (now (x .exit)) ≡ either (rowsOf (now (x .entry))) (rowsOf (now (z .entry))) ⌝ }
+{
+    let mut i = 0;
+    while i < used {
+        x[i] = x[i] | z[i];
+        i += 1;
     }
 }
 
@@ -81,39 +93,15 @@ fn narrow_four(z: &mut [u64], columns: &[u64], first: usize, w: u32)
     }
 }
 
-// The rows of z, which has none past its first four words, come to those of x.
-fn put_four(x: &mut [u64], z: &[u64; COLUMN])
-    requires { ⌜ (length (now x) ≡ 16) × NonePast 4 (rowsOf (now z)) ⌝ }
-    ensures { λ u. ⌜ rowsOf (now (x .exit)) ≡ either (rowsOf (now (x .entry))) (rowsOf (now (z .entry))) ⌝ }
-{
-    let mut i = 0;
-    while i < 4 {
-        x[i] = x[i] | z[i];
-        i += 1;
-    }
-}
-
 // MATCH, its rows joined to those of x, where all columns are there and `rows` has no row past its first four words.
 fn join_four(x: &mut [u64], columns: &[u64], first: usize, w: u32, rows: &[u64; COLUMN])
     requires { ⌜ (length (now x) ≡ 16) × (512 ≤ length (now columns)) × NonePast 4 (rowsOf (now rows)) ⌝ }
     ensures { λ u. ⌜ rowsOf (now (x .exit)) ≡ either (rowsOf (now (x .entry))) (equalRight (matrixColumn (now (columns .entry))) w (width - first) (rowsOf (now (rows .entry)))) ⌝ }
 {
     let mut z = [0u64; COLUMN];
-    copy_four(&mut z, rows);
+    copy_words(&mut z, rows, 4);
     narrow_four(&mut z, columns, first, w);
-    put_four(x, &z);
-}
-
-// Words of 0 get the rows of `rows`, which has none past its first eight words.
-fn copy_eight(z: &mut [u64], rows: &[u64; COLUMN])
-    requires { ⌜ (length (now z) ≡ 16) × (rowsOf (now z) ≡ empty) × NonePast 8 (rowsOf (now rows)) ⌝ }
-    ensures { λ u. ⌜ rowsOf (now (z .exit)) ≡ rowsOf (now (rows .entry)) ⌝ }
-{
-    let mut k = 0;
-    while k < 8 {
-        z[k] = rows[k];
-        k += 1;
-    }
+    put_words(x, &z, 4);
 }
 
 // Of the rows of z, which has none past its first eight words, those stay that MATCH gives, with no test between the columns.
@@ -128,39 +116,15 @@ fn narrow_eight(z: &mut [u64], columns: &[u64], first: usize, w: u32)
     }
 }
 
-// The rows of z, which has none past its first eight words, come to those of x.
-fn put_eight(x: &mut [u64], z: &[u64; COLUMN])
-    requires { ⌜ (length (now x) ≡ 16) × NonePast 8 (rowsOf (now z)) ⌝ }
-    ensures { λ u. ⌜ rowsOf (now (x .exit)) ≡ either (rowsOf (now (x .entry))) (rowsOf (now (z .entry))) ⌝ }
-{
-    let mut i = 0;
-    while i < 8 {
-        x[i] = x[i] | z[i];
-        i += 1;
-    }
-}
-
 // MATCH, its rows joined to those of x, where all columns are there and `rows` has no row past its first eight words.
 fn join_eight(x: &mut [u64], columns: &[u64], first: usize, w: u32, rows: &[u64; COLUMN])
     requires { ⌜ (length (now x) ≡ 16) × (512 ≤ length (now columns)) × NonePast 8 (rowsOf (now rows)) ⌝ }
     ensures { λ u. ⌜ rowsOf (now (x .exit)) ≡ either (rowsOf (now (x .entry))) (equalRight (matrixColumn (now (columns .entry))) w (width - first) (rowsOf (now (rows .entry)))) ⌝ }
 {
     let mut z = [0u64; COLUMN];
-    copy_eight(&mut z, rows);
+    copy_words(&mut z, rows, 8);
     narrow_eight(&mut z, columns, first, w);
-    put_eight(x, &z);
-}
-
-// Words of 0 get the rows of `rows`.
-fn copy_all(z: &mut [u64], rows: &[u64; COLUMN])
-    requires { ⌜ (length (now z) ≡ 16) × (rowsOf (now z) ≡ empty) ⌝ }
-    ensures { λ u. ⌜ rowsOf (now (z .exit)) ≡ rowsOf (now (rows .entry)) ⌝ }
-{
-    let mut k = 0;
-    while k < COLUMN {
-        z[k] = rows[k];
-        k += 1;
-    }
+    put_words(x, &z, 8);
 }
 
 // Of the rows of z those stay that MATCH gives, with no test between the columns.
@@ -175,27 +139,15 @@ fn narrow_all(z: &mut [u64], columns: &[u64], first: usize, w: u32)
     }
 }
 
-// The rows of z come to those of x.
-fn put_all(x: &mut [u64], z: &[u64; COLUMN])
-    requires { ⌜ (length (now x) ≡ 16) ⌝ }
-    ensures { λ u. ⌜ rowsOf (now (x .exit)) ≡ either (rowsOf (now (x .entry))) (rowsOf (now (z .entry))) ⌝ }
-{
-    let mut i = 0;
-    while i < COLUMN {
-        x[i] = x[i] | z[i];
-        i += 1;
-    }
-}
-
 // MATCH, its rows joined to those of x, where all columns are there.
 fn join_all(x: &mut [u64], columns: &[u64], first: usize, w: u32, rows: &[u64; COLUMN])
     requires { ⌜ (length (now x) ≡ 16) × (512 ≤ length (now columns)) ⌝ }
     ensures { λ u. ⌜ rowsOf (now (x .exit)) ≡ either (rowsOf (now (x .entry))) (equalRight (matrixColumn (now (columns .entry))) w (width - first) (rowsOf (now (rows .entry)))) ⌝ }
 {
     let mut z = [0u64; COLUMN];
-    copy_all(&mut z, rows);
+    copy_words(&mut z, rows, COLUMN);
     narrow_all(&mut z, columns, first, w);
-    put_all(x, &z);
+    put_words(x, &z, COLUMN);
 }
 
 // The same for any rows. The number of words is a constant of each loop, so that the compiler keeps them in registers.
@@ -221,10 +173,10 @@ fn join_right(x: &mut [u64], columns: &[u64], first: usize, w: u32, rows: &[u64;
     ensures { λ u. ⌜ rowsOf (now (x .exit)) ≡ either (rowsOf (now (x .entry))) (equalRight (matrixColumn (now (columns .entry))) w (width - first) (rowsOf (now (rows .entry)))) ⌝ }
 {
     let mut z = [0u64; COLUMN];
-    copy_all(&mut z, rows);
+    copy_words(&mut z, rows, COLUMN);
     let matched = match_right(columns, first, w, Slice { words: z });
     let found = matched.rows;
-    put_all(x, &found.words);
+    put_words(x, &found.words, COLUMN);
 }
 
 // MATCH, its rows joined to those of x: none where w is too large for the columns that are not left out.
