@@ -2,10 +2,12 @@
 ghost use mathlib.Core.Path.{_≡_};
 ghost use mathlib.Core.Bool.{true};
 ghost use Prim.Native.Nat.{_-_, _≤_};
+ghost use lib.ListN.{length};
 ghost use Rattle.rowset.specs.Columns.{inColumns};
 ghost use Rattle.rowset.specs.Integers.{integerIn, signed};
 ghost use Rattle.rowset.specs.Searches.{equalTo, smallest};
 ghost use Rattle.rowset.specs.Sets.{empty, either, uppermost};
+ghost use Rattle.rowset.specs.Words.{inWords};
 ghost use Rattle.matrix.specs.Matrix.{matrixColumn};
 ghost use Rattle.slice.specs.Slices.{size, component, written};
 ghost use Rattle.star.specs.Mst1.{mst1, mst1Marks};
@@ -58,6 +60,17 @@ pub fn reach(x: Slice, ends: &[u64], first: usize, v: u32, rows: Slice) -> Slice
     slice::or(x, matching::match_from(ends, first, v, rows))
 }
 
+// The rows that hold v, by MATCH, come to those of x, in place.
+fn reach_in(x: &mut [u64; WORDS], ends: &[u64], v: u32, rows: &[u64; WORDS])
+    ensures rows { λ r. ⌜ inWords (now (x .exit)) ≡ either (inWords (now (x .entry))) (equalTo (endsIn (now (ends .entry))) v (inWords (now (rows .entry)))) ⌝ }
+    ensures size { λ r. ⌜ length (now (x .exit)) ≡ 16 ⌝ }
+{
+    inplace::join(
+        x,
+        matching::match_from(ends, UPPER, v, Slice { words: *rows }),
+    );
+}
+
 // No rows: the whole tree of one vertex, or what is left where there is no tree.
 fn nothing(whole: bool) -> Grown
     ensures whole { λ r. ⌜ r .whole ≡ whole ⌝ }
@@ -96,7 +109,7 @@ pub fn begin(left: &[u64], right: &[u64], rows: Slice, i: usize) -> Fragment
     }
 }
 
-// The tree of n vertices that grows from a fragment of two. The rows with exactly one end in the fragment are those that only one of `lefts` and `rights` has.
+// The tree of n vertices that grows from a fragment of two. The rows with exactly one end in the fragment are those that only one of `lefts` and `rights` has. The three slices are changed in place.
 fn grow_from(
     left: &[u64],
     right: &[u64],
@@ -109,28 +122,32 @@ fn grow_from(
     requires { ⌜ (2 ≤ n) × Reached (graphIn (now left) (now right) rows n) (integersAfter (now weight) first) 2 (component (start .lefts)) (component (start .rights)) (component (start .chosen)) ⌝ }
     ensures { λ r. ⌜ Grows (graphIn (now (left .entry)) (now (right .entry)) rows n) (integersAfter (now (weight .entry)) first) (r .whole) (component (r .chosen)) ⌝ }
 {
-    let mut lefts = start.lefts;
-    let mut rights = start.rights;
-    let mut chosen = start.chosen;
+    let mut lefts = start.lefts.words;
+    let mut rights = start.rights.words;
+    let mut chosen = start.chosen.words;
     let mut k = 2;
     while k < n {
-        let i = cheapest(weight, first, slice::xor(lefts, rights));
+        let i = cheapest(
+            weight,
+            first,
+            slice::xor(Slice { words: lefts }, Slice { words: rights }),
+        );
         if i == 0 {
             return nothing(false);
         }
-        let far = if slice::get(lefts, i) {
+        let far = if inplace::row_in(&lefts, i) {
             lent::row_from(right, UPPER, i)
         } else {
             lent::row_from(left, UPPER, i)
         };
-        lefts = reach(lefts, left, UPPER, far, rows);
-        rights = reach(rights, right, UPPER, far, rows);
-        chosen = slice::put(chosen, i, true);
+        reach_in(&mut lefts, left, far, &rows.words);
+        reach_in(&mut rights, right, far, &rows.words);
+        inplace::put_row(&mut chosen, i);
         k += 1;
     }
     Grown {
         whole: true,
-        chosen: chosen,
+        chosen: Slice { words: chosen },
     }
 }
 
