@@ -65,10 +65,7 @@ fn reach_in(x: &mut [u64; WORDS], ends: &[u64], v: u32, rows: &[u64; WORDS])
     ensures rows { λ r. ⌜ inWords (now (x .exit)) ≡ either (inWords (now (x .entry))) (equalTo (endsIn (now (ends .entry))) v (inWords (now (rows .entry)))) ⌝ }
     ensures size { λ r. ⌜ length (now (x .exit)) ≡ 16 ⌝ }
 {
-    inplace::join(
-        x,
-        matching::match_from(ends, UPPER, v, Slice { words: *rows }),
-    );
+    matching::match_into(x, ends, UPPER, v, rows);
 }
 
 // No rows: the whole tree of one vertex, or what is left where there is no tree.
