@@ -4,7 +4,7 @@ ghost use Prim.Native.Nat.{ℕ, _<_};
 ghost use mathlib.Core.Bool.{true, false};
 ghost use mathlib.Core.Path.{_≡_};
 ghost use lib.ListN.{length};
-ghost use Rattle.rowset.specs.Sets.{either, oneOf, uppermost, count};
+ghost use Rattle.rowset.specs.Sets.{oneOf, uppermost, count};
 ghost use Rattle.rowset.specs.Words.{inWords};
 ghost use Rattle.slice.specs.Slices.{size, bit, component, written};
 use slice::Slice;
@@ -64,27 +64,6 @@ pub fn put_row(words: &mut [u64; slice::WORDS], i: usize)
     ensures size { λ u. ⌜ length (now (words .exit)) ≡ 16 ⌝ }
 {
     put_in(words, i);
-}
-
-// The components of x become 1 in sixteen words.
-fn join_in(words: &mut [u64], x: Slice)
-    requires { ⌜ length (now words) ≡ 16 ⌝ }
-    ensures rows { λ u. ⌜ inWords (now (words .exit)) ≡ either (inWords (now (words .entry))) (component x) ⌝ }
-    ensures size { λ u. ⌜ length (now (words .exit)) ≡ 16 ⌝ }
-{
-    let mut k = 0;
-    while k < slice::WORDS {
-        words[k] = words[k] | x.words[k];
-        k += 1;
-    }
-}
-
-// The components of x become 1.
-pub fn join(words: &mut [u64; slice::WORDS], x: Slice)
-    ensures rows { λ u. ⌜ inWords (now (words .exit)) ≡ either (inWords (now (words .entry))) (component x) ⌝ }
-    ensures size { λ u. ⌜ length (now (words .exit)) ≡ 16 ⌝ }
-{
-    join_in(words, x);
 }
 
 // The place of the lowest bit of a word that is not 0.
