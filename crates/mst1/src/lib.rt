@@ -57,7 +57,9 @@ pub fn cheapest(weight: &[u64], first: usize, x: Slice) -> usize
 pub fn reach(x: Slice, ends: &[u64], first: usize, v: u32, rows: Slice) -> Slice
     ensures { λ r. ⌜ component r ≡ either (component x) (equalTo (inColumns (matrixColumn (now (ends .entry))) first (width - first)) v (component rows)) ⌝ }
 {
-    slice::or(x, matching::match_from(ends, first, v, rows))
+    let mut r = x.words;
+    matching::match_into(&mut r, ends, first, v, &rows.words);
+    Slice { words: r }
 }
 
 // The rows that hold v, by MATCH, come to those of x, in place.
