@@ -1,6 +1,6 @@
 // Slices lent as words, read and changed in place: a slice that is visited row by row is not copied for each row.
 // A component that is not there reads 0, and writing it changes nothing.
-ghost use Prim.Native.Nat.{ℕ, _<_};
+ghost use Prim.Native.Nat.{ℕ, _≤_, _<_};
 ghost use mathlib.Core.Bool.{true, false};
 ghost use mathlib.Core.Path.{_≡_};
 ghost use lib.ListN.{length};
@@ -72,6 +72,29 @@ fn lowest(w: u64) -> usize
     ensures { λ r. ⌜ (r < 64) × (bit w r ≡ true) × ((j : ℕ) → j < r → bit w j ≡ false) ⌝ }
 {
     u64::trailing_zeros(w) as usize
+}
+
+// The place of the highest bit of a word that is not 0.
+fn highest(w: u64) -> usize
+    requires { ⌜ 0 < w ⌝ }
+    ensures { λ r. ⌜ (r < 64) × (bit w r ≡ true) × ((j : ℕ) → r < j → bit w j ≡ false) ⌝ }
+{
+    BITS - 1 - u64::leading_zeros(w) as usize
+}
+
+// The position of the last component that the slice has, 0 where it has none.
+pub fn last_row(words: &[u64; slice::WORDS]) -> usize
+    ensures { λ r. ⌜ (r ≤ size) × (0 < r → inWords (now (words .entry)) r ≡ true) × ((i : ℕ) → r < i → inWords (now (words .entry)) i ≡ false) ⌝ }
+{
+    let mut k = slice::WORDS;
+    while 0 < k {
+        let w = words[k - 1];
+        if w != 0 {
+            return BITS * (k - 1) + highest(w) + 1;
+        }
+        k -= 1;
+    }
+    0
 }
 
 // The position of the uppermost component that exactly one of two slices has, 0 where they have the same.

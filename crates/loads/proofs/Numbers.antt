@@ -29,7 +29,7 @@ use Rattle.loads.specs.steps.Stores.{Rows, Zeros, planeWord, withWords, 
 use Rattle.loads.proofs.Gathering.{plane-past}
 use Rattle.loads.proofs.Placing.{length-words, words-same, words-after, words-before}
 
-none-stored : (n k : ℕ) → _≡_ {A = ℕ} (getD (replicate n 0) k 0) 0
+pub none-stored : (n k : ℕ) → _≡_ {A = ℕ} (getD (replicate n 0) k 0) 0
 none-stored zero k = refl
 none-stored (suc n) zero = refl
 none-stored (suc n) (suc k) = none-stored n k

@@ -190,7 +190,8 @@ pub fn sign_columns(columns: &[u64]) -> usize
 
 // The end that row i has after a load of a column of ends, read from its byte.
 pub fn end_at(column: &[u8], i: usize) -> u32
-    ensures { λ r. ⌜ r ≡ loadedRow 1 (now (column .entry)) i ⌝ }
+    ensures end { λ r. ⌜ r ≡ loadedRow 1 (now (column .entry)) i ⌝ }
+    ensures small { λ r. ⌜ r < 256 ⌝ }
 {
     if slice::SIZE < column.len() {
         return 0;
