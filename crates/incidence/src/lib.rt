@@ -5,6 +5,7 @@ ghost use mathlib.Core.Bool.{_&&_, _||_};
 ghost use mathlib.Core.Path.{_≡_};
 ghost use lib.Dec.{eqb};
 ghost use lib.ListN.{length};
+ghost use Rattle.lent.specs.steps.Rows.{NonePast};
 ghost use Rattle.rowset.specs.Sets.{either};
 ghost use Rattle.rowset.specs.Words.{inWords};
 ghost use Rattle.table.specs.Loads.{loadedRow};
@@ -14,6 +15,20 @@ ghost use Rattle.incidence.specs.Rows.{placesAt, rowsAt, MatchedEach, By
 const BITS: usize = 64;
 
 const COLUMN: usize = 16;
+
+// The words that a column takes for the rows of a slice: one, four or sixteen.
+pub fn words_of(rows: &[u64; COLUMN]) -> usize
+    ensures { λ r. ⌜ (r ≤ 16) × NonePast r (inWords (now (rows .entry))) ⌝ }
+{
+    let end = inplace::last_row(rows);
+    if end <= BITS {
+        return 1;
+    }
+    if end <= 4 * BITS {
+        return 4;
+    }
+    COLUMN
+}
 
 // Row i comes to column v, of so many words, if it has a place there.
 fn put_at(at: &mut [u64], words: usize, v: u32, i: usize)
