@@ -1,20 +1,20 @@
 // MST1, the tree builder: it grows a tree from the uppermost row of least weight, by the uppermost row of least weight among those with exactly one end in the fragment.
+// What MATCH gives for a vertex is read from the rows that hold each vertex, which one pass over the rows finds (crate incidence).
 ghost use mathlib.Core.Path.{_≡_};
-ghost use mathlib.Core.Bool.{true};
-ghost use Prim.Native.Nat.{_-_, _≤_};
-ghost use lib.ListN.{length};
-ghost use Rattle.rowset.specs.Columns.{inColumns};
+ghost use mathlib.Core.Bool.{Bool, true};
+ghost use Prim.Native.Nat.{ℕ, _-_, _≤_};
+ghost use Rattle.incidence.specs.Rows.{Blank, EachMatch};
+ghost use Rattle.lent.specs.steps.Rows.{NonePast};
 ghost use Rattle.rowset.specs.Integers.{integerIn, signed};
-ghost use Rattle.rowset.specs.Searches.{equalTo, smallest};
-ghost use Rattle.rowset.specs.Sets.{empty, either, uppermost};
-ghost use Rattle.rowset.specs.Words.{inWords};
+ghost use Rattle.rowset.specs.Searches.{smallest};
+ghost use Rattle.rowset.specs.Sets.{empty, uppermost};
 ghost use Rattle.matrix.specs.Matrix.{matrixColumn};
-ghost use Rattle.slice.specs.Slices.{size, component, written};
+ghost use Rattle.slice.specs.Slices.{size, component};
 ghost use Rattle.star.specs.Mst1.{mst1, mst1Marks};
 ghost use Rattle.star.specs.Call.{tableOf, callOf, workOf};
 ghost use Rattle.table.specs.Loads.{loadedRow};
 ghost use Rattle.table.specs.Tables.{width};
-ghost use Rattle.mst1.specs.steps.Growth.{endsIn, integersAfter, graphIn, loadedGraph, Grows, Reached, meeting};
+ghost use Rattle.mst1.specs.steps.Growth.{integersAfter, graphBy, loadedGraph, Grows, Reached, Begun};
 ghost use Rattle.mst1.specs.Answers.{answerOf};
 use refusal::Outcome;
 use refusal::Refusal;
@@ -23,9 +23,6 @@ use slice::Slice;
 use slice::WORDS;
 use slice::rows::rows_to;
 use slice::words::rows_in_use;
-
-// The number of columns on the left that MATCH leaves out of lent columns of ends: a byte stands in the last eight.
-pub const UPPER: usize = 24;
 
 // What MST1 answers: the tree's weight, as the 64 bits that stand for it in two's complement, or the refusal.
 pub enum Built {
@@ -40,10 +37,10 @@ pub struct Grown {
 }
 
 // A fragment: the rows whose left end is in it, the rows whose right end is, and the chosen rows.
-pub struct Fragment {
-    pub lefts: Slice,
-    pub rights: Slice,
-    pub chosen: Slice,
+struct Fragment {
+    lefts: Slice,
+    rights: Slice,
+    chosen: Slice,
 }
 
 // FND of MIN over the columns after the first ones: the uppermost row of x of least weight, 0 where x has no row.
@@ -51,23 +48,6 @@ pub fn cheapest(weight: &[u64], first: usize, x: Slice) -> usize
     ensures { λ r. ⌜ r ≡ uppermost size (smallest size (integerIn (matrixColumn (now (weight .entry))) first (width - first)) (component x)) ⌝ }
 {
     slice::fnd(extremes::min_from(weight, first, x))
-}
-
-// x, and with it the rows that hold v, by MATCH over the columns after the first ones.
-pub fn reach(x: Slice, ends: &[u64], first: usize, v: u32, rows: Slice) -> Slice
-    ensures { λ r. ⌜ component r ≡ either (component x) (equalTo (inColumns (matrixColumn (now (ends .entry))) first (width - first)) v (component rows)) ⌝ }
-{
-    let mut r = x.words;
-    matching::match_into(&mut r, ends, first, v, &rows.words);
-    Slice { words: r }
-}
-
-// The rows that hold v, by MATCH, come to those of x, in place.
-fn reach_in(x: &mut [u64; WORDS], ends: &[u64], v: u32, rows: &[u64; WORDS])
-    ensures rows { λ r. ⌜ inWords (now (x .exit)) ≡ either (inWords (now (x .entry))) (equalTo (endsIn (now (ends .entry))) v (inWords (now (rows .entry)))) ⌝ }
-    ensures size { λ r. ⌜ length (now (x .exit)) ≡ 16 ⌝ }
-{
-    matching::match_into(x, ends, UPPER, v, rows);
 }
 
 // No rows: the whole tree of one vertex, or what is left where there is no tree.
@@ -81,45 +61,48 @@ fn nothing(whole: bool) -> Grown
     }
 }
 
-// The fragment of row i: both its ends.
-pub fn begin(left: &[u64], right: &[u64], rows: Slice, i: usize) -> Fragment
-    ensures lefts { λ r. ⌜ component (r .lefts) ≡ meeting (endsIn (now (left .entry))) (endsIn (now (left .entry)) i) (endsIn (now (right .entry)) i) (component rows) ⌝ }
-    ensures rights { λ r. ⌜ component (r .rights) ≡ meeting (endsIn (now (right .entry))) (endsIn (now (left .entry)) i) (endsIn (now (right .entry)) i) (component rows) ⌝ }
-    ensures chosen { λ r. ⌜ component (r .chosen) ≡ written empty i true ⌝ }
+// The fragment of row i: both its ends. `left_at` and `right_at` have the rows that MATCH gives for each end, in columns of so many words.
+fn begin(
+    left: &[u8],
+    right: &[u8],
+    words: usize,
+    left_at: &[u64],
+    right_at: &[u64],
+    i: usize,
+) -> Fragment
+    ensures { λ r. ⌜ ((rows : ℕ → Bool) → EachMatch words (now («left_at» .entry)) (loadedRow 1 (now (left .entry))) rows → EachMatch words (now («right_at» .entry)) (loadedRow 1 (now (right .entry))) rows → Begun (loadedRow 1 (now (left .entry))) (loadedRow 1 (now (right .entry))) rows i (component (r .lefts)) (component (r .rights)) (component (r .chosen))) ⌝ }
 {
-    let u = lent::row_from(left, UPPER, i);
-    let v = lent::row_from(right, UPPER, i);
+    let u = loads::end_at(left, i);
+    let v = loads::end_at(right, i);
+    let mut lefts = [0u64; WORDS];
+    incidence::join_at(&mut lefts, left_at, words, u);
+    incidence::join_at(&mut lefts, left_at, words, v);
+    let mut rights = [0u64; WORDS];
+    incidence::join_at(&mut rights, right_at, words, u);
+    incidence::join_at(&mut rights, right_at, words, v);
     Fragment {
-        lefts: reach(
-            matching::match_from(left, UPPER, u, rows),
-            left,
-            UPPER,
-            v,
-            rows,
-        ),
-        rights: reach(
-            matching::match_from(right, UPPER, u, rows),
-            right,
-            UPPER,
-            v,
-            rows,
-        ),
+        lefts: Slice { words: lefts },
+        rights: Slice { words: rights },
         chosen: slice::put(Slice::empty(), i, true),
     }
 }
 
-// The tree of n vertices that grows from a fragment of two. The rows with exactly one end in the fragment are those that only one of `lefts` and `rights` has. The three slices are changed in place.
+// The tree of n vertices that grows from a fragment of two. The rows with exactly one end in the fragment are those that only one of `lefts` and `rights` has; with each new vertex come the rows that
+// MATCH gives for it, read from `left_at` and `right_at`. The three slices are changed in place.
 fn grow_from(
-    left: &[u64],
-    right: &[u64],
+    left: &[u8],
+    right: &[u8],
     weight: &[u64],
     first: usize,
     rows: Slice,
     n: usize,
+    words: usize,
+    left_at: &[u64],
+    right_at: &[u64],
     start: Fragment,
 ) -> Grown
-    requires { ⌜ (2 ≤ n) × Reached (graphIn (now left) (now right) rows n) (integersAfter (now weight) first) 2 (component (start .lefts)) (component (start .rights)) (component (start .chosen)) ⌝ }
-    ensures { λ r. ⌜ Grows (graphIn (now (left .entry)) (now (right .entry)) rows n) (integersAfter (now (weight .entry)) first) (r .whole) (component (r .chosen)) ⌝ }
+    requires { ⌜ (2 ≤ n) × EachMatch words (now «left_at») (loadedRow 1 (now left)) (component rows) × EachMatch words (now «right_at») (loadedRow 1 (now right)) (component rows) × Reached (graphBy (loadedRow 1 (now left)) (loadedRow 1 (now right)) rows n) (integersAfter (now weight) first) 2 (component (start .lefts)) (component (start .rights)) (component (start .chosen)) ⌝ }
+    ensures { λ r. ⌜ Grows (graphBy (loadedRow 1 (now (left .entry))) (loadedRow 1 (now (right .entry))) rows n) (integersAfter (now (weight .entry)) first) (r .whole) (component (r .chosen)) ⌝ }
 {
     let mut lefts = start.lefts.words;
     let mut rights = start.rights.words;
@@ -135,12 +118,12 @@ fn grow_from(
             return nothing(false);
         }
         let far = if inplace::row_in(&lefts, i) {
-            lent::row_from(right, UPPER, i)
+            loads::end_at(right, i)
         } else {
-            lent::row_from(left, UPPER, i)
+            loads::end_at(left, i)
         };
-        reach_in(&mut lefts, left, far, &rows.words);
-        reach_in(&mut rights, right, far, &rows.words);
+        incidence::join_at(&mut lefts, left_at, words, far);
+        incidence::join_at(&mut rights, right_at, words, far);
         inplace::put_row(&mut chosen, i);
         k += 1;
     }
@@ -150,16 +133,20 @@ fn grow_from(
     }
 }
 
-// The tree of n vertices over the rows of a slice, whose ends and weights are lent as columns; of the weights the first columns are left out. For one vertex no row is chosen.
-pub fn grow_tree(
-    left: &[u64],
-    right: &[u64],
+// The tree of n vertices over the rows of a slice. `left_at` and `right_at` are blank words, for columns of so many words, in which each row has a place. For one vertex no row is chosen.
+fn grow_in(
+    left: &[u8],
+    right: &[u8],
     weight: &[u64],
     first: usize,
     rows: Slice,
     n: usize,
+    words: usize,
+    left_at: &mut [u64],
+    right_at: &mut [u64],
 ) -> Grown
-    ensures { λ r. ⌜ Grows (graphIn (now (left .entry)) (now (right .entry)) rows n) (integersAfter (now (weight .entry)) first) (r .whole) (component (r .chosen)) ⌝ }
+    requires { ⌜ Blank words (now «left_at») × Blank words (now «right_at») × NonePast words (component rows) ⌝ }
+    ensures { λ r. ⌜ Grows (graphBy (loadedRow 1 (now (left .entry))) (loadedRow 1 (now (right .entry))) rows n) (integersAfter (now (weight .entry)) first) (r .whole) (component (r .chosen)) ⌝ }
 {
     if n < 2 {
         return nothing(n == 1);
@@ -168,23 +155,58 @@ pub fn grow_tree(
     if i == 0 {
         return nothing(false);
     }
-    let start = begin(left, right, rows, i);
-    grow_from(left, right, weight, first, rows, n, start)
+    incidence::match_each(left, right, &rows.words, words, left_at, right_at);
+    let start = begin(left, right, words, left_at, right_at, i);
+    grow_from(
+        left,
+        right,
+        weight,
+        first,
+        rows,
+        n,
+        words,
+        left_at,
+        right_at,
+        start,
+    )
 }
 
-// The tree of n vertices over the rows of a slice among the first m, grown on the columns as they are loaded. MIN leaves out the columns on the left that only repeat the sign.
+// The tree of n vertices over the rows of a slice, with the ends that the byte columns hold; the weights are lent as columns, of which the first are left out. The columns of rows are as wide as the rows ask.
+pub fn grow_tree(
+    left: &[u8],
+    right: &[u8],
+    weight: &[u64],
+    first: usize,
+    rows: Slice,
+    n: usize,
+) -> Grown
+    ensures { λ r. ⌜ Grows (graphBy (loadedRow 1 (now (left .entry))) (loadedRow 1 (now (right .entry))) rows n) (integersAfter (now (weight .entry)) first) (r .whole) (component (r .chosen)) ⌝ }
+{
+    let words = incidence::words_of(&rows.words);
+    if words <= 1 {
+        let mut a = [0u64; 256];
+        let mut b = [0u64; 256];
+        return grow_in(left, right, weight, first, rows, n, 1, &mut a, &mut b);
+    }
+    if words <= 4 {
+        let mut a = [0u64; 1024];
+        let mut b = [0u64; 1024];
+        return grow_in(left, right, weight, first, rows, n, 4, &mut a, &mut b);
+    }
+    let mut a = [0u64; 4096];
+    let mut b = [0u64; 4096];
+    grow_in(left, right, weight, first, rows, n, 16, &mut a, &mut b)
+}
+
+// The tree of n vertices over the rows of a slice among the first m, by the weights as they are loaded. MIN leaves out the columns on the left that only repeat the sign.
 pub fn tree_of(n: u32, m: usize, rows: Slice, left: &[u8], right: &[u8], weight: &[u8]) -> Grown
     ensures { λ r. ⌜ Grows (loadedGraph n m (component rows) (now (left .entry)) (now (right .entry))) (λ i. signed (loadedRow 4 (now (weight .entry)) i)) (r .whole) (component (r .chosen)) ⌝ }
 {
-    let mut lefts = [0u64; loads::ALL];
-    loads::put_ends(left, &mut lefts);
-    let mut rights = [0u64; loads::ALL];
-    loads::put_ends(right, &mut rights);
     let mut weights = [0u64; loads::ALL];
     loads::put_prices(weight, &mut weights);
     let first = loads::sign_columns(&weights);
     let used = slice::rows::rows_among(m, rows);
-    grow_tree(&lefts, &rights, &weights, first, used, n as usize)
+    grow_tree(left, right, &weights, first, used, n as usize)
 }
 
 // MST1 over a table of m rows, of which those of a slice are in use: the refusal, and the marks stay as they were; or the tree's weight, and the marks are 1 for each chosen row and 0 for every other.

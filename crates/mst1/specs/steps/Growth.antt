@@ -1,7 +1,7 @@
--- The graph that lent columns of ends and a slice of rows describe, the tree that grows on it, and the rows by which its fragment is known.
+-- The graph that columns of ends and a slice of rows describe, the tree that grows on it, and the rows by which its fragment is known.
 -- Assumes nothing.
 use Prim.Native.Nat.{ℕ, _-_, _≤_}
-use mathlib.Core.Bool.{Bool, not, _&&_}
+use mathlib.Core.Bool.{Bool, true, not, _&&_}
 use mathlib.Core.List.{List}
 use mathlib.Core.Option.{some}
 use mathlib.Core.Path.{_≡_}
@@ -9,11 +9,10 @@ use lib.IntN.{ℤ}
 use Rattle.graph.specs.Builder.{treeOf, tree}
 use Rattle.graph.specs.Graph.{Graph}
 use Rattle.matrix.specs.Matrix.{matrixColumn}
-use Rattle.rowset.specs.Columns.{inColumns}
 use Rattle.rowset.specs.Integers.{integerIn}
 use Rattle.rowset.specs.Searches.{equalTo}
-use Rattle.rowset.specs.Sets.{upTo, both, either}
-use Rattle.slice.specs.Slices.{size, component}
+use Rattle.rowset.specs.Sets.{empty, upTo, both, either}
+use Rattle.slice.specs.Slices.{size, component, written}
 use Rattle.slice.specs.declared.Slice.{Slice}
 use Rattle.star.specs.Mst1.{chosenRows}
 use Rattle.star.specs.Refusals.{isNone}
@@ -24,16 +23,9 @@ use Rattle.table.specs.Tables.{width}
 abbrev pub graphBy : (ℕ → ℕ) → (ℕ → ℕ) → Slice → ℕ → Graph
 graphBy a b rows n = record { n = n; m = size; a = a; b = b; rows = component rows }
 
--- the ends in lent columns, those in the last eight, and the integers in the columns after the first ones
-abbrev pub endsIn : List ℕ → ℕ → ℕ
-endsIn words = inColumns (matrixColumn words) 24 (width - 24)
-
+-- the integers in lent columns after the first ones
 abbrev pub integersAfter : List ℕ → ℕ → ℕ → ℤ
 integersAfter words first = integerIn (matrixColumn words) first (width - first)
-
--- the graph whose ends the left and the right columns hold
-abbrev pub graphIn : (left right : List ℕ) → Slice → ℕ → Graph
-graphIn left right rows n = graphBy (endsIn left) (endsIn right) rows n
 
 -- the graph of a left and a right column as they are loaded, over the rows among the first m
 abbrev pub loadedGraph : (n m : ℕ) → (rows : ℕ → Bool) → (left right : List ℕ) → Graph
@@ -60,3 +52,9 @@ pub record Reached (g : Graph) (w : ℕ → ℤ) (k : ℕ) (lefts rights chosen 
 -- the rows of a set whose end on one side is u or v
 abbrev pub meeting : (ℕ → ℕ) → ℕ → ℕ → (ℕ → Bool) → ℕ → Bool
 meeting side u v rows = either (equalTo side u rows) (equalTo side v rows)
+
+-- the slices of the fragment of row i of a set of rows with these ends
+pub record Begun (a b : ℕ → ℕ) (rows : ℕ → Bool) (i : ℕ) (lefts rights chosen : ℕ → Bool) : Type 0 where
+  pub left : lefts ≡ meeting a (a i) (b i) rows
+  pub right : rights ≡ meeting b (a i) (b i) rows
+  pub one : chosen ≡ written empty i true
