@@ -1,21 +1,20 @@
 // MatrixPath on the machine: a walk over the marked rows from the source vertex, which fills a path matrix of its own; the caller's matrix is written once nothing can be refused any more.
-ghost use mathlib.Core.Bool.{true, cond};
+// What MATCH gives for a vertex is read from the rows that hold each vertex, which one pass over the rows finds (crate incidence).
+ghost use mathlib.Core.Bool.{Bool, true, cond};
 ghost use mathlib.Core.Path.{_≡_};
 ghost use mathlib.Core.List.{[], _∷_, _++_};
-ghost use Prim.Native.Nat.{_≤_};
+ghost use Prim.Native.Nat.{ℕ, _≤_};
 ghost use lib.ListN.{length, take, drop};
 ghost use Rattle.refusal.specs.Outcomes.{refusalOf};
 ghost use Rattle.matrix.specs.Matrix.{matrixColumn, withColumn};
-ghost use Rattle.lent.specs.steps.Rows.{rowsOf};
-ghost use Rattle.rowset.specs.Searches.{equalTo};
-ghost use Rattle.rowset.specs.Sets.{either};
-ghost use Rattle.rowset.specs.Words.{inWords};
+ghost use Rattle.incidence.specs.Rows.{Blank, EachMatch};
+ghost use Rattle.lent.specs.steps.Rows.{NonePast};
 ghost use Rattle.slice.specs.Slices.{size, component, written};
 ghost use Rattle.star.specs.MatrixPath.{matrixPath, matrixAfter};
 ghost use Rattle.star.specs.Refusals.{wrongSource, fewWords, unreached, beforeWalk, refusal};
 ghost use Rattle.star.specs.Call.{tableOf, callOf, workOf};
 ghost use Rattle.table.specs.Loads.{loadedRow};
-ghost use Rattle.path.specs.steps.Walks.{endsIn, walk, claimWalk, ownPath, ownAfter};
+ghost use Rattle.path.specs.steps.Walks.{walk, Walked, claimWalk, ownPath, ownAfter};
 use checks::first;
 use checks::refused_at;
 use checks::refused_if;
@@ -29,17 +28,6 @@ use slice::words::rows_in_use;
 const WORDS: usize = 16;
 
 pub const ALL_WORDS: usize = 4080;
-
-// The number of columns on the left that are empty in a table of bytes.
-const UPPER: usize = 24;
-
-// The rows that hold v, by MATCH, come to those of x.
-fn reach(x: &mut [u64; WORDS], ends: &[u64], v: u32, rows: &[u64; WORDS])
-    ensures rows { λ r. ⌜ inWords (now (x .exit)) ≡ either (inWords (now (x .entry))) (equalTo (endsIn (now (ends .entry))) v (rowsOf (now (rows .entry)))) ⌝ }
-    ensures size { λ r. ⌜ length (now (x .exit)) ≡ 16 ⌝ }
-{
-    matching::match_into(x, ends, UPPER, v, rows);
-}
 
 // The first of two vertices where the test holds, else the second.
 fn choose(test: bool, first: u32, second: u32) -> u32
@@ -60,27 +48,25 @@ fn lead(own: &mut [u64], i: usize, u: u32, v: u32)
     matrix::put_component(own, v as usize, i);
 }
 
-// The walk, with the columns of ends as they stand after a load for MATCH. At each step the uppermost row with exactly one end reached is taken from that end to the other; such rows are those
-// that only one of `lefts`, the rows whose left end is reached, and `rights` has. Where there is none, the steps that are left change nothing. The three slices are changed in place.
-fn walk_loaded(
+// The walk, where `left_at` and `right_at` have the rows that MATCH gives for each end, in columns of so many words. At each step the uppermost row with exactly one end reached is taken from that end to
+// the other; such rows are those that only one of `lefts`, the rows whose left end is reached, and `rights` has. Where there is none, the steps that are left change nothing. The three slices are changed in place.
+fn walk_found(
     left: &[u8],
     right: &[u8],
-    left_ends: &[u64],
-    right_ends: &[u64],
-    rows: Slice,
+    words: usize,
+    left_at: &[u64],
+    right_at: &[u64],
     s: u32,
     n: u32,
     own: &mut [u64],
 ) -> Slice
-    requires { ⌜ (endsIn (now «left_ends») ≡ loadedRow 1 (now left)) × (endsIn (now «right_ends») ≡ loadedRow 1 (now right)) ⌝ }
-    ensures reached { λ r. ⌜ component r ≡ walk (loadedRow 1 (now (left .entry))) (loadedRow 1 (now (right .entry))) (component rows) s (now (own .entry)) n .reached ⌝ }
-    ensures words { λ r. ⌜ now (own .exit) ≡ walk (loadedRow 1 (now (left .entry))) (loadedRow 1 (now (right .entry))) (component rows) s (now (own .entry)) n .words ⌝ }
+    ensures { λ r. ⌜ ((rows : ℕ → Bool) → EachMatch words (now («left_at» .entry)) (loadedRow 1 (now (left .entry))) rows → EachMatch words (now («right_at» .entry)) (loadedRow 1 (now (right .entry))) rows → Walked (walk (loadedRow 1 (now (left .entry))) (loadedRow 1 (now (right .entry))) rows s (now (own .entry)) n) (component r) (now (own .exit))) ⌝ }
 {
     matrix::write_column(own, s as usize, Slice::empty());
     let mut lefts = [0u64; WORDS];
-    reach(&mut lefts, left_ends, s, &rows.words);
+    incidence::join_at(&mut lefts, left_at, words, s);
     let mut rights = [0u64; WORDS];
-    reach(&mut rights, right_ends, s, &rows.words);
+    incidence::join_at(&mut rights, right_at, words, s);
     let mut reached = [0u64; WORDS];
     inplace::put_row(&mut reached, s as usize);
     let mut k = 0;
@@ -95,24 +81,52 @@ fn walk_loaded(
         let u = choose(ahead, a, b);
         let v = choose(ahead, b, a);
         lead(own, i, u, v);
-        reach(&mut lefts, left_ends, v, &rows.words);
-        reach(&mut rights, right_ends, v, &rows.words);
+        incidence::join_at(&mut lefts, left_at, words, v);
+        incidence::join_at(&mut rights, right_at, words, v);
         inplace::put_row(&mut reached, v as usize);
         k += 1;
     }
     Slice { words: reached }
 }
 
-// The walk of n steps from vertex s over rows whose ends stand in byte columns: the vertices reached.
+// The walk over the rows of a slice. `left_at` and `right_at` are blank words, for columns of so many words, in which each row has a place.
+fn walk_in(
+    left: &[u8],
+    right: &[u8],
+    rows: Slice,
+    s: u32,
+    n: u32,
+    words: usize,
+    left_at: &mut [u64],
+    right_at: &mut [u64],
+    own: &mut [u64],
+) -> Slice
+    requires { ⌜ Blank words (now «left_at») × Blank words (now «right_at») × NonePast words (component rows) ⌝ }
+    ensures { λ r. ⌜ Walked (walk (loadedRow 1 (now (left .entry))) (loadedRow 1 (now (right .entry))) (component rows) s (now (own .entry)) n) (component r) (now (own .exit)) ⌝ }
+{
+    incidence::match_each(left, right, &rows.words, words, left_at, right_at);
+    walk_found(left, right, words, left_at, right_at, s, n, own)
+}
+
+// The walk of n steps from vertex s over rows whose ends stand in byte columns: the vertices reached. The columns of rows are as wide as the rows ask.
 pub fn walk(left: &[u8], right: &[u8], rows: Slice, s: u32, n: u32, own: &mut [u64]) -> Slice
     ensures reached { λ r. ⌜ component r ≡ walk (loadedRow 1 (now (left .entry))) (loadedRow 1 (now (right .entry))) (component rows) s (now (own .entry)) n .reached ⌝ }
     ensures words { λ r. ⌜ now (own .exit) ≡ walk (loadedRow 1 (now (left .entry))) (loadedRow 1 (now (right .entry))) (component rows) s (now (own .entry)) n .words ⌝ }
 {
-    let mut lefts = [0u64; loads::ALL];
-    loads::put_ends(left, &mut lefts);
-    let mut rights = [0u64; loads::ALL];
-    loads::put_ends(right, &mut rights);
-    walk_loaded(left, right, &lefts, &rights, rows, s, n, own)
+    let words = incidence::words_of(&rows.words);
+    if words <= 1 {
+        let mut a = [0u64; 256];
+        let mut b = [0u64; 256];
+        return walk_in(left, right, rows, s, n, 1, &mut a, &mut b, own);
+    }
+    if words <= 4 {
+        let mut a = [0u64; 1024];
+        let mut b = [0u64; 1024];
+        return walk_in(left, right, rows, s, n, 4, &mut a, &mut b, own);
+    }
+    let mut a = [0u64; 4096];
+    let mut b = [0u64; 4096];
+    walk_in(left, right, rows, s, n, 16, &mut a, &mut b, own)
 }
 
 // Cause 10: the smallest vertex of 1 to n that is not reached.

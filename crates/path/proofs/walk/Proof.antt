@@ -1,17 +1,56 @@
--- `path::walk` meets its contract: the columns of zeros hold the ends once these are loaded. Assumes nothing.
+-- `path::walk` meets its contract: words of 0 are blank, and as many are taken as the rows ask. Assumes nothing.
+use native.Mathlib.Omega.{arith}
 use borrow.Author.Needs.{needs}
-use Rattle.loads.proofs.Numbers.{zeros, length-put}
+use Rattle.incidence.proofs.Laws.{blank-zeros}
+use Rattle.rowset.specs.Words.{inWords}
+use Rattle.slice.specs.Slices.{component, bit}
 use Rattle.path.proofs.walk.Statement.{statement}
 use Rattle.path.proofs.walk.Tie as tie
+
+walk-in-requires : tie.Need-walk-in-requires
+unfolding inWords component bit
+walk-in-requires c κs =
+    let words = c .before .before .before .before .words-of .ensures in
+    (blank-zeros 1 256 (omega arith) (omega arith), blank-zeros 1 256 (omega arith) (omega arith), λ i h. words .1 i (omega (arith, c .before .before .before .if1 .taken)))
+
+walk-in-requires-2 : tie.Need-walk-in-requires-2
+unfolding inWords component bit
+walk-in-requires-2 c κs =
+    let words = c .before .before .before .before .before .words-of .ensures in
+    (blank-zeros 4 1024 (omega arith) (omega arith), blank-zeros 4 1024 (omega arith) (omega arith), λ i h. words .1 i (omega (arith, c .before .before .before .if2 .taken)))
+
+walk-in-requires-3 : tie.Need-walk-in-requires-3
+unfolding inWords component bit
+walk-in-requires-3 c κs =
+    let words = c .before .before .before .before .before .words-of .ensures in
+    (blank-zeros 16 4096 (omega arith) (omega arith), blank-zeros 16 4096 (omega arith) (omega arith), λ i h. words .1 i (omega (arith, words .0)))
+
+returns : tie.Need-returns
+returns c = let w = c .before .before .before .before .walk-in .ensures in (w .vertices, w .paths)
+
+returns-2 : tie.Need-returns-2
+returns-2 c = let w = c .before .before .before .before .walk-in2 .ensures in (w .vertices, w .paths)
+
+returns-3 : tie.Need-returns-3
+returns-3 c = let w = c .before .before .before .before .walk-in3 .ensures in (w .vertices, w .paths)
 
 pub walk-spec : {M : Type 1} → statement M
 walk-spec =
     tie.close
     (tie.spec
     (λ c κs. search needs)
-    (λ c κs. search needs)
-    (λ c. search (needs, length-put _ _ 1 (c .before .before .before .put-ends .ensures .0) zeros))
-    (λ c. search (needs, length-put _ _ 1 (c .before .before .put-ends2 .ensures .0) zeros))
-    (λ c κs. (c .before .before .before .before .before .put-ends .ensures .1 .0 zeros, c .before .before .before .put-ends2 .ensures .1 .0 zeros))
     (λ c. search needs)
-    (λ c. search needs))
+    (λ c. search needs)
+    walk-in-requires
+    (λ c. search needs)
+    returns
+    (λ c. search needs)
+    (λ c. search needs)
+    walk-in-requires-2
+    (λ c. search needs)
+    returns-2
+    (λ c. search needs)
+    (λ c. search needs)
+    walk-in-requires-3
+    (λ c. search needs)
+    returns-3)

@@ -1,10 +1,10 @@
 -- The walk of MatrixPath as the machine makes it: three slices and the words of a path matrix, from vertex to vertex.
 -- a and b give the ends of each row, and T is the set of rows that the walk may use. Assumes nothing.
-use Prim.Native.Nat.{ℕ, zero, suc, _-_}
+use Prim.Native.Nat.{ℕ, zero, suc}
 use mathlib.Core.Bool.{Bool, true, cond}
 use mathlib.Core.List.{List}
 use mathlib.Core.Option.{Option}
-use Rattle.rowset.specs.Columns.{inColumns}
+use mathlib.Core.Path.{_≡_}
 use Rattle.rowset.specs.Searches.{equalTo}
 use Rattle.rowset.specs.Sets.{empty, upTo, both, either, oneOf, uppermost}
 use Rattle.matrix.specs.Matrix.{matrixColumn, withColumn}
@@ -14,7 +14,6 @@ use Rattle.star.specs.Call.{Call}
 use Rattle.star.specs.MatrixPath.{matrixOr}
 use Rattle.star.specs.Refusals.{unreached, beforeWalk, orElse, refusal}
 use Rattle.table.specs.Loads.{loadedRow}
-use Rattle.table.specs.Tables.{width}
 use Rattle.claim.specs.Claims.{claimRows}
 
 -- the rows of T whose left end is reached and those whose right end is, the vertices reached, and the words of the path matrix
@@ -23,10 +22,6 @@ pub record State : Type 0 where
   pub rights : ℕ → Bool
   pub reached : ℕ → Bool
   pub words : List ℕ
-
--- the ends in a table of bytes, of which the words are given: the numbers in its last eight columns
-abbrev pub endsIn : List ℕ → ℕ → ℕ
-endsIn words = inColumns (matrixColumn words) 24 (width - 24)
 
 -- no vertex is reached
 unfoldable pub nowhere : List ℕ → State
@@ -64,6 +59,11 @@ steps a b T x (suc k) = step a b T (steps a b T x k)
 -- the walk of k steps from vertex s, whose path is empty
 unfoldable pub walk : (ℕ → ℕ) → (ℕ → ℕ) → (ℕ → Bool) → ℕ → List ℕ → ℕ → State
 walk a b T s words = steps a b T (arrive a b T (nowhere words) s empty)
+
+-- the vertices that a walk reaches and the words of the path matrix after it
+pub record Walked (x : State) (reached : ℕ → Bool) (words : List ℕ) : Type 0 where
+  pub vertices : reached ≡ x .reached
+  pub paths : words ≡ x .words
 
 -- the walk of n steps from vertex s over those of the rows among the first m that a claim marks, with the ends that the byte columns hold
 abbrev pub claimWalk : (n m : ℕ) → (rows : ℕ → Bool) → (left right mark : List ℕ) → ℕ → List ℕ → State
