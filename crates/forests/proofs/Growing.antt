@@ -1,9 +1,11 @@
 -- The growing of a forest by the slices that the code keeps: the rows whose left and whose right end is in the fragment, and the rows chosen.
--- Main statements: the slices before the first row and with one row more (grew-none, grew-more); where no row is left, and after n rows, the forest is whole (grew-ended, grew-whole).
+-- Main statements: what the columns of two vertices bring in (joined-both); the slices before the first row and with one row more (grew-none, grew-more);
+-- where no row is left, and after n rows, the forest is whole (grew-ended, grew-whole).
 -- Assumes nothing.
 use Prim.Native.Nat.{ℕ, zero, suc, _+_, _≤_}
 use lib.IntN.{ℤ}
 use mathlib.Core.Bool.{Bool, true, false, not, xor, _&&_, and-false}
+use mathlib.Core.List.{List}
 use mathlib.Core.Path.{_≡_, refl, sym, ap, _∙_, fun-ext}
 use native.Mathlib.Numerals.{add-one}
 use native.Mathlib.Omega.{arith}
@@ -11,6 +13,7 @@ use Rattle.forest.proofs.Growing.{grown-ended}
 use Rattle.forest.specs.Growing.{misses, nextRow, withRow, grown, grownForest}
 use Rattle.graph.specs.Builder.{Fragment, cheapest}
 use Rattle.graph.specs.Graph.{Graph, crosses, withEnds}
+use Rattle.incidence.specs.Rows.{rowsAt, EachMatch}
 use Rattle.mst1.proofs.Growth.{written-in}
 use Rattle.mst1.proofs.Steps.{touching-put, touching-one}
 use Rattle.mst1.specs.steps.Growth.{graphBy, touching}
@@ -35,6 +38,11 @@ touching-neither g Q = fun-ext (λ i. go (g .rows i) (Q (g .a i)) (Q (g .b i)))
     go true true z = refl
     go true false z = refl
     go false y z = refl
+
+-- the columns of two vertices, joined one after the other, bring in the rows that MATCH gives for either
+pub joined-both : (q : ℕ) (l : List ℕ) (f : ℕ → ℕ) (rows before : ℕ → Bool) (u v : ℕ) {first second : ℕ → Bool} → EachMatch q l f rows → first ≡ either before (rowsAt q l u) → second ≡ either first (rowsAt q l v)
+    → second ≡ either (either before (equalTo f u rows)) (equalTo f v rows)
+joined-both q l f rows before u v each one two = rw (two, one, each u, each v)
 
 -- the first of two positions by its cases
 pub first-found : {r x : ℕ} (y : ℕ) → r ≡ x → (r ≡ 0 → ⊥) → r ≡ firstOf x y

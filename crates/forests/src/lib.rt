@@ -1,13 +1,16 @@
-// The forests of runs of rows: each grows as MST1 grows a tree, by the same searches, and where no row crosses it begins anew.
+// The forests of runs of rows: each grows as MST1 grows a tree, by the same steps, and where no row crosses it begins anew.
 ghost use mathlib.Core.Path.{_≡_};
 ghost use Rattle.forest.specs.Districts.{forests};
 ghost use Rattle.forest.specs.Growing.{grownForest};
-ghost use Rattle.mst1.specs.steps.Growth.{endsIn, integersAfter, graphIn};
-ghost use Rattle.rowset.specs.Searches.{equalTo, smallest};
-ghost use Rattle.rowset.specs.Sets.{upTo, both, either, oneOf, without, firstOf, uppermost};
+ghost use Rattle.incidence.specs.Rows.{Blank, EachMatch};
+ghost use Rattle.lent.specs.steps.Rows.{NonePast};
+ghost use Rattle.mst1.specs.steps.Growth.{graphBy, integersAfter};
+ghost use Rattle.rowset.specs.Searches.{smallest};
+ghost use Rattle.rowset.specs.Sets.{upTo, both, oneOf, without, firstOf, uppermost};
 ghost use Rattle.slice.specs.Slices.{size, component};
-use mst1::UPPER;
+ghost use Rattle.table.specs.Loads.{loadedRow};
 use slice::Slice;
+use slice::WORDS;
 use slice::difference::without;
 use slice::rows::rows_to;
 
@@ -25,43 +28,102 @@ fn next_row(weight: &[u64], first: usize, rows: Slice, lefts: Slice, rights: Sli
     mst1::cheapest(weight, first, without(without(rows, lefts), rights))
 }
 
-// x, and with it the rows that hold u or v.
-fn reach_both(x: Slice, ends: &[u64], u: u32, v: u32, rows: Slice) -> Slice
-    ensures { λ r.
-        let side = endsIn (now (ends .entry)) in
-        ⌜ component r ≡ either (either (component x) (equalTo side u (component rows))) (equalTo side v (component rows)) ⌝ }
+// The forest of the rows of a slice; of the weights the first columns are left out. It has at most n rows. The columns of `left_at` and `right_at`, of so many words, are the rows whose left and whose right end is each vertex. The three slices are changed in place.
+fn grow_forest(
+    left: &[u8],
+    right: &[u8],
+    weight: &[u64],
+    first: usize,
+    rows: Slice,
+    n: usize,
+    words: usize,
+    left_at: &[u64],
+    right_at: &[u64],
+) -> Slice
+    requires { ⌜ EachMatch words (now «left_at») (loadedRow 1 (now left)) (component rows) × EachMatch words (now «right_at») (loadedRow 1 (now right)) (component rows) ⌝ }
+    ensures { λ f. ⌜ component f ≡ grownForest (graphBy (loadedRow 1 (now (left .entry))) (loadedRow 1 (now (right .entry))) rows n) (integersAfter (now (weight .entry)) first) (component rows) ⌝ }
 {
-    mst1::reach(mst1::reach(x, ends, UPPER, u, rows), ends, UPPER, v, rows)
+    let mut lefts = [0u64; WORDS];
+    let mut rights = [0u64; WORDS];
+    let mut chosen = [0u64; WORDS];
+    let mut k = 0;
+    while k < n {
+        let i = next_row(
+            weight,
+            first,
+            rows,
+            Slice { words: lefts },
+            Slice { words: rights },
+        );
+        if i == 0 {
+            return Slice { words: chosen };
+        }
+        let u = loads::end_at(left, i);
+        let v = loads::end_at(right, i);
+        incidence::join_at(&mut lefts, left_at, words, u);
+        incidence::join_at(&mut lefts, left_at, words, v);
+        incidence::join_at(&mut rights, right_at, words, u);
+        incidence::join_at(&mut rights, right_at, words, v);
+        inplace::put_row(&mut chosen, i);
+        k += 1;
+    }
+    Slice { words: chosen }
 }
 
-// The forest of the rows of a slice, whose ends and weights are lent as columns; of the weights the first columns are left out. It has at most n rows.
+// The same, where the columns are blank: the rows come to them first.
+fn forest_in(
+    left: &[u8],
+    right: &[u8],
+    weight: &[u64],
+    first: usize,
+    rows: Slice,
+    n: usize,
+    words: usize,
+    left_at: &mut [u64],
+    right_at: &mut [u64],
+) -> Slice
+    requires { ⌜ Blank words (now «left_at») × Blank words (now «right_at») × NonePast words (component rows) ⌝ }
+    ensures { λ f. ⌜ component f ≡ grownForest (graphBy (loadedRow 1 (now (left .entry))) (loadedRow 1 (now (right .entry))) rows n) (integersAfter (now (weight .entry)) first) (component rows) ⌝ }
+{
+    incidence::match_each(left, right, &rows.words, words, left_at, right_at);
+    grow_forest(
+        left,
+        right,
+        weight,
+        first,
+        rows,
+        n,
+        words,
+        left_at,
+        right_at,
+    )
+}
+
+// The same, with columns of one, four or sixteen words, as the rows need: `a` for the left ends and `b` for the right ones.
 fn forest_of(
-    left: &[u64],
-    right: &[u64],
+    left: &[u8],
+    right: &[u8],
     weight: &[u64],
     first: usize,
     rows: Slice,
     n: usize,
 ) -> Slice
-    ensures { λ f. ⌜ component f ≡ grownForest (graphIn (now (left .entry)) (now (right .entry)) rows n) (integersAfter (now (weight .entry)) first) (component rows) ⌝ }
+    ensures { λ f. ⌜ component f ≡ grownForest (graphBy (loadedRow 1 (now (left .entry))) (loadedRow 1 (now (right .entry))) rows n) (integersAfter (now (weight .entry)) first) (component rows) ⌝ }
 {
-    let mut lefts = Slice::empty();
-    let mut rights = Slice::empty();
-    let mut chosen = Slice::empty();
-    let mut k = 0;
-    while k < n {
-        let i = next_row(weight, first, rows, lefts, rights);
-        if i == 0 {
-            return chosen;
-        }
-        let u = lent::row_from(left, UPPER, i);
-        let v = lent::row_from(right, UPPER, i);
-        lefts = reach_both(lefts, left, u, v, rows);
-        rights = reach_both(rights, right, u, v, rows);
-        chosen = slice::put(chosen, i, true);
-        k += 1;
+    let words = incidence::words_of(&rows.words);
+    if words <= 1 {
+        let mut a = [0u64; 256];
+        let mut b = [0u64; 256];
+        return forest_in(left, right, weight, first, rows, n, 1, &mut a, &mut b);
     }
-    chosen
+    if words <= 4 {
+        let mut a = [0u64; 1024];
+        let mut b = [0u64; 1024];
+        return forest_in(left, right, weight, first, rows, n, 4, &mut a, &mut b);
+    }
+    let mut a = [0u64; 4096];
+    let mut b = [0u64; 4096];
+    forest_in(left, right, weight, first, rows, n, 16, &mut a, &mut b)
 }
 
 // The rows of a slice at positions p + 1 to q.
@@ -71,17 +133,17 @@ fn run_of(rows: Slice, p: usize, q: usize) -> Slice
     slice::and(rows, without(rows_to(q), rows_to(p)))
 }
 
-// The forests of the runs that have these ends, of the rows of a slice, over lent columns; of the weights the first columns are left out.
+// The forests of the runs that have these ends, of the rows of a slice, over byte columns of ends and lent columns of weights; of the weights the first columns are left out.
 pub fn forests_of(
-    left: &[u64],
-    right: &[u64],
+    left: &[u8],
+    right: &[u8],
     weight: &[u64],
     first: usize,
     rows: Slice,
     n: usize,
     ends: &[u32],
 ) -> Slice
-    ensures { λ f. ⌜ component f ≡ forests (graphIn (now (left .entry)) (now (right .entry)) rows n) (integersAfter (now (weight .entry)) first) (now (ends .entry)) ⌝ }
+    ensures { λ f. ⌜ component f ≡ forests (graphBy (loadedRow 1 (now (left .entry))) (loadedRow 1 (now (right .entry))) rows n) (integersAfter (now (weight .entry)) first) (now (ends .entry)) ⌝ }
 {
     let mut all = Slice::empty();
     let mut p: usize = 0;

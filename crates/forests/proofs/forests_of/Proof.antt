@@ -6,14 +6,15 @@ use lib.ListN.{length}
 use native.Mathlib.Omega.{arith}
 use Rattle.forests.proofs.Runs.{Gathered, gathered-none, gathered-more, gathered-all}
 use Rattle.forest.specs.Districts.{run}
-use Rattle.mst1.specs.steps.Growth.{integersAfter, graphIn}
+use Rattle.mst1.specs.steps.Growth.{graphBy, integersAfter}
 use Rattle.slice.specs.Slices.{component}
+use Rattle.table.specs.Loads.{loadedRow}
 use Rattle.forests.proofs.forests_of.Statement.{statement}
 use Rattle.forests.proofs.forests_of.Tie as tie
 
 abbrev Inv-loop : tie.InvT-loop
 Inv-loop left right weight first rows n ends all₀ p₀ j₀ all p j =
-    (j ≤ length ends) × Gathered (graphIn left right rows n) (integersAfter weight first) ends (component all) p j
+    (j ≤ length ends) × Gathered (graphBy (loadedRow 1 left) (loadedRow 1 right) rows n) (integersAfter weight first) ends (component all) p j
 
 abbrev μ-loop : tie.MeasureT-loop
 μ-loop left right weight first rows n ends all₀ p₀ j₀ all p j = length ends - j
