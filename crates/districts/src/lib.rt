@@ -3,7 +3,7 @@ ghost use mathlib.Core.Path.{_≡_};
 ghost use Rattle.districting.specs.Districts.{badRuns, runCauses, districtsAnswer, districtsForests, districtsMarks};
 ghost use Rattle.forest.specs.Districts.{risesTo};
 ghost use Rattle.mst1.specs.Answers.{answerOf};
-ghost use Rattle.mst1.specs.steps.Growth.{integersAfter, graphIn, loadedGraph};
+ghost use Rattle.mst1.specs.steps.Growth.{graphBy, integersAfter, loadedGraph};
 ghost use Rattle.refusal.specs.Outcomes.{refusalOf};
 ghost use Rattle.rowset.specs.Integers.{signed};
 ghost use Rattle.slice.specs.Slices.{component};
@@ -78,17 +78,17 @@ pub fn call_check(
     checks::first(column, checks::first(table, runs_check(ends, m)))
 }
 
-// The forests of the runs of a slice's rows, and the tree of n vertices from the forests' rows alone, over lent columns; of the weights the first columns are left out.
+// The forests of the runs of a slice's rows, and the tree of n vertices from the forests' rows alone, over byte columns of ends and lent columns of weights; of the weights the first columns are left out.
 fn grow_city(
-    left: &[u64],
-    right: &[u64],
+    left: &[u8],
+    right: &[u8],
     weight: &[u64],
     first: usize,
     rows: Slice,
     n: usize,
     ends: &[u32],
 ) -> City
-    ensures { λ r. ⌜ Divided (graphIn (now (left .entry)) (now (right .entry)) rows n) (integersAfter (now (weight .entry)) first) (now (ends .entry)) (component (r .forests)) (r .whole) (component (r .chosen)) ⌝ }
+    ensures { λ r. ⌜ Divided (graphBy (loadedRow 1 (now (left .entry))) (loadedRow 1 (now (right .entry))) rows n) (integersAfter (now (weight .entry)) first) (now (ends .entry)) (component (r .forests)) (r .whole) (component (r .chosen)) ⌝ }
 {
     let forests = forests::forests_of(left, right, weight, first, rows, n, ends);
     let tree = mst1::grow_tree(left, right, weight, first, forests, n);
@@ -101,7 +101,7 @@ fn grow_city(
     }
 }
 
-// The same over the rows of a slice among the first m, grown on the columns as they are loaded.
+// The same over the rows of a slice among the first m, with the weights as they are loaded.
 pub fn city_of(
     n: u32,
     m: usize,
@@ -115,15 +115,11 @@ pub fn city_of(
         let g = loadedGraph n m (component rows) (now (left .entry)) (now (right .entry)) in
         ⌜ Divided g (λ i. signed (loadedRow 4 (now (weight .entry)) i)) (now (ends .entry)) (component (r .forests)) (r .whole) (component (r .chosen)) ⌝ }
 {
-    let mut lefts = [0u64; loads::ALL];
-    loads::put_ends(left, &mut lefts);
-    let mut rights = [0u64; loads::ALL];
-    loads::put_ends(right, &mut rights);
     let mut weights = [0u64; loads::ALL];
     loads::put_prices(weight, &mut weights);
     let first = loads::sign_columns(&weights);
     let used = slice::rows::rows_among(m, rows);
-    grow_city(&lefts, &rights, &weights, first, used, n as usize, ends)
+    grow_city(left, right, &weights, first, used, n as usize, ends)
 }
 
 // Districts and city over a table of m rows, of which those of a slice are in use: the refusal, and both lent columns stay as they were;

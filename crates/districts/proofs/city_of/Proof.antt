@@ -1,4 +1,4 @@
--- `districts::city_of` meets its contract, by what the loads ensure of the columns: those of the weights that are left out only repeat the sign. Assumes nothing.
+-- `districts::city_of` meets its contract, by what the load ensures of the weights' columns: those that are left out only repeat the sign. Assumes nothing.
 use borrow.Author.Needs.{needs}
 use Rattle.loads.proofs.Numbers.{zeros, length-put}
 use Rattle.loads.proofs.Signs.{sign-integer}
@@ -7,26 +7,19 @@ use Rattle.districts.proofs.city_of.Tie as tie
 
 returns : tie.Need-returns
 returns c =
-    let rows = c .before .before .before .before in
+    let rows = c .before .before in
     let signs = rows .before in
     let weights = signs .before .before in
-    let rights = weights .before .before in
-    let lefts = rights .before .before in
-    rw (lefts .put-ends .ensures .1 .0 zeros, rights .put-ends2 .ensures .1 .0 zeros, rows .rows-among .ensures, sign-integer _ (signs .sign-columns .ensures) (weights .put-prices .ensures .1 zeros))
-    at (c .grow-city .ensures)
+    rw (rows .rows-among .ensures, sign-integer _ (signs .sign-columns .ensures) (weights .put-prices .ensures .1 zeros)) at (c .grow-city .ensures)
 
 pub city-of-spec : {M : Type 1} → statement M
 city-of-spec =
     tie.close
     (tie.spec
     (λ c κs. search needs)
-    (λ c κs. search needs)
-    (λ c κs. search needs)
     (λ c. search (needs, length-put _ _ 4 (c .before .put-prices .ensures .0) zeros))
     (λ c κs. search needs)
     (λ c κs. search needs)
-    (λ c. search (needs, length-put _ _ 1 (c .before .before .before .before .before .before .before .before .put-ends .ensures .0) zeros))
-    (λ c. search (needs, length-put _ _ 1 (c .before .before .before .before .before .before .before .put-ends2 .ensures .0) zeros))
-    (λ c. search (needs, length-put _ _ 4 (c .before .before .before .before .before .before .put-prices .ensures .0) zeros))
+    (λ c. search (needs, length-put _ _ 4 (c .before .before .before .before .put-prices .ensures .0) zeros))
     (λ c κs. search needs)
     returns)
