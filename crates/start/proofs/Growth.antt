@@ -1,12 +1,14 @@
 -- The growth of the start in terms of two sets of rows: those whose left end is in the fragment, and those whose right end is.
 -- Main statements: the first row and each next row bring in their ends (begins, begun-more); where there is no row to choose there is no tree (none-first, none-next);
--- what is grown (starts-none, starts-small, starts-whole); the rows at r (rows-at-r). Assumes nothing.
+-- what is grown (starts-none, starts-small, starts-whole); the rows at r (rows-at-r); two sets of rows that come to a slice of none (joined-two). Assumes nothing.
 use Prim.Native.Nat.{ℕ, zero, suc, _+_, _≤_, _<_}
 use lib.Dec.{eqb}
 use lib.IntN.{ℤ}
+use lib.ListN.{replicate}
 use mathlib.Core.Bool.{Bool, true, false, cond, xor, _&&_, _||_}
+use mathlib.Core.List.{List}
 use mathlib.Core.Option.{none, some}
-use mathlib.Core.Path.{_≡_, refl, sym, ap, _∙_, fun-ext}
+use mathlib.Core.Path.{_≡_, refl, sym, ap, ap₂, _∙_, fun-ext}
 use native.Mathlib.Numerals.{add-one}
 use native.Mathlib.Omega.{arith}
 use Rattle.degree.specs.Degree.{touches, preferred, first, next, fragment, startOf, start}
@@ -15,6 +17,8 @@ use Rattle.graph.proofs.Trail.{far-end}
 use Rattle.graph.specs.Builder.{cheapest, choose}
 use Rattle.graph.specs.Graph.{Graph, crosses, withEnds}
 use Rattle.graph.specs.steps.Trail.{far}
+use Rattle.inplace.proofs.Laws.{words-component}
+use Rattle.matching.proofs.Joining.{zeros-none, joined-none}
 use Rattle.mst1.proofs.Growth.{written-in}
 use Rattle.mst1.proofs.Steps.{touching-single, touching-put, touching-one}
 use Rattle.mst1.specs.steps.Growth.{touching}
@@ -23,15 +27,29 @@ use Rattle.rowset.proofs.Members.{both-in}
 use Rattle.rowset.proofs.Searches.{smallest-in}
 use Rattle.rowset.specs.Searches.{equalTo, smallest}
 use Rattle.rowset.specs.Sets.{empty, both, either, oneOf, put, firstOf, uppermost}
+use Rattle.rowset.specs.Words.{inWords}
 use Rattle.slice.specs.Slices.{size, written}
 use Rattle.star.specs.Mst1.{chosenRows}
 use Rattle.star.specs.Refusals.{isNone}
 use Rattle.start.specs.steps.Start.{graphIn, Begun, Starts}
 
--- the rows that MATCH finds on either side are the rows at r
-pub rows-at-r : (g : Graph) (r : ℕ) → either (equalTo (g .a) r (g .rows)) (equalTo (g .b) r (g .rows)) ≡ both (g .rows) (touches g r)
+-- ── Slices that are changed in place ──
+
+-- words of zeros have no row
+no-rows : inWords (replicate 16 0) ≡ empty
+no-rows = words-component (replicate 16 0) ∙ zeros-none
+
+-- two sets of rows that come to them, one after the other
+pub joined-two : (P Q : ℕ → Bool) (x : List ℕ) {Y : ℕ → Bool} → inWords x ≡ either (inWords (replicate 16 0)) P → Y ≡ either (inWords x) Q → Y ≡ either P Q
+joined-two P Q x h k = k ∙ ap (λ Z. either Z Q) (joined-none x P h)
+
+-- ── The rows at r ──
+
+-- the rows that MATCH finds on either side, which come to a slice of none, are the rows at r
+pub rows-at-r : (g : Graph) (r : ℕ) (P Q : ℕ → Bool) (x : List ℕ) {Y : ℕ → Bool} → P ≡ equalTo (g .a) r (g .rows) → Q ≡ equalTo (g .b) r (g .rows)
+    → inWords x ≡ either (inWords (replicate 16 0)) P → Y ≡ either (inWords x) Q → Y ≡ both (g .rows) (touches g r)
 unfolding either equalTo both touches
-rows-at-r g r = fun-ext (λ i. go (g .rows i) (eqb (g .a i) r) (eqb (g .b i) r))
+rows-at-r g r P Q x p q h k = joined-two P Q x h k ∙ ap₂ either p q ∙ fun-ext (λ i. go (g .rows i) (eqb (g .a i) r) (eqb (g .b i) r))
   where
     go : (p x y : Bool) → (p && x || p && y) ≡ (p && (x || y))
     go true x y = refl
@@ -112,16 +130,18 @@ module _ (a b : ℕ → ℕ) (rows : ℕ → Bool) (n : ℕ) (w : ℕ → ℤ) (
   unfolding startOf fragment first choose
   none-first e z l = none-above 2 (omega arith) (rw (e, z)) l
 
-  -- the first row brings in both its ends
-  pub begins : (i : ℕ) {lefts rights chosen : ℕ → Bool} → preferred g w r rows ≡ i → 1 ≤ i
-      → lefts ≡ either (equalTo a (a i) rows) (equalTo a (b i) rows)
-      → rights ≡ either (equalTo b (a i) rows) (equalTo b (b i) rows)
-      → chosen ≡ written empty i true
+  -- the first row brings in both its ends, u and v
+  pub begins : (i u v : ℕ) {lefts rights chosen : ℕ → Bool} → preferred g w r rows ≡ i → 1 ≤ i
+      → u ≡ a i
+      → v ≡ b i
+      → lefts ≡ either (equalTo a u rows) (equalTo a v rows)
+      → rights ≡ either (equalTo b u rows) (equalTo b v rows)
+      → chosen ≡ written (inWords (replicate 16 0)) i true
       → Begun g w r 2 lefts rights chosen
   unfolding startOf fragment first choose withEnds
-  begins zero e l hl hr hc = absurd (omega arith)
-  begins (suc j) e l hl hr hc =
-      rw (hl, hr, hc, written-in empty (suc j) l (preferred-in rows j e .1))
+  begins zero u v e l hu hv hl hr hc = absurd (omega arith)
+  begins (suc j) u v e l hu hv hl hr hc =
+      rw (hl, hr, hc, hu, hv, no-rows, written-in empty (suc j) l (preferred-in rows j e .1))
       (record {
         vertices = put (put empty (a (suc j))) (b (suc j));
         more = omega arith;

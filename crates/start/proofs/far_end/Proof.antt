@@ -13,10 +13,10 @@ left-end : (b : Bool) (v x y : ℕ) → b ≡ false → v ≡ y → v ≡ cond b
 left-end b v x y e q = rw e q
 
 returns : tie.Need-returns
-returns c = right-end _ _ _ _ (c .before .if1 .taken) (c .row-from .ensures)
+returns c = right-end _ _ _ _ (c .before .if1 .taken) (c .end-at .ensures .0)
 
 returns-2 : tie.Need-returns-2
-returns-2 c = left-end _ _ _ _ (c .before .if1 .left) (c .row-from2 .ensures)
+returns-2 c = left-end _ _ _ _ (c .before .if1 .left) (c .end-at2 .ensures .0)
 
 pub far-end-spec : {M : Type 1} → statement M
 far-end-spec = tie.close (tie.spec (λ c κs. search needs) returns (λ c κs. search needs) returns-2)

@@ -1,44 +1,45 @@
--- `start::start_of` meets its contract: one vertex, no row to choose first, or the tree that grows from it. Assumes nothing.
+-- `start::start_of` meets its contract: the words of the columns are 0, and as many as the rows need. Assumes nothing.
 use borrow.Author.Needs.{needs}
-use mathlib.Core.Path.{_≡_, refl, _∙_}
 use native.Mathlib.Omega.{arith}
-use Rattle.start.proofs.Growth.{rows-at-r, starts-none, starts-small, preferred-row, none-first, begins}
+use Rattle.incidence.proofs.Laws.{blank-zeros}
+use Rattle.rowset.specs.Words.{inWords}
+use Rattle.slice.specs.Slices.{component, bit}
 use Rattle.start.proofs.start_of.Statement.{statement}
 use Rattle.start.proofs.start_of.Tie as tie
 
-returns : tie.Need-returns
-returns c =
-    let at = (rw (c .before .before .before .match-from .ensures) at (c .before .before .reach .ensures)) ∙ rows-at-r _ _ in
-    (starts-small _ _ _ _ _ _ (c .before .if1 .taken) (c .nothing .ensures .0) (c .nothing .ensures .1 .0), c .nothing .ensures .1 .1 ∙ at)
+start-in-requires : tie.Need-start-in-requires
+unfolding inWords component bit
+start-in-requires c κs =
+    let blank = blank-zeros 1 256 (omega arith) (omega arith) in
+    (blank, blank, λ i h. c .before .before .before .words-of .ensures .1 i (omega (arith, c .before .before .if1 .taken)))
 
-returns-2 : tie.Need-returns-2
-returns-2 c =
-    let at = (rw (c .before .before .before .before .before .match-from .ensures) at (c .before .before .before .before .reach .ensures)) ∙ rows-at-r _ _ in
-    let row = preferred-row _ _ _ _ _ _ at refl (λ k e. e) (c .before .before .preferred .ensures) in
-    (starts-none _ _ _ _ _ _ (none-first _ _ _ _ _ _ row (c .before .if2 .taken) (c .before .before .before .if1 .left)) (c .nothing2 .ensures .0) (c .nothing2 .ensures .1 .0), c .nothing2 .ensures .1 .1 ∙ at)
+start-in-requires-2 : tie.Need-start-in-requires-2
+unfolding inWords component bit
+start-in-requires-2 c κs =
+    let blank = blank-zeros 4 1024 (omega arith) (omega arith) in
+    (blank, blank, λ i h. c .before .before .before .before .words-of .ensures .1 i (omega (arith, c .before .before .if2 .taken)))
 
-grow-requires : tie.Need-grow-requires
-grow-requires c κs =
-    let at = (rw (c .before .before .before .before .before .match-from .ensures) at (c .before .before .before .before .reach .ensures)) ∙ rows-at-r _ _ in
-    let row = preferred-row _ _ _ _ _ _ at refl (λ k e. e) (c .before .before .preferred .ensures) in
-    (c .before .before .before .if1 .left, at, begins _ _ _ _ _ _ (c .before .before .preferred .result) row (omega (arith, c .before .if2 .left)) (c .begin .ensures .0) (c .begin .ensures .1 .0) (c .begin .ensures .1 .1))
-
-returns-3 : tie.Need-returns-3
-returns-3 c =
-    let at = (rw (c .before .before .before .before .before .before .match-from .ensures) at (c .before .before .before .before .before .reach .ensures)) ∙ rows-at-r _ _ in
-    (c .grow .ensures .0, c .grow .ensures .1 ∙ at)
+start-in-requires-3 : tie.Need-start-in-requires-3
+unfolding inWords component bit
+start-in-requires-3 c κs =
+    let blank = blank-zeros 16 4096 (omega arith) (omega arith) in
+    let words = c .before .before .before .before .words-of .ensures in
+    (blank, blank, λ i h. words .1 i (omega (arith, words .0)))
 
 pub start-of-spec : {M : Type 1} → statement M
 start-of-spec =
     tie.close
     (tie.spec
     (λ c κs. search needs)
-    (λ c κs. search needs)
-    (λ c κs. search needs)
-    returns
-    (λ c κs. search needs)
-    (λ c κs. search needs)
-    returns-2
-    (λ c κs. search needs)
-    grow-requires
-    returns-3)
+    (λ c. search needs)
+    (λ c. search needs)
+    start-in-requires
+    (λ c. search needs)
+    (λ c. search needs)
+    (λ c. search needs)
+    start-in-requires-2
+    (λ c. search needs)
+    (λ c. search needs)
+    (λ c. search needs)
+    start-in-requires-3
+    (λ c. search needs))
