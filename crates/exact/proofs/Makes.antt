@@ -1,4 +1,4 @@
--- What is made of the start and the exchanges on columns that hold the loaded ones.
+-- What is made of the start and the exchanges, with weights in columns that hold the loaded ones.
 -- Main statements: the exchanges by the number of rows at r (reduced-none, reduced-made); no tree, and one with exchanges made on it (makes-none, makes-some). Assumes nothing.
 use Prim.Native.Nat.{ℕ, _-_, _≤_, _<_}
 use borrow.Author.Tests.{lt-ltb, le-ltb}
@@ -32,16 +32,16 @@ module _ (x : Given) (U T : ℕ → Bool) (r n t have : ℕ) (is : have ≡ coun
 
 -- ── What is made ──
 
-module _ (h : Held) (r t : ℕ) {a b : ℕ → ℕ} {U : ℕ → Bool} {w : ℕ → ℤ} {whole : Bool} {chosen : ℕ → Bool}
-    (ea : a ≡ loadedRow 1 (h .left)) (eb : b ≡ loadedRow 1 (h .right)) (eu : U ≡ usedIn h) (ew : w ≡ weightIn h) (s : Starts (graphIn a b U (h .n)) w r whole chosen) where
+module _ (h : Held) (r t : ℕ) {U : ℕ → Bool} {w : ℕ → ℤ} {whole : Bool} {chosen : ℕ → Bool}
+    (eu : U ≡ usedIn h) (ew : w ≡ weightIn h) (s : Starts (graphIn (loadedRow 1 (h .left)) (loadedRow 1 (h .right)) U (h .n)) w r whole chosen) where
   same-starts : Starts (loadedIn h) (weightIn h) r whole chosen
-  same-starts = rw (ea, eb, eu, ew) at s
+  same-starts = rw (eu, ew) at s
 
   -- there is no tree
   pub makes-none : whole ≡ false → {left : Bool} {remaining : ℕ → Bool} → Makes h r t false left remaining
   makes-none e = record { joins = sym e ∙ same-starts .all; ends = λ q. clash q refl }
 
   -- there is one, and exchanges are made on it
-  pub makes-some : whole ≡ true → {at : ℕ → Bool} → at ≡ both U (touches (graphIn a b U (h .n)) r) → {left : Bool} {remaining : ℕ → Bool}
+  pub makes-some : whole ≡ true → {at : ℕ → Bool} → at ≡ both U (touches (graphIn (loadedRow 1 (h .left)) (loadedRow 1 (h .right)) U (h .n)) r) → {left : Bool} {remaining : ℕ → Bool}
       → Ends (reducedFrom (record { left = h .left; right = h .right; price = priceIn (h .weight); weight = w; at = at }) U chosen r (h .n) t) left remaining → Makes h r t true left remaining
-  makes-some e is-at ends = record { joins = sym e ∙ same-starts .all; ends = λ q. rw (is-at, ea, eb, eu, ew, same-starts .rows) at ends }
+  makes-some e is-at ends = record { joins = sym e ∙ same-starts .all; ends = λ q. rw (is-at, eu, ew, same-starts .rows) at ends }

@@ -1,4 +1,4 @@
-// The tree with exactly t rows at a vertex r on the machine: the columns are loaded, the start prefers rows at r, a walk over it fills the path matrix from r, and exchanges take rows at r out until t are left.
+// The tree with exactly t rows at a vertex r on the machine: the weights are loaded, the start prefers rows at r, a walk over it fills the path matrix from r, and exchanges take rows at r out until t are left.
 ghost use mathlib.Core.Path.{_≡_};
 ghost use Rattle.reductions.specs.steps.Columns.{givenOf};
 ghost use Rattle.reductions.specs.steps.Exchanges.{Ends};
@@ -72,15 +72,11 @@ pub fn make(
 ) -> Made
     ensures { λ o. ⌜ Makes (record { n = n; m = m; rows = component rows; left = now (left .entry); right = now (right .entry); weight = now (weight .entry) }) r t (o .joined) (o .whole) (component (o .chosen)) ⌝ }
 {
-    let mut lefts = [0u64; loads::ALL];
-    loads::put_ends(left, &mut lefts);
-    let mut rights = [0u64; loads::ALL];
-    loads::put_ends(right, &mut rights);
     let mut weights = [0u64; loads::ALL];
     loads::put_prices(weight, &mut weights);
     let first = loads::sign_columns(&weights);
     let used = rows_among(m, rows);
-    let start = start::start_of(&lefts, &rights, &weights, first, used, n as usize, r);
+    let start = start::start_of(left, right, &weights, first, used, n as usize, r);
     if !start.whole {
         return Made {
             joined: false,

@@ -10,40 +10,32 @@ use Rattle.exact.proofs.make.Tie as tie
 returns : tie.Need-returns
 returns c =
     let start = c .before .before .before in
-    let rows = start .before .before .before .before in
+    let rows = start .before .before in
     let sign = rows .before in
     let prices = sign .before .before in
-    let right = prices .before .before in
-    let left = right .before .before in
-    makes-none _ _ _ (left .put-ends .ensures .1 .0 zeros) (right .put-ends2 .ensures .1 .0 zeros) (rows .rows-among .ensures) (sign-integer _ (sign .sign-columns .ensures) (prices .put-prices .ensures .1 zeros)) (start .start-of .ensures .0) (not-true _ (c .before .if1 .taken))
+    makes-none _ _ _ (rows .rows-among .ensures) (sign-integer _ (sign .sign-columns .ensures) (prices .put-prices .ensures .1 zeros)) (start .start-of .ensures .0) (not-true _ (c .before .if1 .taken))
 
 returns-2 : tie.Need-returns-2
 returns-2 c =
     let else = c .before .before .before .before .before in
     let start = else .before .before in
-    let rows = start .before .before .before .before in
+    let rows = start .before .before in
     let sign = rows .before in
     let prices = sign .before .before in
-    let right = prices .before .before in
-    let left = right .before .before in
-    makes-some _ _ _ (left .put-ends .ensures .1 .0 zeros) (right .put-ends2 .ensures .1 .0 zeros) (rows .rows-among .ensures) (sign-integer _ (sign .sign-columns .ensures) (prices .put-prices .ensures .1 zeros)) (start .start-of .ensures .0) (not-false _ (else .if1 .left)) (start .start-of .ensures .1) (c .before .reduce .ensures)
+    makes-some _ _ _ (rows .rows-among .ensures) (sign-integer _ (sign .sign-columns .ensures) (prices .put-prices .ensures .1 zeros)) (start .start-of .ensures .0) (not-false _ (else .if1 .left)) (start .start-of .ensures .1) (c .before .reduce .ensures)
 
 pub make-spec : {M : Type 1} → statement M
 make-spec =
     tie.close
     (tie.spec
     (λ c κs. search needs)
-    (λ c κs. search needs)
-    (λ c κs. search needs)
     (λ c. search (needs, length-put _ _ 4 (c .before .put-prices .ensures .0) zeros))
     (λ c κs. search needs)
     (λ c κs. search needs)
-    (λ c. search (needs, length-put _ _ 1 (c .before .before .before .before .before .before .before .before .put-ends .ensures .0) zeros))
-    (λ c. search (needs, length-put _ _ 1 (c .before .before .before .before .before .before .before .put-ends2 .ensures .0) zeros))
-    (λ c. search (needs, length-put _ _ 4 (c .before .before .before .before .before .before .put-prices .ensures .0) zeros))
+    (λ c. search (needs, length-put _ _ 4 (c .before .before .before .before .put-prices .ensures .0) zeros))
     (λ c κs. search needs)
     (λ c κs. search needs)
     returns
-    (λ c. search (needs, length-put _ _ 4 (c .before .before .before .before .before .before .before .before .before .before .before .before .put-prices .ensures .0) zeros))
+    (λ c. search (needs, length-put _ _ 4 (c .before .before .before .before .before .before .before .before .before .before .put-prices .ensures .0) zeros))
     (λ c κs. search needs)
     returns-2)
