@@ -24,8 +24,7 @@ returns-2 c = (none-joined _ _ _ _ (λ i. too-far _ _ _ i (c .if2 .taken)), c .b
 loop-again : tie.Need-loop-again Inv-loop μ-loop
 loop-again c =
     let l = c .before .before .before .loop in
-    let a = c .before .before .before .before .before .before .args in
-    (
+    let a = c .before .before .before .before .before .before .args in (
       omega arith,
       l .inv .1,
       rw (← column-word (a .at .now) (a .words) (a .v) (l .k) (omega arith)) (merged-more bitOr _ _ _ _ (omega (arith, l .inv .1)) (l .inv .2)),

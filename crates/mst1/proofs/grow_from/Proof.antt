@@ -22,8 +22,8 @@ abbrev Inv-loop : tie.InvT-loop
 Inv-loop left right weight first n words left-at right-at lefts₀ rights₀ chosen₀ k₀ lefts rights chosen k =
     (k ≤ n)
     × ((rows : Slice) → EachMatch words left-at (loadedRow 1 left) (component rows) → EachMatch words right-at (loadedRow 1 right) (component rows)
-      → Reached (graphBy (loadedRow 1 left) (loadedRow 1 right) rows n) (integersAfter weight first) 2 (inWords lefts₀) (inWords rights₀) (inWords chosen₀)
-      → Reached (graphBy (loadedRow 1 left) (loadedRow 1 right) rows n) (integersAfter weight first) k (inWords lefts) (inWords rights) (inWords chosen))
+    → Reached (graphBy (loadedRow 1 left) (loadedRow 1 right) rows n) (integersAfter weight first) 2 (inWords lefts₀) (inWords rights₀) (inWords chosen₀)
+    → Reached (graphBy (loadedRow 1 left) (loadedRow 1 right) rows n) (integersAfter weight first) k (inWords lefts) (inWords rights) (inWords chosen))
     × (n < 2 ^ 64)
     × (length lefts ≡ 16)
 
@@ -59,7 +59,7 @@ loop-again c =
     let l = s .before .loop in (
       omega (arith, s .loop-test .taken),
       λ rows lefts rights start.
-      extend-reached _ _ _ rows _ (l .inv .1 rows lefts rights start)
+          extend-reached _ _ _ rows _ (l .inv .1 rows lefts rights start)
           (cheapest-row _ _ _ rows _ refl (x .xor .ensures) (i .cheapest .ensures))
           (omega (arith, some .if1 .left))
           (⊎-elim

@@ -21,7 +21,7 @@ abbrev Inv-loop : tie.InvT-loop
 Inv-loop left right words left-at right-at s n own₀ lefts₀ rights₀ reached₀ k₀ own lefts rights reached k =
     (k ≤ n)
     × ((rows : ℕ → Bool) → EachMatch words left-at (loadedRow 1 left) rows → EachMatch words right-at (loadedRow 1 right) rows
-      → state (inWords lefts) (inWords rights) (inWords reached) own ≡ steps (loadedRow 1 left) (loadedRow 1 right) rows (state (inWords lefts₀) (inWords rights₀) (inWords reached₀) own₀) k)
+    → state (inWords lefts) (inWords rights) (inWords reached) own ≡ steps (loadedRow 1 left) (loadedRow 1 right) rows (state (inWords lefts₀) (inWords rights₀) (inWords reached₀) own₀) k)
     × (length own ≡ length own₀)
     × (n < 2 ^ 32)
     × (length lefts ≡ 16)
@@ -65,12 +65,12 @@ loop-again c =
     let v = rw (got .row-in .ensures, a .end-at .ensures .0, b .end-at2 .ensures .0) at (far .choose2 .ensures) in (
       omega (arith, test .loop-test .taken),
       λ rows each-left each-right.
-      rw add-one
-      (step-taken _ _ rows (inWords (l .lefts)) (inWords (l .rights)) (inWords (l .reached)) (l .own) _ _ _ (found .first-difference .ensures) (some .if1 .left) u v (led .lead .ensures)
-      (first .join-at3 .ensures .0 ∙ ap (either _) (each-left _))
-      (second .join-at4 .ensures .0 ∙ ap (either _) (each-right _))
-      (c .put-row2 .ensures .0)
-      ∙ ap (step _ _ rows) (l .inv .1 rows each-left each-right)),
+          rw add-one
+          (step-taken _ _ rows (inWords (l .lefts)) (inWords (l .rights)) (inWords (l .reached)) (l .own) _ _ _ (found .first-difference .ensures) (some .if1 .left) u v (led .lead .ensures)
+          (first .join-at3 .ensures .0 ∙ ap (either _) (each-left _))
+          (second .join-at4 .ensures .0 ∙ ap (either _) (each-right _))
+          (c .put-row2 .ensures .0)
+          ∙ ap (step _ _ rows) (l .inv .1 rows each-left each-right)),
       omega (arith, l .inv .2),
       l .inv .3,
       first .join-at3 .ensures .1,
