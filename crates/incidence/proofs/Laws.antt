@@ -25,7 +25,7 @@ use Rattle.slice.proofs.Merge.{Merged}
 use Rattle.slice.specs.Slices.{size, bit, component}
 use Rattle.lent.specs.steps.Rows.{NonePast}
 use Rattle.loads.proofs.Numbers.{none-stored}
-use Rattle.matching.proofs.Joining.{joined}
+use Rattle.inplace.proofs.Joining.{joined}
 use Rattle.incidence.specs.Rows.{placesAt, rowsAt, MatchedEach, Bytes, Blank, EachMatch}
 
 -- ── A row comes to a column ──

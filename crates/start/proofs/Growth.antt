@@ -18,7 +18,7 @@ use Rattle.graph.specs.Builder.{cheapest, choose}
 use Rattle.graph.specs.Graph.{Graph, crosses, withEnds}
 use Rattle.graph.specs.steps.Trail.{far}
 use Rattle.inplace.proofs.Laws.{words-component}
-use Rattle.matching.proofs.Joining.{zeros-none, joined-none}
+use Rattle.inplace.proofs.Joining.{zeros-none, joined-none}
 use Rattle.mst1.proofs.Growth.{written-in}
 use Rattle.mst1.proofs.Steps.{touching-single, touching-put, touching-one}
 use Rattle.mst1.specs.steps.Growth.{touching}

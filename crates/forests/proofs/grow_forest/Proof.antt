@@ -4,7 +4,7 @@ use Prim.Native.Nat.{_≤_, _<_, _-_, _^_}
 use borrow.Author.Needs.{needs}
 use native.Mathlib.Omega.{arith}
 use Rattle.forests.proofs.Growing.{Grew, grew-none, grew-ended, grew-more, grew-whole, joined-both}
-use Rattle.matching.proofs.Joining.{zeros-none}
+use Rattle.inplace.proofs.Joining.{zeros-none}
 use Rattle.mst1.specs.steps.Growth.{graphBy, integersAfter}
 use Rattle.rowset.specs.Words.{inWords}
 use Rattle.slice.specs.Slices.{component, bit}
