@@ -42,12 +42,12 @@ module _ (c : ℕ → ℕ → Bool) (w : ℕ) where
 
   module _ (X : ℕ → Bool) where
     -- every selected row equals w in no column
-    pub right-none : equalRight c w 0 X ≡ X
+    right-none : equalRight c w 0 X ≡ X
     unfolding equalRight equalTo inColumns
     right-none = fun-ext (λ i. rw (mod-one, and-true))
 
     -- the rows in the running at one more column: those whose bit is the next one of w
-    pub right-step : (k : ℕ) → k < 32 → equalRight c w (suc k) X ≡ kept (digit (w / 2 ^ k)) (equalRight c w k X) (c (32 - k))
+    right-step : (k : ℕ) → k < 32 → equalRight c w (suc k) X ≡ kept (digit (w / 2 ^ k)) (equalRight c w k X) (c (32 - k))
     unfolding equalRight equalTo
     right-step k h =
         fun-ext
