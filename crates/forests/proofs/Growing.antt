@@ -13,7 +13,7 @@ use Rattle.forest.proofs.Growing.{grown-ended}
 use Rattle.forest.specs.Growing.{misses, nextRow, withRow, grown, grownForest}
 use Rattle.graph.specs.Builder.{Fragment, cheapest}
 use Rattle.graph.specs.Graph.{Graph, crosses, withEnds}
-use Rattle.incidence.specs.Rows.{rowsAt, EachMatch}
+use Rattle.incidence.specs.steps.Rows.{rowsAt, EachMatch}
 use Rattle.mst1.proofs.Growth.{written-in}
 use Rattle.mst1.proofs.Steps.{touching-put, touching-one}
 use Rattle.mst1.specs.steps.Growth.{graphBy, touching}

@@ -2,7 +2,7 @@
 ghost use mathlib.Core.Path.{_≡_};
 ghost use Rattle.forest.specs.Districts.{forests};
 ghost use Rattle.forest.specs.Growing.{grownForest};
-ghost use Rattle.incidence.specs.Rows.{Blank, EachMatch};
+ghost use Rattle.incidence.specs.steps.Rows.{Blank, EachMatch};
 ghost use Rattle.lent.specs.steps.Rows.{NonePast};
 ghost use Rattle.mst1.specs.steps.Growth.{graphBy, integersAfter};
 ghost use Rattle.rowset.specs.Searches.{smallest};

@@ -26,7 +26,7 @@ use Rattle.slice.specs.Slices.{size, bit, component}
 use Rattle.lent.specs.steps.Rows.{NonePast}
 use Rattle.loads.proofs.Numbers.{none-stored}
 use Rattle.inplace.proofs.Joining.{joined}
-use Rattle.incidence.specs.Rows.{placesAt, rowsAt, MatchedEach, Bytes, Blank, EachMatch}
+use Rattle.incidence.specs.steps.Rows.{placesAt, rowsAt, MatchedEach, Bytes, Blank, EachMatch}
 
 -- ── A row comes to a column ──
 

@@ -9,7 +9,7 @@ ghost use Rattle.lent.specs.steps.Rows.{NonePast};
 ghost use Rattle.rowset.specs.Sets.{either};
 ghost use Rattle.rowset.specs.Words.{inWords};
 ghost use Rattle.table.specs.Loads.{loadedRow};
-ghost use Rattle.incidence.specs.Rows.{placesAt, rowsAt, MatchedEach, Bytes};
+ghost use Rattle.incidence.specs.steps.Rows.{placesAt, rowsAt, MatchedEach, Bytes};
 
 // The components in a word, and the words of a slice.
 const BITS: usize = 64;

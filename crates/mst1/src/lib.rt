@@ -3,7 +3,7 @@
 ghost use mathlib.Core.Path.{_≡_};
 ghost use mathlib.Core.Bool.{Bool, true};
 ghost use Prim.Native.Nat.{ℕ, _-_, _≤_};
-ghost use Rattle.incidence.specs.Rows.{Blank, EachMatch};
+ghost use Rattle.incidence.specs.steps.Rows.{Blank, EachMatch};
 ghost use Rattle.lent.specs.steps.Rows.{NonePast};
 ghost use Rattle.rowset.specs.Integers.{integerIn, signed};
 ghost use Rattle.rowset.specs.Searches.{smallest};

@@ -7,7 +7,7 @@ ghost use Prim.Native.Nat.{ℕ, _≤_};
 ghost use lib.ListN.{length, take, drop};
 ghost use Rattle.refusal.specs.Outcomes.{refusalOf};
 ghost use Rattle.matrix.specs.Matrix.{matrixColumn, withColumn};
-ghost use Rattle.incidence.specs.Rows.{Blank, EachMatch};
+ghost use Rattle.incidence.specs.steps.Rows.{Blank, EachMatch};
 ghost use Rattle.lent.specs.steps.Rows.{NonePast};
 ghost use Rattle.slice.specs.Slices.{size, component, written};
 ghost use Rattle.star.specs.MatrixPath.{matrixPath, matrixAfter};

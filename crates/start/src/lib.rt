@@ -4,7 +4,7 @@ ghost use Prim.Native.Nat.{_-_, _≤_};
 ghost use mathlib.Core.Bool.{cond};
 ghost use mathlib.Core.Path.{_≡_};
 ghost use Rattle.degree.specs.Degree.{touches};
-ghost use Rattle.incidence.specs.Rows.{Blank, EachMatch};
+ghost use Rattle.incidence.specs.steps.Rows.{Blank, EachMatch};
 ghost use Rattle.lent.specs.steps.Rows.{NonePast};
 ghost use Rattle.matrix.specs.Matrix.{matrixColumn};
 ghost use Rattle.rowset.specs.Columns.{width};

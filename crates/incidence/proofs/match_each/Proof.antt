@@ -9,7 +9,7 @@ use native.Mathlib.Omega.{arith}
 use Rattle.rowset.specs.Sets.{upTo, both}
 use Rattle.rowset.specs.Words.{inWords}
 use Rattle.table.specs.Loads.{loadedRow}
-use Rattle.incidence.specs.Rows.{MatchedEach, Bytes}
+use Rattle.incidence.specs.steps.Rows.{MatchedEach, Bytes}
 use Rattle.incidence.proofs.Laws.{each-none, each-put, each-skip, each-all, from-one, bytes-none, bytes-more, bytes-skip, bytes-all}
 use Rattle.incidence.proofs.match_each.Statement.{statement}
 use Rattle.incidence.proofs.match_each.Tie as tie

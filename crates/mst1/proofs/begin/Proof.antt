@@ -6,7 +6,7 @@ use mathlib.Core.Bool.{Bool}
 use mathlib.Core.List.{List}
 use mathlib.Core.Path.{_≡_, _∙_, ap}
 use lib.ListN.{replicate}
-use Rattle.incidence.specs.Rows.{EachMatch, rowsAt}
+use Rattle.incidence.specs.steps.Rows.{EachMatch, rowsAt}
 use Rattle.inplace.proofs.Joining.{joined-none}
 use Rattle.rowset.specs.Sets.{either}
 use Rattle.rowset.specs.Words.{inWords}

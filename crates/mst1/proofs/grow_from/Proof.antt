@@ -6,7 +6,7 @@ use mathlib.Core.Logic.{⊎-elim}
 use mathlib.Core.Path.{_≡_, refl, ap, _∙_}
 use borrow.Author.Needs.{needs}
 use lib.ListN.{length}
-use Rattle.incidence.specs.Rows.{EachMatch}
+use Rattle.incidence.specs.steps.Rows.{EachMatch}
 use Rattle.rowset.specs.Sets.{either}
 use Rattle.rowset.specs.Words.{inWords}
 use Rattle.slice.specs.Slices.{component, bit}

@@ -2,7 +2,7 @@
 -- Assumes nothing.
 use Prim.Native.Nat.{ℕ, _-_, _^_, _≤_, _<_}
 use Rattle.path.specs.steps.Walks.{State, step, steps}
-use Rattle.incidence.specs.Rows.{EachMatch}
+use Rattle.incidence.specs.steps.Rows.{EachMatch}
 use Rattle.inplace.proofs.Laws.{component-words}
 use Rattle.rowset.specs.Sets.{either}
 use Rattle.rowset.specs.Words.{inWords}

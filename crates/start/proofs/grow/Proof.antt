@@ -7,7 +7,7 @@ use mathlib.Core.Bool.{Bool}
 use mathlib.Core.Path.{_≡_, refl, _∙_, ap, ap₂}
 use native.Mathlib.Omega.{arith}
 use Rattle.degree.specs.Degree.{touches, preferred}
-use Rattle.incidence.specs.Rows.{EachMatch}
+use Rattle.incidence.specs.steps.Rows.{EachMatch}
 use Rattle.matrix.specs.Matrix.{matrixColumn}
 use Rattle.rowset.specs.Columns.{width}
 use Rattle.rowset.specs.Integers.{integerIn}
