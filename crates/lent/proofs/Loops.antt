@@ -1,26 +1,20 @@
--- Loops over the columns c, from column `first` + 1 on, of which j are read or left out: what the loops share, and the invariant of ROW.
+-- What the loops over a table's columns share: the digits of a number, the column that is read, the columns from column `first` + 1 on of which j are read or left out, and slices in the running.
 -- Assumes nothing.
-use Prim.Native.Nat.{ℕ, zero, suc, _+_, _-_, _*_, _%_, _^_, _≤_, _<_}
+use Prim.Native.Nat.{ℕ, zero, suc, _+_, _-_, _%_, _≤_}
 use native.Mathlib.Omega.{arith}
-use native.Mathlib.Nat.{sub-self, lt-of-lt-of-le}
 use mathlib.Core.Bool.{Bool, true, false, cond, and-false, and-eq-true-iff}
 use mathlib.Core.Path.{_≡_, refl, sym, ap, fun-ext}
 use mathlib.Core.List.{List, [], _∷_}
 use lib.Dec.{eqb}
 use lib.ListN.{getD, replicate}
-use lib.Pow.{pow-mono}
-use mir.Val.{boolByte}
 use borrow.Author.Tests.{eqb-true, eqb-false}
-use Rattle.rowset.specs.Columns.{inColumns}
 use Rattle.rowset.specs.Sets.{empty, upTo, any}
 use Rattle.rowset.proofs.Laws.{clash, refuted, upTo-in, any-none}
 use Rattle.slice.specs.Slices.{size, component}
 use Rattle.slice.specs.declared.Slice.{Slice}
 use Rattle.slice.proofs.Bits.{bit-of-zero}
-use Rattle.table.proofs.Columns.{as-number}
 use Rattle.table.specs.Tables.{column, blank}
 use Rattle.table.specs.declared.Table.{Table}
-use Rattle.rowset.proofs.Numbers.{number-below}
 
 -- the last binary digit of n
 abbrev pub digit : ℕ → Bool
@@ -79,39 +73,3 @@ component-in x i e = upTo-in size i (and-eq-true-iff (upTo size i) _ .0 e .0)
 pub none-left : (x : Slice) → any size (component x) ≡ false → component x ≡ empty
 unfolding empty
 none-left x e = fun-ext (λ i. refuted (component x i) (λ t. let (l, u) = component-in x i t in clash t (any-none size (component x) e i l u)))
-
--- the number r that row i holds in the columns read
-pub record Read (c : ℕ → ℕ → Bool) (first i r j : ℕ) : Type 0 where
-  pub from : first ≤ j
-  pub upto : j - first ≤ 32 - first
-  pub held : r ≡ inColumns c first (j - first) i
-
-module _ (c : ℕ → ℕ → Bool) (first i : ℕ) where
-  pub read-start : Read c first i 0 first
-  unfolding inColumns
-  read-start = record { from = omega arith; upto = omega arith; held = rw sub-self }
-
-  -- the number before the bit of one column more
-  pub held-below : (r j : ℕ) → j < 32 → Read c first i r j → r < 2 ^ 31
-  held-below r j h m =
-      let few : j - first ≤ 31 = omega (arith, m .from) in
-      rw (m .held) (lt-of-lt-of-le (number-below c first (j - first) i) (pow-mono few))
-
-  -- with that bit
-  module _ (r j : ℕ) (h : j < 32) (m : Read c first i r j) (b : Bool) (e : b ≡ c (j + 1) i) where
-    held-more : r * 2 + boolByte b ≡ inColumns c first (j + 1 - first) i
-    unfolding inColumns
-    held-more =
-        rw (next-count first j (m .from), next-column c first j (m .from))
-        (omega (arith, m .held, as-number b e))
-
-    pub read-fits : r * 2 + boolByte b < 2 ^ 32
-    read-fits =
-        let few : j + 1 - first ≤ 32 = omega arith in
-        rw held-more (lt-of-lt-of-le (number-below c first (j + 1 - first) i) (pow-mono few))
-
-    pub read-more : Read c first i (r * 2 + boolByte b) (j + 1)
-    read-more = record { from = omega arith; upto = omega arith; held = held-more }
-
-  pub read-all : (r j : ℕ) → 32 ≤ j → Read c first i r j → r ≡ inColumns c first (32 - first) i
-  read-all r j h m = let e : j - first ≡ 32 - first = omega arith in rw (← e) (m .held)

@@ -1,11 +1,10 @@
-// A table's columns as they stand in a path matrix, lent: a caller that searches often lends the columns and copies no table. Here are ROW over them, and what the loops of the searches share: rows in the running, in place as words or as a slice, narrowed at a column. The searches are in crates `matching`, `great` and `extremes`.
+// A table's columns as they stand in a path matrix, lent: a caller that searches often lends the columns and copies no table. Here are a table's columns as words, one component of them, and what the loops of the searches share: rows in the running, in place as words or as a slice, narrowed at a column. The searches are in crates `matching`, `great` and `extremes`.
 // A column that is not wholly inside what is lent is Θ, so that every function is defined for a matrix of any size. Assumes nothing.
 use slice::Slice;
 use table::Table;
 ghost use mathlib.Core.Path.{_≡_};
-ghost use Prim.Native.Nat.{ℕ, _-_, _≤_};
+ghost use Prim.Native.Nat.{ℕ, _≤_};
 ghost use lib.ListN.{getD};
-ghost use Rattle.rowset.specs.Columns.{width, inColumns};
 ghost use Rattle.matrix.specs.Matrix.{matrixColumn};
 ghost use Rattle.slice.specs.Slices.{component};
 ghost use Rattle.table.specs.Tables.{column};
@@ -58,19 +57,6 @@ pub fn bit_at(columns: &[u64], j: usize, i: usize) -> bool
     let k = i - 1;
     let w = columns[COLUMN * (j - 1) + k / BITS];
     (w >> (k % BITS)) % 2 == 1
-}
-
-// ROW: the number that row i holds in the columns that are not left out.
-pub fn row_from(columns: &[u64], first: usize, i: usize) -> u32
-    ensures { λ r. ⌜ r ≡ inColumns (matrixColumn (now (columns .entry))) first (width - first) i ⌝ }
-{
-    let mut r: u32 = 0;
-    let mut j = first;
-    while j < WIDTH {
-        r = r * 2 + bit_at(columns, j + 1, i) as u32;
-        j += 1;
-    }
-    r
 }
 
 // The rows of z whose bit in the column c is b.
