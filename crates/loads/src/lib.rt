@@ -141,27 +141,18 @@ fn put_words(columns: &mut [u64; ALL], column: &[u8], stride: usize, rows: usize
     }
 }
 
-// A load of a column with `stride` bytes a row. Where the columns held zeros, all of them, or as many of the last as the bytes need, then hold the rows.
-fn put(column: &[u8], stride: usize, columns: &mut [u64; ALL])
-    requires { ⌜ (1 ≤ stride) × (stride ≤ 4) ⌝ }
-    ensures columns { λ u. ⌜ now (columns .exit) ≡ withLoad (now (columns .entry)) (now (column .entry)) stride ⌝ }
-    ensures rows { λ u. ⌜ (Zeros (now (columns .entry)) → (s n : ℕ) → s + n ≡ width → 8 * stride ≤ n → inColumns (matrixColumn (now (columns .exit))) s n ≡ loadedRow stride (now (column .entry))) ⌝ }
-{
-    if stride * slice::SIZE < column.len() {
-        return;
-    }
-    if column.len() % stride != 0 {
-        return;
-    }
-    put_words(columns, column, stride, column.len() / stride);
-}
-
 // A table with four bytes a row, least significant first, put into columns. Where they held zeros, the number in all of them is then the row's.
 pub fn put_prices(column: &[u8], columns: &mut [u64; ALL])
     ensures columns { λ u. ⌜ now (columns .exit) ≡ withLoad (now (columns .entry)) (now (column .entry)) 4 ⌝ }
     ensures rows { λ u. ⌜ (Zeros (now (columns .entry)) → inColumns (matrixColumn (now (columns .exit))) 0 width ≡ loadedRow 4 (now (column .entry))) ⌝ }
 {
-    put(column, 4, columns);
+    if 4 * slice::SIZE < column.len() {
+        return;
+    }
+    if column.len() % 4 != 0 {
+        return;
+    }
+    put_words(columns, column, 4, column.len() / 4);
 }
 
 // The number of columns on the left that GREAT, MIN and MAX may leave out: those before the last of the columns on the left that equal column 1.
