@@ -4,7 +4,8 @@ ghost use Rattle.forest.specs.Districts.{forests};
 ghost use Rattle.forest.specs.Growing.{grownForest};
 ghost use Rattle.incidence.specs.steps.Rows.{Blank, EachMatch};
 ghost use Rattle.lent.specs.steps.Rows.{NonePast};
-ghost use Rattle.mst1.specs.steps.Growth.{graphBy, integersAfter};
+ghost use Rattle.lent.specs.steps.Integers.{integersAfter};
+ghost use Rattle.mst1.specs.steps.Growth.{graphBy};
 ghost use Rattle.rowset.specs.Searches.{smallest};
 ghost use Rattle.rowset.specs.Sets.{upTo, both, oneOf, without, firstOf, uppermost};
 ghost use Rattle.slice.specs.Slices.{size, component};
@@ -112,17 +113,17 @@ fn forest_of(
 {
     let words = incidence::words_of(&rows.words);
     if words <= 1 {
-        let mut a = [0u64; 256];
-        let mut b = [0u64; 256];
+        let mut a = [0u64; incidence::OF_ONE];
+        let mut b = [0u64; incidence::OF_ONE];
         return forest_in(left, right, weight, first, rows, n, 1, &mut a, &mut b);
     }
     if words <= 4 {
-        let mut a = [0u64; 1024];
-        let mut b = [0u64; 1024];
+        let mut a = [0u64; incidence::OF_FOUR];
+        let mut b = [0u64; incidence::OF_FOUR];
         return forest_in(left, right, weight, first, rows, n, 4, &mut a, &mut b);
     }
-    let mut a = [0u64; 4096];
-    let mut b = [0u64; 4096];
+    let mut a = [0u64; incidence::OF_SIXTEEN];
+    let mut b = [0u64; incidence::OF_SIXTEEN];
     forest_in(left, right, weight, first, rows, n, 16, &mut a, &mut b)
 }
 

@@ -239,6 +239,10 @@ pub blank-zeros : (q n : ℕ) → q ≤ 16 → 256 * q ≤ n → Blank q (replic
 unfolding rowsAt empty
 blank-zeros q n few room = record { few = few; room = omega (arith, length-replicate {A = ℕ} n 0); none = λ v. fun-ext (λ i. rw (none-stored n, bit-of-zero, and-false)) }
 
+-- two tables of 0 for columns of q words, and rows of which none stands past r words, where r is at most q
+pub two-tables : (q n r : ℕ) (rows : ℕ → Bool) → q ≤ 16 → 256 * q ≤ n → r ≤ q → NonePast r rows → Blank q (replicate n 0) × Blank q (replicate n 0) × NonePast q rows
+two-tables q n r rows few enough h past = let blank = blank-zeros q n few enough in (blank, blank, λ i l. past i (omega arith))
+
 -- where the words were blank and have room for each row, each column has the rows that MATCH gives
 pub each-match : (q : ℕ) (l m : List ℕ) (f : ℕ → ℕ) (rows : ℕ → Bool) → Blank q l → ((i : ℕ) → rows i ≡ true → 1 ≤ i) → NonePast q rows → Bytes f rows
     → MatchedEach q f rows l m → EachMatch q m f rows

@@ -16,6 +16,13 @@ const BITS: usize = 64;
 
 const COLUMN: usize = 16;
 
+// The words of a column for each byte, of one word each, of four and of sixteen.
+pub const OF_ONE: usize = 256;
+
+pub const OF_FOUR: usize = 1024;
+
+pub const OF_SIXTEEN: usize = 4096;
+
 // The words that a column takes for the rows of a slice: one, four or sixteen.
 pub fn words_of(rows: &[u64; COLUMN]) -> usize
     ensures { λ r. ⌜ (r ≤ 16) × NonePast r (inWords (now (rows .entry))) ⌝ }

@@ -14,7 +14,8 @@ ghost use Rattle.star.specs.Mst1.{mst1, mst1Marks};
 ghost use Rattle.star.specs.Call.{tableOf, callOf, workOf};
 ghost use Rattle.table.specs.Loads.{loadedRow};
 ghost use Rattle.table.specs.Tables.{width};
-ghost use Rattle.mst1.specs.steps.Growth.{integersAfter, graphBy, loadedGraph, Grows, Reached, Begun};
+ghost use Rattle.lent.specs.steps.Integers.{integersAfter};
+ghost use Rattle.mst1.specs.steps.Growth.{graphBy, loadedGraph, Grows, Reached, Begun};
 ghost use Rattle.mst1.specs.Answers.{answerOf};
 use refusal::Outcome;
 use refusal::Refusal;
@@ -184,17 +185,17 @@ pub fn grow_tree(
 {
     let words = incidence::words_of(&rows.words);
     if words <= 1 {
-        let mut a = [0u64; 256];
-        let mut b = [0u64; 256];
+        let mut a = [0u64; incidence::OF_ONE];
+        let mut b = [0u64; incidence::OF_ONE];
         return grow_in(left, right, weight, first, rows, n, 1, &mut a, &mut b);
     }
     if words <= 4 {
-        let mut a = [0u64; 1024];
-        let mut b = [0u64; 1024];
+        let mut a = [0u64; incidence::OF_FOUR];
+        let mut b = [0u64; incidence::OF_FOUR];
         return grow_in(left, right, weight, first, rows, n, 4, &mut a, &mut b);
     }
-    let mut a = [0u64; 4096];
-    let mut b = [0u64; 4096];
+    let mut a = [0u64; incidence::OF_SIXTEEN];
+    let mut b = [0u64; incidence::OF_SIXTEEN];
     grow_in(left, right, weight, first, rows, n, 16, &mut a, &mut b)
 }
 

@@ -4,17 +4,16 @@ use Prim.Native.Nat.{ℕ, zero, suc, _+_, _-_, _≤_}
 use native.Mathlib.Nat.{zero-add, suc-add}
 use native.Mathlib.Omega.{arith}
 use lib.ListN.{replicate}
-use mathlib.Core.Bool.{Bool, true, false, cond, _&&_, and-false}
+use mathlib.Core.Bool.{Bool, true, false, cond}
 use mathlib.Core.List.{List}
 use mathlib.Core.Logic.{_≢_}
-use mathlib.Core.Path.{_≡_, refl, sym, ap, _∙_, subst, fun-ext}
+use mathlib.Core.Path.{_≡_, refl, sym, ap, _∙_, subst}
 use Rattle.rowset.specs.Searches.{equalTo}
-use Rattle.rowset.specs.Sets.{empty, upTo, either, oneOf, uppermost}
+use Rattle.rowset.specs.Sets.{empty, either, oneOf, uppermost}
 use Rattle.rowset.specs.Words.{inWords}
+use Rattle.inplace.proofs.Joining.{zeros-none}
 use Rattle.inplace.proofs.Laws.{words-component}
 use Rattle.matrix.specs.Matrix.{matrixColumn, withColumn}
-use Rattle.slice.proofs.Bits.{bit-of-zero}
-use Rattle.slice.proofs.Laws.{component-replicate}
 use Rattle.slice.specs.Slices.{size, written}
 use Rattle.path.proofs.Walks.{along-none, along-ahead, along-back}
 use Rattle.path.specs.steps.Walks.{State, nowhere, arrive, pass, along, step, steps, walk}
@@ -27,9 +26,8 @@ state L R Q w = record { lefts = L; rights = R; reached = Q; words = w }
 abbrev zeros : List ℕ
 zeros = replicate 16 0
 
-zeros-none : inWords zeros ≡ empty
-unfolding empty
-zeros-none = words-component zeros ∙ fun-ext (λ i. component-replicate 0 i ∙ ap (λ (b : Bool). upTo size i && b) (bit-of-zero _) ∙ and-false (upTo size i))
+zeros-words : inWords zeros ≡ empty
+zeros-words = words-component zeros ∙ zeros-none
 
 module _ (a b : ℕ → ℕ) (T : ℕ → Bool) where
   -- row i is taken from u to v
@@ -68,4 +66,4 @@ module _ (a b : ℕ → ℕ) (T : ℕ → Bool) where
   pub begun : {E L R Q : ℕ → Bool} (w : List ℕ) {w' : List ℕ} (s n : ℕ) → E ≡ empty → w' ≡ withColumn w s E → L ≡ either (inWords zeros) (equalTo a s T) → R ≡ either (inWords zeros) (equalTo b s T) → Q ≡ written (inWords zeros) s true
       → steps a b T (state L R Q w') n ≡ walk a b T s w n
   unfolding walk nowhere arrive
-  begun w s n e p q r t = rw (p, q, r, t, e, zeros-none)
+  begun w s n e p q r t = rw (p, q, r, t, e, zeros-words)

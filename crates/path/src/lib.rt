@@ -115,17 +115,17 @@ pub fn walk(left: &[u8], right: &[u8], rows: Slice, s: u32, n: u32, own: &mut [u
 {
     let words = incidence::words_of(&rows.words);
     if words <= 1 {
-        let mut a = [0u64; 256];
-        let mut b = [0u64; 256];
+        let mut a = [0u64; incidence::OF_ONE];
+        let mut b = [0u64; incidence::OF_ONE];
         return walk_in(left, right, rows, s, n, 1, &mut a, &mut b, own);
     }
     if words <= 4 {
-        let mut a = [0u64; 1024];
-        let mut b = [0u64; 1024];
+        let mut a = [0u64; incidence::OF_FOUR];
+        let mut b = [0u64; incidence::OF_FOUR];
         return walk_in(left, right, rows, s, n, 4, &mut a, &mut b, own);
     }
-    let mut a = [0u64; 4096];
-    let mut b = [0u64; 4096];
+    let mut a = [0u64; incidence::OF_SIXTEEN];
+    let mut b = [0u64; incidence::OF_SIXTEEN];
     walk_in(left, right, rows, s, n, 16, &mut a, &mut b, own)
 }
 

@@ -219,8 +219,8 @@ pub fn start_of(
 {
     let words = incidence::words_of(&rows.words);
     if words == 1 {
-        let mut lefts = [0u64; 256];
-        let mut rights = [0u64; 256];
+        let mut lefts = [0u64; incidence::OF_ONE];
+        let mut rights = [0u64; incidence::OF_ONE];
         return start_in(
             left,
             right,
@@ -235,8 +235,8 @@ pub fn start_of(
         );
     }
     if words == 4 {
-        let mut lefts = [0u64; 1024];
-        let mut rights = [0u64; 1024];
+        let mut lefts = [0u64; incidence::OF_FOUR];
+        let mut rights = [0u64; incidence::OF_FOUR];
         return start_in(
             left,
             right,
@@ -250,8 +250,8 @@ pub fn start_of(
             r,
         );
     }
-    let mut lefts = [0u64; 4096];
-    let mut rights = [0u64; 4096];
+    let mut lefts = [0u64; incidence::OF_SIXTEEN];
+    let mut rights = [0u64; incidence::OF_SIXTEEN];
     start_in(
         left,
         right,

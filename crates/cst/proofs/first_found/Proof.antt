@@ -21,7 +21,8 @@ use Rattle.slice.specs.declared.Slice.{Slice}
 use Rattle.cst.proofs.Sets.{component-position}
 use Rattle.cst.proofs.Paths.{heavier-out, exchange-found, none-found, comes-in, Remembered, remembered-more, remembered-all, remembered-bound, equal-found}
 use Rattle.cst.proofs.Sets.{passed-over, later, later-all, later-none, later-next, later-skip, later-some, later-first}
-use Rattle.cst.specs.steps.Paths.{weightIn, integersAfter, someOn, firstOn, rowWith}
+use Rattle.lent.specs.steps.Integers.{integersAfter}
+use Rattle.cst.specs.steps.Paths.{weightIn, someOn, firstOn, rowWith}
 use Rattle.cst.proofs.first_found.Statement.{statement}
 use Rattle.cst.proofs.first_found.Tie as tie
 

@@ -1,6 +1,6 @@
 -- What CST reads from a path matrix: the rows on the tree path between a row's ends that are heavier than that row, or weigh as much, and the first exchange that they allow.
 -- Assumes nothing.
-use Prim.Native.Nat.{ℕ, _-_, _≤_}
+use Prim.Native.Nat.{ℕ, _≤_}
 use mathlib.Core.Bool.{Bool, cond}
 use mathlib.Core.List.{List}
 use mathlib.Core.Option.{none}
@@ -8,8 +8,7 @@ use mathlib.Core.Path.{_≡_}
 use lib.Dec.{eqb}
 use lib.IntN.{ℤ, natAbs, _-ℤ_}
 use Rattle.rowset.specs.Bytes.{inRow}
-use Rattle.rowset.specs.Columns.{width}
-use Rattle.rowset.specs.Integers.{integerIn, signed}
+use Rattle.rowset.specs.Integers.{signed}
 use Rattle.rowset.specs.Searches.{greaterThan, sameAs}
 use Rattle.rowset.specs.Sets.{both, oneOf, any, uppermost}
 use Rattle.matrix.specs.Matrix.{matrixColumn}
@@ -23,10 +22,6 @@ use Rattle.cst.specs.declared.Exchange.{Exchange}
 -- the weight of row i in the bytes of a weight column
 abbrev pub weightIn : List ℕ → ℕ → ℤ
 weightIn weight i = signed (inRow 4 weight i)
-
--- the integer in each row of a table's words, read from the columns after the first ones
-abbrev pub integersAfter : List ℕ → ℕ → ℕ → ℤ
-integersAfter words first = integerIn (matrixColumn words) first (width - first)
 
 -- one of GREAT's two slices, of the rows whose weights are given, compared with a weight, among the selected ones
 abbrev pub Search : Type 0

@@ -1,23 +1,23 @@
 -- `forests::forest_of` meets its contract: words of 0 are blank, and no row stands past the words of a column. Assumes nothing.
 use borrow.Author.Needs.{needs}
 use native.Mathlib.Omega.{arith}
-use Rattle.incidence.proofs.Laws.{blank-zeros}
+use Rattle.incidence.proofs.Laws.{two-tables}
 use Rattle.rowset.specs.Words.{inWords}
-use Rattle.slice.proofs.Laws.{component-above}
 use Rattle.slice.specs.Slices.{component, bit}
 use Rattle.forests.proofs.forest_of.Statement.{statement}
 use Rattle.forests.proofs.forest_of.Tie as tie
 
 forest-in-requires : tie.Need-forest-in-requires
 unfolding inWords component bit
-forest-in-requires c κs = (blank-zeros 1 256 (omega arith) (omega arith), blank-zeros 1 256 (omega arith) (omega arith), λ i h. c .before .before .before .words-of .ensures .1 i (omega (arith, c .before .before .if1 .taken)))
+forest-in-requires c κs = two-tables 1 256 _ _ (omega arith) (omega arith) (c .before .before .if1 .taken) (c .before .before .before .words-of .ensures .1)
 
 forest-in-requires-2 : tie.Need-forest-in-requires-2
 unfolding inWords component bit
-forest-in-requires-2 c κs = (blank-zeros 4 1024 (omega arith) (omega arith), blank-zeros 4 1024 (omega arith) (omega arith), λ i h. c .before .before .before .before .words-of .ensures .1 i (omega (arith, c .before .before .if2 .taken)))
+forest-in-requires-2 c κs = two-tables 4 1024 _ _ (omega arith) (omega arith) (c .before .before .if2 .taken) (c .before .before .before .before .words-of .ensures .1)
 
 forest-in-requires-3 : tie.Need-forest-in-requires-3
-forest-in-requires-3 c κs = (blank-zeros 16 4096 (omega arith) (omega arith), blank-zeros 16 4096 (omega arith) (omega arith), component-above _)
+unfolding inWords component bit
+forest-in-requires-3 c κs = two-tables 16 4096 _ _ (omega arith) (omega arith) (c .before .before .before .before .words-of .ensures .0) (c .before .before .before .before .words-of .ensures .1)
 
 pub forest-of-spec : {M : Type 1} → statement M
 forest-of-spec =

@@ -6,7 +6,8 @@ use lib.ListN.{length}
 use native.Mathlib.Omega.{arith}
 use Rattle.forests.proofs.Runs.{Gathered, gathered-none, gathered-more, gathered-all}
 use Rattle.forest.specs.Districts.{run}
-use Rattle.mst1.specs.steps.Growth.{graphBy, integersAfter}
+use Rattle.lent.specs.steps.Integers.{integersAfter}
+use Rattle.mst1.specs.steps.Growth.{graphBy}
 use Rattle.slice.specs.Slices.{component}
 use Rattle.table.specs.Loads.{loadedRow}
 use Rattle.forests.proofs.forests_of.Statement.{statement}

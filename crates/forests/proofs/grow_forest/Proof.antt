@@ -5,7 +5,8 @@ use borrow.Author.Needs.{needs}
 use native.Mathlib.Omega.{arith}
 use Rattle.forests.proofs.Growing.{Grew, grew-none, grew-ended, grew-more, grew-whole, joined-both}
 use Rattle.inplace.proofs.Joining.{zeros-none}
-use Rattle.mst1.specs.steps.Growth.{graphBy, integersAfter}
+use Rattle.lent.specs.steps.Integers.{integersAfter}
+use Rattle.mst1.specs.steps.Growth.{graphBy}
 use Rattle.rowset.specs.Words.{inWords}
 use Rattle.slice.specs.Slices.{component, bit}
 use Rattle.table.specs.Loads.{loadedRow}

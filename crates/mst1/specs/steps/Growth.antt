@@ -1,6 +1,6 @@
 -- The graph that columns of ends and a slice of rows describe, the tree that grows on it, and the rows by which its fragment is known.
 -- Assumes nothing.
-use Prim.Native.Nat.{ℕ, _-_, _≤_}
+use Prim.Native.Nat.{ℕ, _≤_}
 use mathlib.Core.Bool.{Bool, true, not, _&&_}
 use mathlib.Core.List.{List}
 use mathlib.Core.Option.{some}
@@ -8,8 +8,6 @@ use mathlib.Core.Path.{_≡_}
 use lib.IntN.{ℤ}
 use Rattle.graph.specs.Builder.{treeOf, tree}
 use Rattle.graph.specs.Graph.{Graph}
-use Rattle.matrix.specs.Matrix.{matrixColumn}
-use Rattle.rowset.specs.Integers.{integerIn}
 use Rattle.rowset.specs.Searches.{equalTo}
 use Rattle.rowset.specs.Sets.{empty, upTo, both, either}
 use Rattle.slice.specs.Slices.{size, component, written}
@@ -17,15 +15,10 @@ use Rattle.slice.specs.declared.Slice.{Slice}
 use Rattle.star.specs.Mst1.{chosenRows}
 use Rattle.star.specs.Refusals.{isNone}
 use Rattle.table.specs.Loads.{loadedRow}
-use Rattle.table.specs.Tables.{width}
 
 -- n vertices, and of the positions 1 to 1,024 the rows that a slice selects, with their left and their right ends
 abbrev pub graphBy : (ℕ → ℕ) → (ℕ → ℕ) → Slice → ℕ → Graph
 graphBy a b rows n = record { n = n; m = size; a = a; b = b; rows = component rows }
-
--- the integers in lent columns after the first ones
-abbrev pub integersAfter : List ℕ → ℕ → ℕ → ℤ
-integersAfter words first = integerIn (matrixColumn words) first (width - first)
 
 -- the graph of a left and a right column as they are loaded, over the rows among the first m
 abbrev pub loadedGraph : (n m : ℕ) → (rows : ℕ → Bool) → (left right : List ℕ) → Graph

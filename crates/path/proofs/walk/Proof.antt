@@ -1,7 +1,7 @@
 -- `path::walk` meets its contract: words of 0 are blank, and as many are taken as the rows ask. Assumes nothing.
 use native.Mathlib.Omega.{arith}
 use borrow.Author.Needs.{needs}
-use Rattle.incidence.proofs.Laws.{blank-zeros}
+use Rattle.incidence.proofs.Laws.{two-tables}
 use Rattle.rowset.specs.Words.{inWords}
 use Rattle.slice.specs.Slices.{component, bit}
 use Rattle.path.proofs.walk.Statement.{statement}
@@ -9,21 +9,15 @@ use Rattle.path.proofs.walk.Tie as tie
 
 walk-in-requires : tie.Need-walk-in-requires
 unfolding inWords component bit
-walk-in-requires c κs =
-    let words = c .before .before .before .before .words-of .ensures in
-    (blank-zeros 1 256 (omega arith) (omega arith), blank-zeros 1 256 (omega arith) (omega arith), λ i h. words .1 i (omega (arith, c .before .before .before .if1 .taken)))
+walk-in-requires c κs = two-tables 1 256 _ _ (omega arith) (omega arith) (c .before .before .before .if1 .taken) (c .before .before .before .before .words-of .ensures .1)
 
 walk-in-requires-2 : tie.Need-walk-in-requires-2
 unfolding inWords component bit
-walk-in-requires-2 c κs =
-    let words = c .before .before .before .before .before .words-of .ensures in
-    (blank-zeros 4 1024 (omega arith) (omega arith), blank-zeros 4 1024 (omega arith) (omega arith), λ i h. words .1 i (omega (arith, c .before .before .before .if2 .taken)))
+walk-in-requires-2 c κs = two-tables 4 1024 _ _ (omega arith) (omega arith) (c .before .before .before .if2 .taken) (c .before .before .before .before .before .words-of .ensures .1)
 
 walk-in-requires-3 : tie.Need-walk-in-requires-3
 unfolding inWords component bit
-walk-in-requires-3 c κs =
-    let words = c .before .before .before .before .before .words-of .ensures in
-    (blank-zeros 16 4096 (omega arith) (omega arith), blank-zeros 16 4096 (omega arith) (omega arith), λ i h. words .1 i (omega (arith, words .0)))
+walk-in-requires-3 c κs = two-tables 16 4096 _ _ (omega arith) (omega arith) (c .before .before .before .before .before .words-of .ensures .0) (c .before .before .before .before .before .words-of .ensures .1)
 
 returns : tie.Need-returns
 returns c = let w = c .before .before .before .before .walk-in .ensures in (w .vertices, w .paths)
