@@ -1,4 +1,7 @@
 // The breaking price of a row: over all routes between its ends that do not use it, the least possible heaviest row; or none where no such route exists. Nothing lent is written.
+// The trees are built in one step (`around_rows`), the walk is made in another (`told`), so that what one takes of the stack is given back before the other.
+ghost use Prim.Native.Nat.{ℕ};
+ghost use mathlib.Core.Bool.{Bool};
 ghost use mathlib.Core.Path.{_≡_};
 ghost use Rattle.matrix.specs.Matrix.{matrixColumn};
 ghost use Rattle.path.specs.steps.Walks.{walk};
@@ -12,6 +15,7 @@ ghost use Rattle.table.specs.Loads.{loadedRow};
 ghost use Rattle.quoting.specs.Breaking.{breakingPrice};
 ghost use Rattle.quoting.specs.Quote.{asked, askedWork};
 ghost use Rattle.breaking.specs.Answers.{answerOf};
+ghost use Rattle.breaking.specs.steps.Routes.{Found};
 use refusal::Outcome;
 use refusal::Refusal;
 use slice::SIZE;
@@ -25,6 +29,13 @@ pub enum Breaks {
     At(u32),
     Never,
     Refused(Refusal),
+}
+
+// What the trees say of a row: whether there is a route around it, and then the rows of a tree without it; else the answer.
+struct Around {
+    answer: Breaks,
+    route: bool,
+    chosen: Slice,
 }
 
 // The rows by which the walk over the rows of a tree comes from vertex u to vertex v. The walk fills a path matrix that is lent.
@@ -53,9 +64,9 @@ fn heaviest_price(weight: &[u8], x: Slice) -> u32
     checks::row_weight(weight, heaviest)
 }
 
-// The breaking price over a table of m rows, of which those of a slice are in use. The tree is built without the row: where there is one, the heaviest row on its path between the row's ends has the breaking price,
-// and the table is connected. Where there is none, the tree with the row says whether the table is.
-pub fn breaking_rows(
+// What the trees of a table of m rows, of which those of a slice are in use, say of a row: where a tree is built without the row, that there is a route, and the tree's rows; else the answer.
+// The table is then connected if the tree with the row is a whole one.
+fn around_rows(
     n: u32,
     m: usize,
     whole: bool,
@@ -64,10 +75,10 @@ pub fn breaking_rows(
     right: &[u8],
     weight: &[u8],
     row: u32,
-) -> Breaks
+) -> Around
     ensures { λ r.
         let c = tableOf n m whole (component rows) (now (left .entry)) (now (right .entry)) (now (weight .entry)) (now (left .entry)) in
-        ⌜ answerOf r ≡ breakingPrice c row ⌝ }
+        ⌜ Found c row (answerOf (r .answer)) (r .route) (component (r .chosen)) ⌝ }
 {
     if let Outcome::Refused(refusal) = quote::row_check(
         n,
@@ -79,25 +90,53 @@ pub fn breaking_rows(
         weight,
         row,
     ) {
-        return Breaks::Refused(refusal);
+        return Around {
+            answer: Breaks::Refused(refusal),
+            route: false,
+            chosen: Slice::empty(),
+        };
     }
     let others = slice::put(rows, row as usize, false);
     let around = mst1::tree_of(n, m, others, left, right, weight);
     if around.whole {
-        let u = checks::row_byte(left, row as usize) as u32;
-        let v = checks::row_byte(right, row as usize) as usize;
-        let mut own = [0u64; path::ALL_WORDS];
-        let path = path_between(n, left, right, around.chosen, u, v, &mut own);
-        return Breaks::At(heaviest_price(weight, path));
+        let chosen = around.chosen;
+        return Around {
+            answer: Breaks::At(0),
+            route: true,
+            chosen: chosen,
+        };
     }
     let tree = mst1::tree_of(n, m, rows, left, right, weight);
     if tree.whole {
-        return Breaks::Never;
+        return Around {
+            answer: Breaks::Never,
+            route: false,
+            chosen: Slice::empty(),
+        };
     }
-    Breaks::Refused(Refusal {
+    let refusal = Refusal {
         number: 11,
         place: 0,
-    })
+    };
+    Around {
+        answer: Breaks::Refused(refusal),
+        route: false,
+        chosen: Slice::empty(),
+    }
+}
+
+// The answer: where there is a route, the heaviest row on the tree's path between the row's ends has the breaking price.
+fn told(n: u32, left: &[u8], right: &[u8], weight: &[u8], row: u32, around: Around) -> Breaks
+    ensures { λ r. ⌜ ((m : ℕ) (whole : Bool) (rows : ℕ → Bool) → Found (tableOf n m whole rows (now (left .entry)) (now (right .entry)) (now (weight .entry)) (now (left .entry))) row (answerOf (around .answer)) (around .route) (component (around .chosen)) → answerOf r ≡ breakingPrice (tableOf n m whole rows (now (left .entry)) (now (right .entry)) (now (weight .entry)) (now (left .entry))) row) ⌝ }
+{
+    if !around.route {
+        return around.answer;
+    }
+    let u = checks::row_byte(left, row as usize) as u32;
+    let v = checks::row_byte(right, row as usize) as usize;
+    let mut own = [0u64; path::ALL_WORDS];
+    let path = path_between(n, left, right, around.chosen, u, v, &mut own);
+    Breaks::At(heaviest_price(weight, path))
 }
 
 // The breaking price over a plain table: a row for each byte of the left column, all in use.
@@ -107,7 +146,8 @@ pub fn breaking(n: u32, left: &[u8], right: &[u8], weight: &[u8], row: u32) -> B
         ⌜ answerOf r ≡ breakingPrice c row ⌝ }
 {
     let m = left.len();
-    breaking_rows(n, m, true, rows_to(m), left, right, weight, row)
+    let around = around_rows(n, m, true, rows_to(m), left, right, weight, row);
+    told(n, left, right, weight, row, around)
 }
 
 // The breaking price over a working table: 1,024 rows, and the rows in use lent as sixteen words.
@@ -124,5 +164,7 @@ pub fn work_breaking(
         ⌜ answerOf r ≡ breakingPrice c row ⌝ }
 {
     let whole = words.len() == WORDS;
-    breaking_rows(n, SIZE, whole, rows_in_use(words), left, right, weight, row)
+    let rows = rows_in_use(words);
+    let around = around_rows(n, SIZE, whole, rows, left, right, weight, row);
+    told(n, left, right, weight, row, around)
 }
