@@ -65,7 +65,7 @@ fn heaviest_price(weight: &[u8], x: Slice) -> u32
 }
 
 // What the trees of a table of m rows, of which those of a slice are in use, say of a row: where a tree is built without the row, that there is a route, and the tree's rows; else the answer.
-// The table is then connected if the tree with the row is a whole one.
+// Where no tree is built without the row, the tree with the row says whether the table is connected.
 fn around_rows(
     n: u32,
     m: usize,
