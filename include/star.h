@@ -43,6 +43,8 @@
  * of numbers or ends the numbers, that of a list of records the records. An empty column may be lent as a null pointer with length 0. The calling thread has
  * stack left, 1 MiB for star_import and star_digs_text, 320 KiB for star_mend and star_work_mend, and 128 KiB for each of the
  * others, whatever is lent. Nothing else is asked.
+ *
+ * This header is C99, and C++98 with the stdint.h of C99.
  */
 #ifndef STAR_H
 #define STAR_H
@@ -85,11 +87,17 @@ enum star_kind {
                          star_quote: both totals are found; star_breaking: there is such a price; star_which: both claims are trees;
                          star_digs: the list is written; star_import: the text is read; star_strike, star_add, star_merge, star_districts,
                          star_mend, star_outlets: done */
-    STAR_LIGHTER = 2, /* a cheaper set exists: the exchange of two rows is one */
-    STAR_NEVER = 2    /* star_breaking: no other route joins the row's ends, so that it is in every network */
+    STAR_LIGHTER = 2  /* star_cst, star_other: a cheaper set exists: the exchange of two rows is one */
 };
 
-/* Byte 1 of a refused answer, and what its place is. 5 is not used. */
+/* Byte 0 of an answer of star_breaking where it is neither STAR_REFUSED nor STAR_PASSED. It is the
+ * number of STAR_LIGHTER, which star_breaking never answers, so it has an enum of its own. */
+enum star_breaking_kind {
+    STAR_NEVER = 2 /* no other route joins the row's ends, so that it is in every network */
+};
+
+/* Byte 1 of a refused answer, and what its place is; 0 where none is named. 5 is not used. Each door
+ * lists its refusals below in their order: the first of them that applies is told. */
 enum star_refusal {
     STAR_BAD_JUNCTION_COUNT = 1, /* n is 0 or above 255 */
     STAR_TOO_MANY_ROWS = 2,      /* m is above 1,024 */
@@ -123,56 +131,64 @@ enum star_refusal {
 /* A refusal in words, such as "no set of rows joins every junction"; never a null pointer, whatever the number. */
 const char *star_refusal_text(unsigned number);
 
+/* Judges the claim. STAR_PASSED: it is a least network, amount is its total, and only is 1 where no
+ * other has this total. STAR_LIGHTER: it is a network, and taking out row out and putting in row in
+ * saves amount. A refusal is 1, 2, 3, 4, 15, 6, 9 or 10, in this order. */
 uint32_t star_cst(uint32_t n, const uint8_t *left, size_t left_len, const uint8_t *right, size_t right_len,
                   const uint8_t *weight, size_t weight_len, const uint8_t *mark, size_t mark_len, uint8_t *answer,
                   size_t answer_len);
 
 /* As star_cst; and where the claim passes and is not the only cheapest network, out and in are two rows whose exchange gives another of the
- * same total. */
+ * same total. A refusal is 1, 2, 3, 4, 15, 6, 9 or 10, in this order. */
 uint32_t star_other(uint32_t n, const uint8_t *left, size_t left_len, const uint8_t *right, size_t right_len,
                     const uint8_t *weight, size_t weight_len, const uint8_t *mark, size_t mark_len, uint8_t *answer,
                     size_t answer_len);
 
+/* Builds a least network and marks its rows, with 0 at every other; amount is its total. The marks
+ * lent are not read. A refusal is 1, 2, 3, 4, 15 or 11, in this order. */
 uint32_t star_mst1(uint32_t n, const uint8_t *left, size_t left_len, const uint8_t *right, size_t right_len,
                    const uint8_t *weight, size_t weight_len, uint8_t *mark, size_t mark_len, uint8_t *answer,
                    size_t answer_len);
 
 /* Fills the path matrix of a claim that is a tree: sixteen words for each junction, in which the rows on the path from s to it are 1. The words
- * from 16 n on keep their content. Where nothing is refused the answer's kind is STAR_PASSED and all else is 0. */
+ * from 16 n on keep their content. Where nothing is refused the answer's kind is STAR_PASSED and all else is 0. A refusal is 1, 2, 3, 4,
+ * 15, 6, 7, 8, 9 or 10, in this order: 7 where s is 0 or above n, 8 where the matrix has fewer than
+ * 16 n words, 10 with the smallest junction that marked rows do not join to s. */
 uint32_t star_paths(uint32_t n, const uint8_t *left, size_t left_len, const uint8_t *right, size_t right_len,
                     const uint8_t *weight, size_t weight_len, const uint8_t *mark, size_t mark_len, uint32_t s,
                     uint64_t *matrix, size_t words, uint8_t *answer, size_t answer_len);
 
 /* The least total as the table stands, and the least total after a row, counted from 1, has another price; any price is taken. The answer has
  * twenty-four bytes: star_read_quoted reads them. The two totals differ by at most the change in price, and never in the opposite direction. A
- * refusal is 1, 2, 3, 4, 15, 7 or 11. */
+ * refusal is 1, 2, 3, 4, 15, 7 or 11, in this order. */
 uint32_t star_quote(uint32_t n, const uint8_t *left, size_t left_len, const uint8_t *right, size_t right_len,
                     const uint8_t *weight, size_t weight_len, uint32_t row, int32_t price, uint8_t *answer,
                     size_t answer_len);
 
 /* The breaking price of a row, counted from 1: over all routes between its ends that do not use it, the least possible price of the dearest row. A
  * new price moves the least total by exactly min(new, breaking) - min(old, breaking). The row's own price plays no part. STAR_PASSED: amount is
- * the breaking price; STAR_NEVER: no such route, all else is 0, and the least total moves by new - old. It refuses as star_quote does. */
+ * the breaking price; STAR_NEVER: no such route, all else is 0, and the least total moves by new - old. A refusal is
+ * 1, 2, 3, 4, 15, 7 or 11, in this order. */
 uint32_t star_breaking(uint32_t n, const uint8_t *left, size_t left_len, const uint8_t *right, size_t right_len,
                        const uint8_t *weight, size_t weight_len, uint32_t row, uint8_t *answer, size_t answer_len);
 
 /* Which of two claims over one table costs less: returns 1 for the first, also where they cost the same, and 2 for the second; amount is its total.
- * Both have to be trees, and neither has to be a least one. On a refusal, which is that of star_cst for the first claim, else for the second, it
- * returns 0. */
+ * Both have to be trees, and neither has to be a least one. A refusal is 1, 2, 3, 4, 15, 6, 9 or 10, in this order, as star_cst
+ * gives it of the first claim, else 3, 6, 9 or 10 of the second; then 0 is returned. */
 uint32_t star_which(uint32_t n, const uint8_t *left, size_t left_len, const uint8_t *right, size_t right_len,
                     const uint8_t *weight, size_t weight_len, const uint8_t *first, size_t first_len, const uint8_t *second,
                     size_t second_len, uint8_t *answer, size_t answer_len);
 
 /* Writes the dig list of the least network that star_mst1 builds at the start of a text that is lent, of 6,370 bytes or more; the bytes behind it
  * stay. A line has a row of the network, from the top: position, left, right, price, a single space between, in decimal; the last line has Total, a
- * space and the sum; each ends with LF. amount is the list's length. A refusal is 1, 2, 3, 4, 15 or 11, and leaves the text. A shorter text is as an
+ * space and the sum; each ends with LF. amount is the list's length. A refusal is 1, 2, 3, 4, 15 or 11, in this order, and leaves the text. A shorter text is as an
  * answer of another length: 0 is returned, and nothing is written. */
 uint32_t star_digs(uint32_t n, const uint8_t *left, size_t left_len, const uint8_t *right, size_t right_len,
                    const uint8_t *weight, size_t weight_len, uint8_t *text, size_t text_len, uint8_t *answer,
                    size_t answer_len);
 
-/* The same from an STP text. A refusal is one of star_import, else 11; the answer is read by star_read_imported where it is refused, since the
- * place is in bytes 8 to 15. The calling thread has 1 MiB of stack left. */
+/* The same from an STP text. A refusal is 12, 13, 1, 2, 4, 15 or 11, in this order; the answer is read by star_read_imported where it is refused, since
+ * the place is in bytes 8 to 15. The calling thread has 1 MiB of stack left. */
 uint32_t star_digs_text(const uint8_t *stp, size_t stp_len, uint8_t *text, size_t text_len, uint8_t *answer, size_t answer_len);
 
 /* Whether a row, counted from 1, is on the path to a junction, by a matrix that star_paths has filled. */
@@ -191,7 +207,7 @@ static inline void star_set_in_use(uint64_t *in_use, size_t row, int used) {
 }
 
 /* The doors over the rows in use of a working table. left, right and mark are 1,024 bytes, weight 4,096, in_use sixteen words, else the call is
- * refused 3; 2 does not occur. The refusals look at rows in use alone. Marks at other rows are not read; star_work_mst1,
+ * refused 3; 2 does not occur, and the other refusals stand in the order of star_X. They look at rows in use alone. Marks at other rows are not read; star_work_mst1,
  * star_work_districts and star_work_outlets write 0 there, and star_work_mend leaves them. */
 uint32_t star_work_cst(uint32_t n, const uint64_t *in_use, size_t in_use_words, const uint8_t *left, size_t left_len, const uint8_t *right,
                        size_t right_len, const uint8_t *weight, size_t weight_len, const uint8_t *mark, size_t mark_len,
@@ -224,20 +240,34 @@ uint32_t star_work_which(uint32_t n, const uint64_t *in_use, size_t in_use_words
                          size_t right_len, const uint8_t *weight, size_t weight_len, const uint8_t *first, size_t first_len,
                          const uint8_t *second, size_t second_len, uint8_t *answer, size_t answer_len);
 
-/* Takes a row out of use: its bit is cleared, and its bytes stay. A refusal is 18, else 3. Where nothing is refused the answer's kind is
+/* Takes a row out of use: its bit is cleared, and its bytes stay. A refusal is 18 or 3, in this order. Where nothing is refused the answer's kind is
  * STAR_PASSED and all else is 0. */
 uint32_t star_strike(uint64_t *in_use, size_t in_use_words, uint32_t row, uint8_t *answer, size_t answer_len);
 
 /* Enters a row that joins a and b at a price: directly after the last row in use, or at 1 if there is none. Where row 1,024 is in use the table is
  * packed first, as star_merge does. The answer's amount is the new row's position. The 1,024 numbers get each earlier row's position, which is its
  * own where nothing is packed, at the index of its old one; 0 for a row that was not in use. a, b and the price are not looked at: what is wrong
- * with them is told when the table is next judged or built. A refusal is 17, else 3. */
+ * with them is told when the table is next judged or built. A refusal is 17 or 3, in this order.
+ *
+ * It takes no marks: star_carry_marks moves them, after each star_add and after each star_merge, by
+ * the numbers of that call, since the next call writes the numbers anew. Where marks are not carried
+ * after a star_add that packed, they stand at other rows than before; and where it did not pack, the
+ * new row has the byte that stands at its place, such as the mark of a row that was struck. Carried
+ * marks have 0 there:
+ *
+ *     star_add(in_use, 16, left, 1024, right, 1024, weight, 4096, numbers, 1024, a, b, price,
+ *              answer, 16);
+ *     if (answer[0] == STAR_PASSED) star_carry_marks(mark, numbers);
+ *     star_merge(in_use, 16, left, 1024, right, 1024, weight, 4096, numbers, 1024, answer, 16);
+ *     if (answer[0] == STAR_PASSED) star_carry_marks(mark, numbers);
+ *
+ * A refused call leaves the numbers as they were: nothing is to be carried then. */
 uint32_t star_add(uint64_t *in_use, size_t in_use_words, uint8_t *left, size_t left_len, uint8_t *right, size_t right_len, uint8_t *weight,
                   size_t weight_len, uint32_t *numbers, size_t count, uint8_t a, uint8_t b, int32_t price, uint8_t *answer,
                   size_t answer_len);
 
 /* Packs the rows in use to the top in their order, and clears the other rows. The 1,024 numbers get, for row i at index i - 1, its new position, or 0
- * where it was not in use. It takes no marks: star_carry_marks moves them. No least total changes, and a claim that passed passes again. A refusal is 3.
+ * where it was not in use. It takes no marks: star_carry_marks moves them, as after star_add. No least total changes, and a claim that passed passes again. A refusal is 3.
  * Where nothing is refused the answer's kind is STAR_PASSED and all else is 0. */
 uint32_t star_merge(uint64_t *in_use, size_t in_use_words, uint8_t *left, size_t left_len, uint8_t *right, size_t right_len, uint8_t *weight,
                     size_t weight_len, uint32_t *numbers, size_t count, uint8_t *answer, size_t answer_len);
@@ -308,7 +338,7 @@ uint32_t star_work_outlets(uint32_t n, const uint64_t *in_use, size_t in_use_wor
 /* Reads an STP text: a first line that opens with 33D32945; sections, of which one is named Graph, with its lines Nodes N, Edges M,
  * E LEFT RIGHT PRICE for each row, END; and EOF. Sections of other names are skipped. left, right and weight are lent for 1,024 rows:
  * 1,024, 1,024 and 4,096 bytes. The m rows of the text are written at the top, and rows past m keep their content. A PRICE may open
- * with -; one outside -2,147,483,648 to 2,147,483,647 is a word that cannot stand. A refusal is 12, else 13, 1, 2, 3, 4 or 15. The first m
+ * with -; one outside -2,147,483,648 to 2,147,483,647 is a word that cannot stand. A refusal is 12, 13, 1, 2, 3, 4 or 15, in this order. The first m
  * rows (4 m bytes of weight) are what star_cst and star_mst1 take. */
 uint32_t star_import(const uint8_t *text, size_t text_len, uint8_t *left, size_t left_len, uint8_t *right, size_t right_len,
                      uint8_t *weight, size_t weight_len, uint8_t *answer, size_t answer_len);

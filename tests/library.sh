@@ -79,6 +79,21 @@ built with it: 7
   row 6 is now row 5
 checked after the merge: 7
 TEXT
+cat >"$work/expected-carried" <<'TEXT'
+built: 12
+row 3 is struck
+the plan without row 3: passed, 12
+row 5 is added
+the plan after an add that packed: passed, 12
+row 4 is struck
+the plan after the merge: passed, 12
+row 5 is added
+built: 8
+row 5 is struck
+row 5 is added
+its mark before marks are carried: 1
+its mark after that: 0
+TEXT
 cat >"$work/expected-prices" <<'TEXT'
 row 4 at 9: 12 today, 13 then
 row 4 at -3: 12 today, 5 then
@@ -118,11 +133,47 @@ the least with this number: 15
 the least with this number: refused 19, no network has exactly this number of rows at the junction
 TEXT
 mv "$work/expected" "$work/expected-plan"
-for example in plan blocked prices plans; do
+for example in plan blocked carried prices plans; do
     holds "c99 $example" "$compiler" -std=c99 "${strict[@]}" -o "$work/$example-c" "console/examples/$example.c" "${flags[@]}"
     holds "c++17 $example" "$plus" -std=c++17 "${strict[@]}" -o "$work/$example-cpp" -x c++ "console/examples/$example.c" -x none "${flags[@]}"
     for language in c cpp; do holds "$example-$language" diff "$work/expected-$example" <("$work/$example-$language" 2>&1); done
 done
+
+# The header by itself, in each language that it names; every kind in a switch over its enum, and the three of star_breaking in another.
+cat >"$work/header.c" <<'TEXT'
+#include "star.h"
+static int told(enum star_kind kind) {
+    switch (kind) {
+    case STAR_REFUSED: return 0;
+    case STAR_PASSED: return 1;
+    case STAR_LIGHTER: return 2;
+    }
+    return 3;
+}
+static int breaking(unsigned kind) {
+    switch (kind) {
+    case STAR_REFUSED: return 0;
+    case STAR_PASSED: return 1;
+    case STAR_NEVER: return 2;
+    default: return 3;
+    }
+}
+int main(void) { return told(STAR_LIGHTER) != 2 || breaking(STAR_NEVER) != 2; }
+TEXT
+holds header-c99 "$compiler" -std=c99 -pedantic "${strict[@]}" -Wconversion -o "$work/header-c" "$work/header.c" "${flags[@]}"
+holds header-c++98 "$plus" -std=c++98 -pedantic "${strict[@]}" -Wconversion -o "$work/header-cpp" -x c++ "$work/header.c" -x none "${flags[@]}"
+for language in c cpp; do holds "header-$language" "$work/header-$language"; done
+holds carried-c++98 "$plus" -std=c++98 -pedantic "${strict[@]}" -o "$work/carried-98" -x c++ console/examples/carried.c -x none "${flags[@]}"
+holds carried-98 diff "$work/expected-carried" <("$work/carried-98" 2>&1)
+holds header-names-languages grep -q 'This header is C99, and C++98' "$to/include/star.h"
+
+# Each door over a plain table, and each that changes a working one, lists its refusals above its declaration.
+awk '/^\/\*/ { text = "" }
+     { text = text " " $0 }
+     /^uint32_t star_/ && !/^uint32_t star_work_/ && text !~ /refusal is[ *]*[0-9]/ { print; missing = 1 }
+     /^$/ { text = "" }
+     END { exit missing }' "$to/include/star.h" >"$work/unlisted"
+holds refusals-listed [ ! -s "$work/unlisted" ]
 
 # A text for every refusal that the header names, each its own, and one for any other number, 5 among them.
 cat >"$work/texts.c" <<'TEXT'
@@ -135,6 +186,7 @@ int main(void) {
         for (k = 0; k < i; k++)
             if (strlen(star_refusal_text(i)) < 10 || strcmp(star_refusal_text(i), star_refusal_text(k)) == 0) return 1;
     if (strcmp(star_refusal_text(STAR_NO_NETWORK), "no set of rows joins every junction") != 0) return 2;
+    if (strcmp(star_refusal_text(STAR_NOT_JOINED), "the marked rows do not join all junctions") != 0) return 4;
     if (strcmp(star_refusal_text(5), star_refusal_text(1000000)) != 0 || strcmp(star_refusal_text(20), star_refusal_text(5)) != 0) return 3;
     return strcmp(star_refusal_text(1000000), star_refusal_text((unsigned)-1)) != 0;
 }
