@@ -3,6 +3,7 @@
 # make test      the whole gate: proofs, must-fail edits, programs, tests from outside
 # make bench     times the doors against other libraries, where they are installed, and plots the times (target/c/bench.svg)
 # make counts    the instructions of each call of the bench, by callgrind
+# make manual    the sections of the manual page and of the documents that are made from the table of commands (console/pages.c)
 # make install PREFIX=DIR     the header, the library, the console, its manual page, the pkg-config file; needs no toolchain once all is built
 # make uninstall PREFIX=DIR   removes these files
 CC ?= cc
@@ -38,7 +39,7 @@ echo "proved ($$(($$(date +%s) - began)) s in all)"
 endef
 
 # What is installed is taken as it was built: make install alone asks rt for nothing that is there.
-ifneq ($(filter-out install uninstall,$(or $(MAKECMDGOALS),all)),)
+ifneq ($(filter-out install uninstall manual,$(or $(MAKECMDGOALS),all)),)
 $(ARCHIVES) $(RUNS): target/staticlib/lib%.a: target/stamp/%
 endif
 
@@ -135,6 +136,13 @@ $(PLAIN): $(BUILD)/%.o: tests/%.c tests/plain.h tests/plain_work.h tests/plain_a
 $(BUILD)/bench: $(ARCHIVE) $(wildcard bench/*.[ch]pp) $(PLAIN) include/star.h
 	$(CXX) -std=c++17 $(CXXFLAGS) -Iinclude -Itests $$(pkg-config --cflags igraph 2>/dev/null) -o $@ bench/bench.cpp $(PLAIN) $(ARCHIVE) $$(pkg-config --libs igraph 2>/dev/null)
 
+$(BUILD)/manual: console/manual/manual.c console/pages.c console/pages.h
+	@mkdir -p $(BUILD)
+	$(CC) -std=c99 $(CFLAGS) -Iconsole -o $@ console/manual/manual.c console/pages.c
+
+manual: $(BUILD)/manual
+	for file in $(wildcard console/star.1 README.md docs/GUIDE.md); do $(BUILD)/manual <$$file >$(BUILD)/made && cp $(BUILD)/made $$file || exit 1; done
+
 run: $(BUILD)/star
 	$(BUILD)/star check console/examples/yard.txt
 
@@ -172,4 +180,4 @@ clean:
 	rm -rf target
 
 FORCE:
-.PHONY: all proved run test outside bench counts install uninstall clean FORCE
+.PHONY: all proved manual run test outside bench counts install uninstall clean FORCE

@@ -4,53 +4,11 @@
 #include <string.h>
 
 #include "commands.h"
+#include "help.h"
 #include "input.h"
 #include "output.h"
 #include "status.h"
 #include "usage.h"
-
-static const char HELP[] =
-    "usage: star check [FILE]          judge the marked trenches\n"
-    "       star build [FILE]          list the cheapest trenches that reach every junction\n"
-    "       star build --table [FILE]  write the table with these trenches marked\n"
-    "       star explain FILE [TRENCH] say why: each trench left out, or the one named, against its detour; a ring; the limit of 255\n"
-    "       star page [FILE]           write a page (HTML) that shows the same in pictures\n"
-    "       star draw [FILE]           write a picture (SVG) of the network, with what check says of it\n"
-    "       star dot [FILE]            write the same for Graphviz (DOT)\n"
-    "       star table [FILE]          write the trenches as a table; those of an STP file are not marked\n"
-    "       star digs [FILE]           write the dig list for the site: a line a trench of the cheapest network, and the total\n"
-    "       star quote FILE TRENCH PRICE     say what the cheapest network costs today, and when this trench has the new price\n"
-    "       star breaking FILE TRENCH  say up to which price a cheapest network has this trench, and which one takes its place above\n"
-    "       star which FILE FILE       say which of two plans costs less; the files are the same but for their marks\n"
-    "       star stretch FILE JUNCTION JUNCTION   list the plan's trenches between two junctions, and name the dearest\n"
-    "       star strike FILE TRENCH..  write the file with these trenches struck\n"
-    "       star add FILE LEFT RIGHT PRICE   write the file with a trench more, after the last one in use\n"
-    "       star merge [FILE]          write the file without its struck trenches, and tell the new numbers of the others\n"
-    "       star districts [--table] FILE END..   list the cheapest trenches of each district, END its last trench, then the city's from these\n"
-    "       star mend [FILE]           write the file with its plan made a cheapest network, and tell each step\n"
-    "       star outlets [--table] FILE JUNCTION COUNT   list a cheapest network with exactly COUNT trenches at JUNCTION\n"
-    "       star --help, -h            this text\n"
-    "       star --version             the version\n"
-    "\n"
-    "-o FILE writes to FILE in place of standard output. Standard input is read where no FILE, or -, is given.\n"
-    "explain tells of the first ten trenches that matter; with --all of every one.\n"
-    "\n"
-    "FILE has a line a trench: two junctions, a price and a mark, parted by blanks; the mark is 1 for a\n"
-    "trench of the plan and 0 for any other, and build needs none. Trenches are counted from 1 in the\n"
-    "order of the lines. A line 'junctions N' gives the number of junctions; without it they are as many\n"
-    "as the largest one named. What follows # on a line is a comment.\n"
-    "A line that opens with 'struck' has a trench that keeps its number and is left out of everything.\n"
-    "At most 255 junctions and 1024 trenches are taken. A price is a whole number from -2147483648 to\n"
-    "2147483647; it is below 0 where a grant exceeds the cost.\n"
-    "\n"
-    "FILE may be a SteinLib STP file too, told by its first word, 33D32945: its junctions are the Nodes of the\n"
-    "section Graph, its trenches the E lines. It has at most 65536 bytes. It marks no trench, so there is\n"
-    "nothing to check: build, digs, districts and outlets choose trenches, quote and breaking need no marks,\n"
-    "draw, dot and page show them unmarked, and table writes a table in which they can be marked.\n"
-    "\n"
-    "Exit status: 0 passed, built, told, drawn or written; 1 a cheaper set exists (check, stretch); 2 the table, the text, the plan\n"
-    "or what was asked was refused; 3 the input could not be read, or the two files of 'which' have not the same trenches; 4 wrong usage;\n"
-    "5 the output could not be written.\n";
 
 struct command {
     const char *name;
@@ -162,32 +120,41 @@ static int run(struct request *r) {
     return status;
 }
 
-/* Writes a text of the console's own. */
-static int tell(struct request *r, const char *text) {
+/* Writes what the console says of itself: the help of a command, or of all where it is NULL. */
+static int tell_help(struct request *r) {
     FILE *to = output_open(&r->out);
+    const struct page *p = r->command ? page_of(r->command->name) : NULL;
     if (!to) return EXIT_UNWRITTEN;
-    fputs(text, to);
+    if (p) help_of(to, p);
+    else help_all(to);
     return EXIT_PASSED;
 }
 
+static int tell_version(struct request *r) {
+    FILE *to = output_open(&r->out);
+    if (!to) return EXIT_UNWRITTEN;
+    fprintf(to, "star %s\n", star_version());
+    return EXIT_PASSED;
+}
+
+static int asks_help(const char *word) { return strcmp(word, "--help") == 0 || strcmp(word, "-h") == 0 || strcmp(word, "help") == 0; }
+
 int main(int count, char **words) {
     struct request r = {NULL, NULL, {0, 0, 0, NULL, NULL, 0}, {NULL, NULL}, 0};
-    struct message version = {{0}, 0};
     int status;
     if (count < 2) {
-        fputs(HELP, stderr);
+        help_all(stderr);
         return EXIT_USAGE;
     }
     r.command = find(words[1]);
     if (r.command) {
         status = options(&r, words + 2);
         if (status != 0) return status;
-        status = r.help ? tell(&r, HELP) : run(&r);
-    } else if (strcmp(words[1], "--help") == 0 || strcmp(words[1], "-h") == 0 || strcmp(words[1], "help") == 0) {
-        status = tell(&r, HELP);
+        status = r.help ? tell_help(&r) : run(&r);
+    } else if (asks_help(words[1])) {
+        status = tell_help(&r);
     } else if (strcmp(words[1], "--version") == 0) {
-        say(&version, "star %s\n", star_version());
-        status = tell(&r, version.text);
+        status = tell_version(&r);
     } else {
         return misused(words[1][0] == '-' ? "unknown option" : "unknown command", words[1]);
     }

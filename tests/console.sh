@@ -195,12 +195,12 @@ done
 
 # Habits.
 try dash 0 'Total 5' '1 2 5 1\n' check -
-try help 0 '^usage: star check' '' --help
-try help-short 0 '^usage: star check' '' -h
-try help-after 0 '^usage: star check' '' build --help
-try help-after-short 0 '^usage: star check' '' draw -h $yard
+try help 0 '^usage: star COMMAND' '' --help
+try help-short 0 '^usage: star COMMAND' '' -h
+try help-after 0 '^usage: star build ' '' build --help
+try help-after-short 0 '^usage: star draw ' '' draw -h $yard
 try version 0 '^star [0-9]+\.[0-9]+\.[0-9]+$' '' --version
-try usage-none 4 '^usage: star check' ''
+try usage-none 4 '^usage: star COMMAND' ''
 try usage-command 4 "unknown command 'mending'" '' mending
 try usage-option 4 "unknown option '--tabel'" '' build --tabel $yard
 try usage-table 4 "unknown option '--table'" '' check --table $yard

@@ -225,10 +225,10 @@ fi
 
 # The manual page: every command, option and status of the help, and no fault that a formatter finds.
 manual=$to/share/man/man1/star.1
-for word in check build explain page draw dot table digs quote breaking which stretch strike add merge districts mend outlets struck '\\-\\-table' '\\-\\-all' '\\-o' '\\-h' '\\-\\-help' '\\-\\-version'; do holds "manual $word" grep -q -- "$word" "$manual"; done
+for word in $("$to/bin/star" --help | sed -n 's/^  \([a-z]*\) .*/\1/p') struck '\\-\\-table' '\\-\\-all' '\\-o' '\\-h' '\\-\\-help' '\\-\\-version'; do holds "manual $word" grep -q -- "$word" "$manual"; done
 for status in 0 1 2 3 4 5; do holds "manual status $status" grep -qx ".B $status" "$manual"; done
 if command -v groff >/dev/null; then holds manual-format [ -z "$(groff -t -man -ww -z -Tascii "$manual" 2>&1)" ]; fi
-for word in 'star explain' 'star page' 'star digs' 'star quote' 'star breaking' 'star which' 'star stretch' 'star strike' 'star add' 'star merge' 'star districts' 'star mend' 'star outlets' "opens with 'struck'" '--all' 'star dot' '-o FILE' '--version' '5 the output'; do holds "help $word" grep -q -- "$word" <("$to/bin/star" --help); done
+for word in "opens with 'struck'" '-o OUTPUT' '5 the output'; do holds "help $word" grep -q -- "$word" <("$to/bin/star" --help); done
 
 # uninstall removes what install has put there, and nothing else.
 touch "$to/bin/other"

@@ -104,6 +104,8 @@ fi
 star=$(realpath "$build/star")
 bash tests/console.sh "$star" | tee "$work/console"
 add "$work/console"
+python3 -B tests/help.py "$star" | tee "$work/help"
+add "$work/help"
 bash tests/changes.sh "$star" | tee "$work/changes"
 add "$work/changes"
 bash tests/asked.sh "$star" | tee "$work/console-asked"

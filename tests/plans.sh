@@ -63,7 +63,7 @@ for words in "districts --table -o %s $yard 4" 'mend -o %s tests/console/mend-ap
     verdict "refused, and nothing written: $words" $?
 done
 for words in "districts $yard 5" "districts --table $yard 5" "mend $old" "outlets $yard 1 2" "outlets --table $yard 1 2"; do unwritten $words; done
-for word in districts mend outlets; do try "help: $word" 0 "^ +star $word " '' $word --help; done
+for word in districts mend outlets; do try "help: $word" 0 "^usage: star $word " '' $word --help; done
 
 echo "$passed passed, $failed failed"
 [ "$failed" = 0 ]

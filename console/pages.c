@@ -1,0 +1,354 @@
+/* The table of commands. The examples are run by tests/help.py, and their output is held to what stands here. */
+#include "pages.h"
+
+#include <string.h>
+
+const char *const STATUS_TEXT[STATUSES] = {
+    "passed, built, told, drawn or written",
+    "a cheaper set exists",
+    "the table, the text, the plan or what was asked was refused; the message has the refusal's number",
+    "the input could not be read",
+    "wrong usage",
+    "the output could not be written",
+};
+
+const struct option OPTIONS[] = {
+    {"--table", "", "writes a table with the chosen trenches marked"},
+    {"--all", "", "tells of every trench that is left out, and not of ten"},
+    {"-o", "OUTPUT", "writes to the file OUTPUT in place of standard output"},
+    {"--help", "", "writes the command's page; also -h"},
+    {NULL, NULL, NULL},
+};
+
+const struct page PAGES[] = {
+    {
+        .name = "check",
+        .words = "[FILE]",
+        .options = "",
+        .line = "say whether the plan is a cheapest network",
+        .does = "Says whether the marked trenches reach every junction at the least total "
+                "price.\n\n"
+                "Where a cheaper set exists, it names one trench to take out, one to put in, "
+                "and what that saves, beside the plan's total. This exchange is the first "
+                "found, and not the one that saves most.\n\n"
+                "Where none exists, it says whether the plan is the only cheapest network; if "
+                "it is not, it names an exchange that gives another of the same total.",
+        .example = "check yard-dear.txt",
+        .output = "A cheaper set exists, for 1 less:\n"
+                  "  take out trench 1 (1-2, price 5)\n"
+                  "  put in   trench 4 (1-4, price 4)\n"
+                  "The plan's total is 13, and 12 after this exchange. It is the first one found, not the one that saves most: 'star build' lists a cheapest set.\n",
+        .statuses = "0 passed\n1 a cheaper set exists\n2 the table or the plan was refused",
+    },
+    {
+        .name = "build",
+        .words = "[FILE]",
+        .options = "--table",
+        .line = "list a cheapest network",
+        .does = "Lists the cheapest trenches that reach every junction, and their total, "
+                "which has - before it where it is below 0. Where trenches are marked, it "
+                "says what they cost and what is saved against them.",
+        .example = "build yard-dear.txt",
+        .output = "trench 1: 1-2, price 5\n"
+                  "trench 2: 2-3, price 3\n"
+                  "trench 4: 1-4, price 4\n"
+                  "Total 12\n"
+                  "The marked trenches cost 13: these save 1.\n",
+        .statuses = "0 built\n2 the table or the text was refused",
+    },
+    {
+        .name = "explain",
+        .words = "[FILE [TRENCH]]",
+        .options = "--all",
+        .line = "say why, trench by trench",
+        .does = "Says why. Of a plan that is a network: each trench that is left out, with "
+                "its detour, the way around over marked trenches; the sum of the detour, "
+                "which does not count; its dearest trench, which does; and the comparison of "
+                "the two prices. Those that save come first, those that cost as much next, "
+                "and ten are told unless --all is given.\n\n"
+                "Where TRENCH is given, it is told of that one alone; of a trench of the "
+                "plan, which others could come in for it.\n\n"
+                "Of marks that are no network: a ring, and the junctions that are cut off "
+                "from junction 1. Of too many junctions: why there are 255.",
+        .example = "explain yard.txt 5",
+        .output = "3 marked trenches join all 4 junctions, for 12 in all.\n"
+                  "A trench that is left out is held against the dearest trench of its detour, the way around over marked trenches, and against nothing else.\n"
+                  "trench 5 (1-3, price 6) is left out. Its detour: trenches 4, 3 (1-4-3)\n"
+                  "  sum 9, does not count; dearest 5 (trench 3); 6 > 5: the exchange would give a network of 13, for 1 more, so it stays out\n"
+                  "Passed: the marked trenches reach every junction, and no set that does is cheaper. Total 12.\n"
+                  "Another network costs the same: take out trench 3 (3-4, price 5), put in trench 1 (1-2, price 5).\n",
+        .statuses = "0 explained, and the plan was not refused\n2 the table or the plan was refused, and why is told",
+    },
+    {
+        .name = "page",
+        .words = "[FILE]",
+        .options = "",
+        .line = "write a page (HTML) that explains in pictures",
+        .does = "Writes one HTML file that shows what explain says in pictures: a ring and a "
+                "junction that is cut off, a view of each trench that is left out, two "
+                "networks of one total, and the limit of 255. What the table does not show is "
+                "shown on the yard, a table of four junctions. Its last lines say which "
+                "sentences are answers of the proved procedures.",
+        .example = "page yard.txt -o yard.html",
+        .output = "",
+        .statuses = "0 written, and the plan, if there is one, was not refused\n"
+                    "2 the table or the plan was refused; the page is written where only the plan was (9 and 10), or where there are too many junctions (1)",
+    },
+    {
+        .name = "draw",
+        .words = "[FILE]",
+        .options = "",
+        .line = "write a picture (SVG) with the verdict",
+        .does = "Writes a picture (SVG): marked trenches heavy, those of an exchange in two "
+                "colours, each with its number and price, and what check says of the plan.\n\n"
+                "Where the junctions stand depends on what the trenches join and not on marks "
+                "or prices, so that the pictures of two plans of one network can be compared.",
+        .example = "draw yard.txt -o yard.svg",
+        .output = "",
+        .statuses = "0 drawn, and the plan, if there is one, was not refused\n"
+                    "2 the table or the plan was refused; the picture is written where only the plan was (9 and 10)",
+    },
+    {
+        .name = "dot",
+        .words = "[FILE]",
+        .options = "",
+        .line = "write the same for Graphviz (DOT)",
+        .does = "Writes what draw draws for the programs of Graphviz.",
+        .example = "dot yard.txt -o yard.dot",
+        .output = "",
+        .statuses = "0 drawn, and the plan, if there is one, was not refused\n"
+                    "2 the table or the plan was refused; the picture is written where only the plan was (9 and 10)",
+    },
+    {
+        .name = "table",
+        .words = "[FILE]",
+        .options = "",
+        .line = "write the trenches as a table",
+        .does = "Writes the table, one line a trench. The trenches of an STP file are not "
+                "marked. Struck trenches stand in it as they do in the file, so that no "
+                "number changes.",
+        .example = "table street.stp",
+        .output = "junctions 8\n1 2 40 0\n2 3 35 0\n3 4 52 0\n1 5 61 0\n2 6 28 0\n3 7 44 0\n4 8 30 0\n5 6 33 0\n6 7 47 0\n7 8 39 0\n1 6 55 0\n3 8 58 0\n",
+        .statuses = "0 written\n2 the table or the text was refused",
+    },
+    {
+        .name = "digs",
+        .words = "[FILE]",
+        .options = "",
+        .line = "write the dig list for the site",
+        .does = "Writes the dig list for the site, as the program diglist prints it: a line "
+                "for each trench of the cheapest network that build chooses, from the top of "
+                "the file, with its number, its two junctions and its price, a single space "
+                "between; then a line with Total and the sum.\n\n"
+                "A refusal is the list's only line, Refused with the number and the place, "
+                "and is told in words on standard error.",
+        .example = "digs yard.txt",
+        .output = "1 1 2 5\n2 2 3 3\n4 1 4 4\nTotal 12\n",
+        .statuses = "0 written\n2 the table or the text was refused",
+    },
+    {
+        .name = "quote",
+        .words = "FILE TRENCH PRICE",
+        .options = "",
+        .line = "say what a new price of a trench changes",
+        .does = "Says what the cheapest network costs today, and what it costs when TRENCH "
+                "has the price PRICE and all else stays. The two totals differ by at most the "
+                "change in price, and never in the opposite direction. No trench need be "
+                "marked.\n\n"
+                "A trench that is struck, or a number that no trench has, is refused (7).",
+        .example = "quote yard.txt 4 9",
+        .output = "trench 4 (1-4, price 4) at the new price 9:\n"
+                  "The cheapest network costs 12 today and 13 at the new price: 1 more.\n",
+        .statuses = "0 told\n2 the table, the text or what was asked was refused",
+    },
+    {
+        .name = "breaking",
+        .words = "FILE TRENCH",
+        .options = "",
+        .line = "say up to which price a trench is worth it",
+        .does = "Says up to which price a cheapest network has TRENCH, which trench takes its "
+                "place above, and what the cheapest network then costs. At this price, the "
+                "breaking price, some cheapest network has the trench; below it each one has, "
+                "and above it none. Marks play no part. Where nothing else joins what it "
+                "joins there is no such price: it is in every network.\n\n"
+                "It refuses as quote does.",
+        .example = "breaking yard.txt 4",
+        .output = "trench 4 (1-4, price 4) is in a cheapest network up to 5; above, trench 1 (1-2, price 5) takes its place.\n"
+                  "The cheapest network costs 12 today, and 13 at any price from 5 on.\n",
+        .statuses = "0 told\n2 the table, the text or what was asked was refused",
+    },
+    {
+        .name = "which",
+        .words = "FILE FILE",
+        .options = "",
+        .line = "say which of two plans costs less",
+        .does = "Says which of two plans costs less, and by how much; the first where they "
+                "cost the same. The two files have the same trenches in the same order, and "
+                "differ in their marks alone; where they differ in more, the first such "
+                "trench is named with its line in each, and the status is 3.\n\n"
+                "Both plans have to reach every junction, and neither has to be a cheapest "
+                "one: the first plan's refusal is told before the second's.",
+        .example = "which office-a.txt office-b.txt",
+        .output = "The second plan stands, office-b.txt: it costs 17 and the first 19, 2 more.\n",
+        .statuses = "0 told\n2 a table or a plan was refused\n3 a file could not be read, or the two have not the same trenches",
+    },
+    {
+        .name = "stretch",
+        .words = "FILE JUNCTION JUNCTION",
+        .options = "",
+        .line = "list the plan's way between two junctions",
+        .does = "Lists the trenches of the plan between two junctions, in order, and names "
+                "the dearest. Where the plan is a cheapest network, no route between the two "
+                "over the table's trenches has a dearest trench that is cheaper. Where a "
+                "cheaper set exists, that is said in place of it, and the status is 1.",
+        .example = "stretch yard.txt 1 2",
+        .output = "From junction 1 to junction 2 the plan has 3 trenches:\n"
+                  "trench 4: 1-4, price 4\n"
+                  "trench 3: 4-3, price 5\n"
+                  "trench 2: 3-2, price 3\n"
+                  "The dearest is trench 3, price 5.\n"
+                  "No route between 1 and 2 over the table's trenches has a dearest trench cheaper than 5.\n",
+        .statuses = "0 told\n1 a cheaper set exists\n2 the table, the plan or what was asked was refused",
+    },
+    {
+        .name = "strike",
+        .words = "FILE TRENCH..",
+        .options = "",
+        .line = "write the file with these trenches struck",
+        .does = "Writes the file with 'struck' before the lines of the trenches named. All "
+                "else stands as it did, comments too. A trench that is struck already, or a "
+                "number that no trench has, is refused (18), and nothing is written.",
+        .example = "strike yard.txt 3",
+        .output = "# The yard: four junctions, five trenches. Junction, junction, price, mark.\n"
+                  "1 2 5 0\n2 3 3 1\nstruck 3 4 5 1\n1 4 4 1\n1 3 6 0\n",
+        .statuses = "0 written\n2 the table or what was asked was refused, and nothing was written",
+    },
+    {
+        .name = "add",
+        .words = "FILE LEFT RIGHT PRICE",
+        .options = "",
+        .line = "write the file with a trench more",
+        .does = "Writes the file with one trench more, which is not marked: directly after "
+                "the last trench in use, in place of a struck one that stands there, and else "
+                "at the end. It tells the new trench's number on standard error. Where trench "
+                "1024 is in use and another one is struck, the file is merged first; where "
+                "all 1024 are in use, the trench is refused (17).\n\n"
+                "The trench itself is not looked at: what is wrong with it is told by the "
+                "other commands.",
+        .example = "add yard.txt 2 4 7",
+        .output = "# The yard: four junctions, five trenches. Junction, junction, price, mark.\n"
+                  "1 2 5 0\n2 3 3 1\n3 4 5 1\n1 4 4 1\n1 3 6 0\n2 4 7 0\n"
+                  "trench 6 is new\n",
+        .statuses = "0 written\n2 the table or the trench was refused, and nothing was written",
+    },
+    {
+        .name = "merge",
+        .words = "[FILE]",
+        .options = "",
+        .line = "write the file without its struck trenches",
+        .does = "Writes the file without its struck trenches, in the order of the others, and "
+                "tells on standard error which trench has which new number. No total changes "
+                "by that, and a plan that passed passes again.",
+        .example = "merge struck.txt",
+        .output = "junctions 4\n"
+                  "# The yard with the street between junctions 3 and 4 blocked: its trench is struck. It keeps its number and is left out of everything.\n"
+                  "1 2 5 1\n2 3 3 1\n1 4 4 1\n1 3 6 0\n"
+                  "1 struck trench is gone.\ntrench 4 is now trench 3\ntrench 5 is now trench 4\n",
+        .statuses = "0 written\n2 the table was refused, and nothing was written",
+    },
+    {
+        .name = "districts",
+        .words = "FILE END..",
+        .options = "--table",
+        .line = "list a cheapest network by districts",
+        .does = "Takes the trenches in at most eight districts, each a run of the file's "
+                "lines. END is the number of a district's last trench; the last END is the "
+                "number of the file's last trench, struck or not. It lists the cheapest "
+                "trenches of each district, which join whatever the district's trenches join, "
+                "and their total; then a cheapest network of the city from these trenches "
+                "alone. No network of the whole table is cheaper.",
+        .example = "districts yard.txt 2 5",
+        .output = "District 1, trenches 1 to 2:\n"
+                  "trench 1: 1-2, price 5\n"
+                  "trench 2: 2-3, price 3\n"
+                  "Total 8\n"
+                  "District 2, trenches 3 to 5:\n"
+                  "trench 3: 3-4, price 5\n"
+                  "trench 4: 1-4, price 4\n"
+                  "Total 9\n"
+                  "The city, from the districts' trenches:\n"
+                  "trench 1: 1-2, price 5\n"
+                  "trench 2: 2-3, price 3\n"
+                  "trench 4: 1-4, price 4\n"
+                  "Total 12\n"
+                  "No network of the whole table is cheaper.\n",
+        .statuses = "0 listed\n2 the table, the text or the districts were refused",
+    },
+    {
+        .name = "mend",
+        .words = "[FILE]",
+        .options = "",
+        .line = "write the file with a cheapest network marked",
+        .does = "Writes the file with its plan made a cheapest network, whatever was marked, "
+                "and tells each step on standard error: going down the marks, a trench that "
+                "closes a ring is dropped; going down the trenches, one that joins what was "
+                "apart is added; then each trench left out is exchanged for the dearest of "
+                "its detour where that one costs more. Marks are changed, and all else stands "
+                "as it did, comments too.",
+        .example = "mend old.txt",
+        .output = "# The yard in an old drawing: trenches 1, 2 and 5 make a ring, and junction 4 is left out. star mend makes it a cheapest network.\n"
+                  "1 2 5 0\n2 3 3 1\n3 4 5 1\n1 4 4 1\n1 3 6 0\n"
+                  "dropped trench 5 (1-3, price 6): it closes a ring\n"
+                  "added trench 3 (3-4, price 5): it joins what was apart\n"
+                  "exchanged trench 1 (1-2, price 5) for trench 4 (1-4, price 4): saves 1\n"
+                  "The plan is mended in 3 steps: the marked trenches cost 14 before and 12 now, and no network is cheaper.\n",
+        .statuses = "0 written\n2 the table was refused, and nothing was written",
+    },
+    {
+        .name = "outlets",
+        .words = "FILE JUNCTION COUNT",
+        .options = "--table",
+        .line = "list one with COUNT trenches at JUNCTION",
+        .does = "Lists a cheapest network among those with exactly COUNT trenches at "
+                "JUNCTION, such as a boiler house with a fixed number of outlets, its total, "
+                "and what it costs more than a cheapest network with any number there. Where "
+                "no network has that number, it says which are possible.",
+        .example = "outlets yard.txt 1 3",
+        .output = "A cheapest network with exactly 3 trenches at junction 1:\n"
+                  "trench 1: 1-2, price 5\n"
+                  "trench 4: 1-4, price 4\n"
+                  "trench 5: 1-3, price 6\n"
+                  "Total 15\n"
+                  "With any number at junction 1 the cheapest network costs 12: 3 less.\n",
+        .statuses = "0 listed\n2 the table, the text or what was asked was refused",
+    },
+    {.name = NULL},
+};
+
+const struct page *page_of(const char *name) {
+    const struct page *p;
+    for (p = PAGES; p->name; p++)
+        if (strcmp(p->name, name) == 0) return p;
+    return NULL;
+}
+
+size_t page_status(const struct page *p, int status, const char **text) {
+    const char *at = p->statuses;
+    while (at && *at - '0' != status) {
+        at = strchr(at, '\n');
+        if (at) at++;
+    }
+    if (at) *text = at + 2;
+    else if (status > 2) *text = STATUS_TEXT[status];
+    else return 0;
+    return strcspn(*text, "\n");
+}
+
+int page_has(const struct page *p, const char *option) {
+    size_t len = strlen(option);
+    const char *at;
+    if (strcmp(option, "-o") == 0 || strcmp(option, "--help") == 0) return 1;
+    for (at = strstr(p->options, option); at; at = strstr(at + 1, option))
+        if (at[len] == ' ' || at[len] == '\0') return 1;
+    return 0;
+}

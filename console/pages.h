@@ -1,0 +1,41 @@
+/* The commands as planners read of them. They are described here and nowhere else: the help, the manual page and the lists of the documents are made from
+   this table (see console/manual). */
+#ifndef CONSOLE_PAGES_H
+#define CONSOLE_PAGES_H
+
+#include <stddef.h>
+
+struct page {
+    const char *name;
+    const char *words;    /* what follows the name beside options */
+    const char *options;  /* its own options, parted by blanks; "" for none */
+    const char *line;     /* what it does, in at most 46 letters */
+    const char *does;     /* the same at length, paragraphs parted by an empty line */
+    const char *example;  /* what follows 'star', over the files of console/examples */
+    const char *output;   /* what the example writes, both streams; "" for a picture or nothing */
+    const char *statuses; /* a line a status: its number, a blank, what it says of this command */
+};
+
+/* An option, what follows it, and what it does. */
+struct option {
+    const char *name, *value, *does;
+};
+
+/* Each table ends with an entry whose name is NULL. */
+extern const struct page PAGES[];
+extern const struct option OPTIONS[];
+
+/* What the statuses say of every command that says nothing else of them. */
+enum { STATUSES = 6 };
+extern const char *const STATUS_TEXT[STATUSES];
+
+/* The page of a command, NULL for none. */
+const struct page *page_of(const char *name);
+
+/* What a status says of a command, a line of text, and its length; 0 where the command never ends with it. */
+size_t page_status(const struct page *p, int status, const char **text);
+
+/* Whether an option is one of a command's own, or one of every command. */
+int page_has(const struct page *p, const char *option);
+
+#endif
