@@ -63,12 +63,17 @@ $(READSTP) $(DIGLIST): $(BUILD)/%: programs/%.c $(RUNS)
 	@mkdir -p $(BUILD)
 	$(CC) -std=c99 $(CFLAGS) -o $@ $< $(RUNS) $(KIT)/lib/libos_c.a
 
-# The proved procedures and the part of the library that is written in C.
-$(LIBRARY): $(ARCHIVE) include/star.c include/star.h
-	@mkdir -p $(BUILD)
-	$(CC) -std=c99 $(CFLAGS) -Iinclude -c -o $(BUILD)/star.o include/star.c
+# The part of the library that is written in C. It is position-independent on purpose, as the proved objects are: the static and the shared
+# library have the same objects.
+PARTS := $(patsubst include/%.c,$(BUILD)/parts/%.o,$(sort $(wildcard include/*.c)))
+$(PARTS): $(BUILD)/parts/%.o: include/%.c $(wildcard include/*.h)
+	@mkdir -p $(@D)
+	$(CC) -std=c99 $(CFLAGS) -fPIC -Iinclude -c -o $@ $<
+
+# The proved procedures and this part.
+$(LIBRARY): $(ARCHIVE) $(PARTS)
 	cp $(ARCHIVE) $@
-	$(AR) rs $@ $(BUILD)/star.o
+	$(AR) rs $@ $(PARTS)
 
 $(BUILD)/star: $(LIBRARY) $(CONSOLE) $(wildcard console/*.h) include/star.h
 	$(CC) -std=c99 $(CFLAGS) -Iinclude -o $@ $(CONSOLE) $(LIBRARY) -lm
@@ -178,6 +183,9 @@ uninstall:
 
 clean:
 	rm -rf target
+
+# What else C and Python programmers get.
+-include library.mk
 
 FORCE:
 .PHONY: all proved manual run test outside bench counts install uninstall clean FORCE

@@ -64,6 +64,12 @@ extern "C" {
 
 const char *star_version(void);
 
+/* How the functions are defined whose code stands in this header. The library has each of them too,
+ * under the same name, for callers that see no header. */
+#ifndef STAR_INLINE
+#define STAR_INLINE static inline
+#endif
+
 /* The largest table that is taken. */
 enum { STAR_MAX_JUNCTIONS = 255, STAR_MAX_ROWS = 1024, STAR_ANSWER_BYTES = 16 };
 
@@ -192,15 +198,15 @@ uint32_t star_digs(uint32_t n, const uint8_t *left, size_t left_len, const uint8
 uint32_t star_digs_text(const uint8_t *stp, size_t stp_len, uint8_t *text, size_t text_len, uint8_t *answer, size_t answer_len);
 
 /* Whether a row, counted from 1, is on the path to a junction, by a matrix that star_paths has filled. */
-static inline int star_on_path(const uint64_t *matrix, uint32_t junction, size_t row) {
+STAR_INLINE int star_on_path(const uint64_t *matrix, uint32_t junction, size_t row) {
     return (int)(matrix[STAR_COLUMN_WORDS * ((size_t)junction - 1) + (row - 1) / 64] >> ((row - 1) % 64) & 1);
 }
 
 /* The rows in use of a working table, sixteen words: row i, counted from 1, is bit (i - 1) % 64 of word (i - 1) / 64, counted from the least
  * significant bit. A row is from 1 to 1,024. */
-static inline int star_in_use(const uint64_t *in_use, size_t row) { return (int)(in_use[(row - 1) / 64] >> ((row - 1) % 64) & 1); }
+STAR_INLINE int star_in_use(const uint64_t *in_use, size_t row) { return (int)(in_use[(row - 1) / 64] >> ((row - 1) % 64) & 1); }
 
-static inline void star_set_in_use(uint64_t *in_use, size_t row, int used) {
+STAR_INLINE void star_set_in_use(uint64_t *in_use, size_t row, int used) {
     uint64_t bit = (uint64_t)1 << ((row - 1) % 64);
     if (used) in_use[(row - 1) / 64] |= bit;
     else in_use[(row - 1) / 64] &= ~bit;
@@ -274,7 +280,7 @@ uint32_t star_merge(uint64_t *in_use, size_t in_use_words, uint8_t *left, size_t
 
 /* Carries marks through the numbers of star_merge or star_add: each byte to its row's new position, 0 elsewhere. No number is above its row's old
  * position, so it is done in place. */
-static inline void star_carry_marks(uint8_t *mark, const uint32_t *numbers) {
+STAR_INLINE void star_carry_marks(uint8_t *mark, const uint32_t *numbers) {
     size_t row;
     for (row = 1; row <= STAR_MAX_ROWS; row++) {
         uint8_t own = mark[row - 1];
@@ -344,12 +350,12 @@ uint32_t star_import(const uint8_t *text, size_t text_len, uint8_t *left, size_t
                      uint8_t *weight, size_t weight_len, uint8_t *answer, size_t answer_len);
 
 /* Packs a price into the weight column, and reads one, at an index from 0 on, as left[index]: row i is at index i - 1. */
-static inline void star_put_price(uint8_t *weight, size_t index, int32_t price) {
+STAR_INLINE void star_put_price(uint8_t *weight, size_t index, int32_t price) {
     int k;
     for (k = 0; k < 4; k++) weight[4 * index + (size_t)k] = (uint8_t)((uint32_t)price >> (8 * k));
 }
 
-static inline int32_t star_get_price(const uint8_t *weight, size_t index) {
+STAR_INLINE int32_t star_get_price(const uint8_t *weight, size_t index) {
     uint32_t bits = 0;
     int k;
     for (k = 3; k >= 0; k--) bits = bits << 8 | weight[4 * index + (size_t)k];
@@ -369,7 +375,7 @@ struct star_answer {
                         star_mend: the number of records */
 };
 
-static inline struct star_answer star_read_answer(const uint8_t bytes[16]) {
+STAR_INLINE struct star_answer star_read_answer(const uint8_t bytes[16]) {
     struct star_answer a;
     uint64_t bits = 0;
     int i;
@@ -392,7 +398,7 @@ struct star_quoted {
     int64_t after;   /* bytes 16 to 23: the least total at the new price */
 };
 
-static inline struct star_quoted star_read_quoted(const uint8_t bytes[24]) {
+STAR_INLINE struct star_quoted star_read_quoted(const uint8_t bytes[24]) {
     struct star_answer a = star_read_answer(bytes);
     struct star_quoted q;
     q.kind = a.kind;
@@ -412,7 +418,7 @@ struct star_imported {
     uint64_t place;  /* bytes 8 to 15: the refusal's place */
 };
 
-static inline struct star_imported star_read_imported(const uint8_t bytes[16]) {
+STAR_INLINE struct star_imported star_read_imported(const uint8_t bytes[16]) {
     struct star_answer a = star_read_answer(bytes);
     struct star_imported i;
     i.kind = a.kind;
@@ -422,6 +428,112 @@ static inline struct star_imported star_read_imported(const uint8_t bytes[16]) {
     i.place = (uint64_t)a.amount;
     return i;
 }
+
+/* A table with all that belongs to it: a working table, its marks and its number of junctions. The
+ * short calls below hand it to the doors. They are plain C; every verdict, total and price in their
+ * answers is a door's. Each field may be read and written, and what is wrong with the content is
+ * told by the next call that looks at it. A short call asks for 8 KiB more of stack than its door,
+ * where nothing else is said. */
+struct star_table {
+    uint32_t n;                         /* the junctions */
+    uint64_t in_use[STAR_COLUMN_WORDS]; /* the rows in use, as star_in_use reads them */
+    uint8_t left[STAR_MAX_ROWS];        /* the ends of row i at index i - 1 */
+    uint8_t right[STAR_MAX_ROWS];
+    uint8_t weight[4 * STAR_MAX_ROWS];  /* the prices, as star_get_price reads them */
+    uint8_t mark[STAR_MAX_ROWS];        /* the claim */
+    uint32_t numbers[STAR_MAX_ROWS];    /* where the last star_table_add or star_table_merge has put
+                                           row i, 0 for nowhere */
+};
+
+/* What is said of a plan: struct star_answer with both totals. Fields that a kind lacks are 0. */
+struct star_verdict {
+    unsigned kind;   /* enum star_kind */
+    unsigned number; /* enum star_refusal, 0 unless refused */
+    unsigned place;  /* refused: the place */
+    unsigned only;   /* star_table_check, star_table_other: 1 where the plan passes and no other
+                        network has its total */
+    unsigned out;    /* lighter: the row to take out; star_table_other: one to take out for another
+                        network of the same total */
+    unsigned in;     /* lighter, star_table_other: the row to put in */
+    unsigned which;  /* star_table_which: 1 or 2 */
+    unsigned steps;  /* star_table_mend: the number of records */
+    int64_t saving;  /* lighter: what the exchange saves */
+    int64_t total;   /* the total of the plan, as the call leaves it */
+    int64_t least;   /* the least total of the table; star_table_outlets, star_table_which: 0 */
+};
+
+/* A table of n junctions and no rows. */
+void star_table_init(struct star_table *t, uint32_t n);
+
+/* Enters a row as star_add does, unmarked; amount is its position. Where the table is packed first,
+ * marks move with their rows. An end above 255 is entered as 0, which the next call that looks at
+ * the rows refuses. */
+struct star_answer star_table_add(struct star_table *t, uint32_t a, uint32_t b, int32_t price);
+
+/* Marks a row, or takes its mark away where mark is 0. Returns 1, or 0 where the row is not in use;
+ * then nothing is written. */
+int star_table_mark(struct star_table *t, uint32_t row, int mark);
+
+/* Takes a row out of use as star_strike does, and its mark away. */
+struct star_answer star_table_strike(struct star_table *t, uint32_t row);
+
+/* Packs the rows as star_merge does; marks move with their rows. */
+struct star_answer star_table_merge(struct star_table *t);
+
+/* Judges the plan as star_cst does. Where a cheaper set exists, both totals are told beside the
+ * saving: the plan's by star_which of it with itself, the least one by star_mst1. */
+struct star_verdict star_table_check(const struct star_table *t);
+
+/* The same as star_other does: where another network has the same total, out and in give it. */
+struct star_verdict star_table_other(const struct star_table *t);
+
+/* Marks a least network as star_mst1 does. */
+struct star_verdict star_table_build(struct star_table *t);
+
+/* The most steps of star_table_mend. */
+enum { STAR_MAX_STEPS = 2 * STAR_MAX_ROWS };
+
+/* Turns the plan into a least network as star_mend does. records has room for STAR_MAX_STEPS, or is
+ * a null pointer where they are not wanted. The calling thread has 352 KiB of stack left. */
+struct star_verdict star_table_mend(struct star_table *t, struct star_record *records);
+
+/* Marks a network that is least among those with exactly count rows at a junction, as star_outlets
+ * does. */
+struct star_verdict star_table_outlets(struct star_table *t, uint32_t junction, uint32_t count);
+
+/* Marks a least network made from the least rows of each run alone, as star_districts does; the last
+ * of the ends is 1,024. forests has 1,024 bytes. */
+struct star_verdict star_table_districts(struct star_table *t, const uint32_t *ends, size_t count,
+                                         uint8_t *forests);
+
+/* Which of two plans over the rows of the table costs less, as star_which does: first and second
+ * have 1,024 bytes. total is that of the one that stands. The table's own marks are not read. */
+struct star_verdict star_table_which(const struct star_table *t, const uint8_t *first,
+                                     const uint8_t *second);
+
+/* The least total today and at a row's new price, as star_quote gives them. */
+struct star_quoted star_table_quote(const struct star_table *t, uint32_t row, int32_t price);
+
+/* The price above which a row is in no least network, as star_breaking gives it. */
+struct star_answer star_table_breaking(const struct star_table *t, uint32_t row);
+
+/* Writes the dig list of a least network as star_digs does; text has STAR_MAX_LIST bytes. */
+struct star_answer star_table_digs(const struct star_table *t, uint8_t *text);
+
+/* Fills the path matrix of the plan as star_paths does; matrix has 16 n words. */
+struct star_answer star_table_paths(const struct star_table *t, uint32_t from, uint64_t *matrix);
+
+/* Reads an STP text as star_import does: its rows are in use, and none is marked. A refusal leaves
+ * the table as it was. The calling thread has 1,088 KiB of stack left. */
+struct star_imported star_table_read(struct star_table *t, const char *text, size_t len);
+
+/* The room that the text of star_table_write needs at most. */
+enum { STAR_MAX_TABLE_TEXT = 32768 };
+
+/* Writes the table as the text that the console reads: 'junctions N', then a line a row, its two
+ * junctions, price and mark; one that was struck opens with 'struck'. Returns the bytes of the text;
+ * where that is below size, all of it is written with a zero byte behind it, else nothing is. */
+size_t star_table_write(const struct star_table *t, char *text, size_t size);
 
 #ifdef __cplusplus
 }

@@ -214,13 +214,13 @@ holds prices-c++17 "$plus" -std=c++17 "${strict[@]}" -Wconversion -o "$work/pric
 for language in c cpp; do holds "prices-$language" "$work/prices-$language"; done
 
 # The library has every function that the header declares, one of each name, and no other global name.
-sed -n 's/^uint32_t \(star_[a-z0-9_]*\)(.*/\1/p; s/^const char \*\(star_[a-z0-9_]*\)(.*/\1/p' "$to/include/star.h" | sort >"$work/declared"
+sed -n 's/^\(STAR_INLINE \|const \)*[a-z].* \*\?\(star_[a-z0-9_]*\)(.*/\2/p' "$to/include/star.h" | sort >"$work/declared"
 if command -v nm >/dev/null; then
     nm -g --defined-only "$to/lib/libstar.a" | awk 'NF == 3 { print $3 }' | sort >"$work/defined"
     holds declared [ -s "$work/declared" ]
     holds defined [ -z "$(comm -23 "$work/declared" "$work/defined")" ]
     holds defined-once [ -z "$(uniq -d "$work/defined")" ]
-    holds no-other-names fails grep -qv '^star_' "$work/defined"
+    holds no-other-names [ -z "$(comm -13 "$work/declared" "$work/defined")" ]
 fi
 
 # The manual page: every command, option and status of the help, and no fault that a formatter finds.

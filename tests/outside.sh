@@ -59,6 +59,11 @@ for plan in 'districts 50000' 'mend 50000' 'outlets 20000'; do
     controls "${name}_test_faulty" $(grep -o 'fault("[^"]*")' "tests/faulty_$name.c" | cut -d '"' -f 2 | sort -u)
 done
 
+# The short calls over a table, in the same way.
+"$build/table_test" 200000 | tee "$work/table"
+add "$work/table"
+controls table_test_faulty $(grep -o 'fault("[^"]*")' tests/faulty_table.c | cut -d '"' -f 2 | sort -u)
+
 # The import, on texts whose answers a plain reader gives: the door, in a thread of 1 MiB, and the program.
 python3 -B tests/stp/generate.py "$work/texts"
 "$build/import_test" "$work/texts" | tee "$work/import"
@@ -83,6 +88,7 @@ if command -v valgrind >/dev/null; then
     for asked in quote breaking which digs; do memory "$build/${asked}_test" 300 exact; done
     for name in districts mend outlets; do memory "$build/${name}_test" 300 exact; done
     memory "$build/import_test" "$work/texts" 20
+    memory "$build/table_test" 2000
     for words in 'draw console/examples/t2.txt' 'build tests/console/build-refused11.txt' 'check tests/console/check-refused4.txt' \
         'build tests/console/build-stp-edges.txt' 'build tests/console/build-stp-price-above.txt' 'draw console/examples/grant.txt' 'table console/examples/street.stp' \
         'explain console/examples/t2.txt' 'explain tests/console/explain-rings.txt' 'page console/examples/yard.txt' 'page tests/console/explain-ring.txt' \

@@ -1,0 +1,175 @@
+/* The short calls over struct star_table with a fault each: a control of table_test, which has to
+ * fail over every one of them and to pass over the fault 'none'. The test is compiled with the
+ * calls' names replaced by those below; the environment's FAULT names the fault. */
+#include "faulty_table.h"
+
+#include <stdlib.h>
+#include <string.h>
+
+/* Whether the environment's FAULT names this fault. */
+static int fault(const char *name) {
+    static const char *chosen;
+    if (!chosen) chosen = getenv("FAULT") ? getenv("FAULT") : "none";
+    return strcmp(chosen, name) == 0;
+}
+
+void faulty_table_init(struct star_table *t, uint32_t n) {
+    uint32_t number = t->numbers[0];
+    star_table_init(t, n);
+    if (fault("init-keeps-numbers")) t->numbers[0] = number;
+}
+
+struct star_answer faulty_table_add(struct star_table *t, uint32_t a, uint32_t b, int32_t price) {
+    uint8_t mark[STAR_MAX_ROWS];
+    struct star_answer r;
+    memcpy(mark, t->mark, sizeof mark);
+    r = star_table_add(t, fault("add-end-cut") ? (uint8_t)a : a, b, price);
+    if (r.kind != STAR_PASSED) return r;
+    if (fault("add-marks-stay")) memcpy(t->mark, mark, sizeof mark);
+    if (fault("add-marked")) t->mark[r.amount - 1] = 1;
+    if (fault("add-counts-from-0")) r.amount--;
+    return r;
+}
+
+int faulty_table_mark(struct star_table *t, uint32_t row, int mark) {
+    int done = star_table_mark(t, row, mark);
+    if (!done && fault("mark-not-in-use") && row >= 1 && row <= STAR_MAX_ROWS) t->mark[row - 1] = 1;
+    if (done && fault("mark-as-given")) t->mark[row - 1] = (uint8_t)mark;
+    return fault("mark-always-done") ? 1 : done;
+}
+
+struct star_answer faulty_table_strike(struct star_table *t, uint32_t row) {
+    uint8_t before = row >= 1 && row <= STAR_MAX_ROWS ? t->mark[row - 1] : 0;
+    struct star_answer r = star_table_strike(t, row);
+    if (fault("strike-keeps-mark") && before) t->mark[row - 1] = before;
+    return r;
+}
+
+struct star_answer faulty_table_merge(struct star_table *t) {
+    uint8_t mark[STAR_MAX_ROWS];
+    struct star_answer r;
+    memcpy(mark, t->mark, sizeof mark);
+    r = star_table_merge(t);
+    if (fault("merge-marks-stay")) memcpy(t->mark, mark, sizeof mark);
+    return r;
+}
+
+static struct star_verdict spoilt(struct star_verdict v) {
+    if (v.kind == STAR_LIGHTER && fault("check-totals-swapped")) {
+        int64_t total = v.total;
+        v.total = v.least;
+        v.least = total;
+    }
+    if (v.kind == STAR_LIGHTER && fault("check-least-by-saving")) v.least = v.total - v.saving;
+    if (v.kind == STAR_LIGHTER && fault("check-saving-in-all")) v.saving = v.total - v.least;
+    if (v.kind == STAR_PASSED && fault("check-least-lacking")) v.least = 0;
+    if (v.kind == STAR_REFUSED && fault("check-place-as-out")) {
+        v.out = v.place;
+        v.place = 0;
+    }
+    return v;
+}
+
+struct star_verdict faulty_table_check(const struct star_table *t) {
+    return spoilt(fault("check-as-other") ? star_table_other(t) : star_table_check(t));
+}
+
+struct star_verdict faulty_table_other(const struct star_table *t) {
+    return spoilt(fault("other-as-check") ? star_table_check(t) : star_table_other(t));
+}
+
+struct star_verdict faulty_table_build(struct star_table *t) {
+    static struct star_table copy;
+    copy = *t;
+    if (fault("build-marks-nothing")) return star_table_build(&copy);
+    return star_table_build(t);
+}
+
+struct star_verdict faulty_table_mend(struct star_table *t, struct star_record *records) {
+    struct star_verdict v;
+    static struct star_record kept[STAR_MAX_STEPS];
+    if (fault("mend-builds")) {
+        v = star_table_mend(t, records);
+        star_table_build(t);
+        return v;
+    }
+    v = star_table_mend(t, fault("mend-no-records") && records ? kept : records);
+    if (v.kind == STAR_PASSED && fault("mend-steps-as-total")) v.total = v.steps;
+    if (v.kind == STAR_PASSED && fault("mend-no-steps")) v.steps = 0;
+    return v;
+}
+
+struct star_verdict faulty_table_outlets(struct star_table *t, uint32_t junction, uint32_t count) {
+    struct star_verdict v;
+    if (fault("outlets-more")) count++;
+    v = star_table_outlets(t, junction, count);
+    if (fault("outlets-least")) v.least = v.total;
+    return v;
+}
+
+struct star_verdict faulty_table_districts(struct star_table *t, const uint32_t *ends, size_t count,
+                                           uint8_t *forests) {
+    uint8_t kept[STAR_MAX_ROWS];
+    struct star_verdict v;
+    memcpy(kept, forests, sizeof kept);
+    v = star_table_districts(t, ends, count, forests);
+    if (fault("districts-no-forests")) memcpy(forests, kept, sizeof kept);
+    if (fault("districts-marks") && v.kind == STAR_PASSED) memcpy(forests, t->mark, 1024);
+    return v;
+}
+
+struct star_verdict faulty_table_which(const struct star_table *t, const uint8_t *first,
+                                       const uint8_t *second) {
+    struct star_verdict v = star_table_which(t, first, second);
+    if (fault("which-swapped")) v = star_table_which(t, second, first);
+    if (fault("which-first")) v.which = v.which ? 1 : 0;
+    return v;
+}
+
+struct star_quoted faulty_table_quote(const struct star_table *t, uint32_t row, int32_t price) {
+    struct star_quoted q = star_table_quote(t, row, price);
+    if (fault("quote-before-twice")) q.after = q.before;
+    return q;
+}
+
+struct star_answer faulty_table_breaking(const struct star_table *t, uint32_t row) {
+    return star_table_breaking(t, row + (uint32_t)fault("breaking-next-row"));
+}
+
+struct star_answer faulty_table_digs(const struct star_table *t, uint8_t *text) {
+    struct star_answer r = star_table_digs(t, text);
+    if (fault("digs-zero-behind") && r.kind == STAR_PASSED) text[r.amount] = 0;
+    if (fault("digs-last-byte") && r.kind == STAR_PASSED) r.amount--;
+    return r;
+}
+
+struct star_answer faulty_table_paths(const struct star_table *t, uint32_t from, uint64_t *matrix) {
+    return star_table_paths(t, fault("paths-from-one") && from <= t->n ? 1 : from, matrix);
+}
+
+struct star_imported faulty_table_read(struct star_table *t, const char *text, size_t len) {
+    static struct star_table before;
+    struct star_imported i;
+    before = *t;
+    i = star_table_read(t, text, len);
+    if (i.kind == STAR_REFUSED && fault("read-refused-clears")) star_table_init(t, t->n);
+    if (i.kind == STAR_PASSED && fault("read-keeps-marks")) memcpy(t->mark, before.mark, 1024);
+    if (i.kind == STAR_PASSED && fault("read-keeps-n")) t->n = before.n;
+    if (i.kind == STAR_PASSED && fault("read-one-row-more")) star_set_in_use(t->in_use, i.m + 1, 1);
+    return i;
+}
+
+size_t faulty_table_write(const struct star_table *t, char *text, size_t size) {
+    static char whole[STAR_MAX_TABLE_TEXT];
+    size_t len = star_table_write(t, whole, sizeof whole);
+    char *mark;
+    if (fault("write-cut") && size > 0 && size <= len) memcpy(text, whole, size);
+    if (fault("write-without-end") && len < size) {
+        memcpy(text, whole, len);
+        return len;
+    }
+    star_table_write(t, text, size);
+    if (fault("write-no-marks") && len < size)
+        while ((mark = strstr(text, " 1\n")) != NULL) mark[1] = '0';
+    return len + (size_t)fault("write-counts-zero-byte");
+}
