@@ -1,6 +1,7 @@
 /* The commands: they ask the doors, and put the answers in words. */
 #include "commands.h"
 
+#include "edit.h"
 #include "picture.h"
 #include "refusal.h"
 #include "status.h"
@@ -25,13 +26,6 @@ int command_check(struct table *t, const struct options *with, struct output *o)
     return a.kind == STAR_PASSED ? EXIT_PASSED : a.kind == STAR_LIGHTER ? EXIT_LIGHTER : EXIT_REFUSED;
 }
 
-static int write_table(const struct table *t, struct output *o) {
-    FILE *to = output_open(o);
-    if (!to) return EXIT_UNWRITTEN;
-    table_write(to, t);
-    return EXIT_PASSED;
-}
-
 /* What the marks cost before they were replaced. */
 static void say_saving(struct message *to, struct star_answer before, int64_t marked, int64_t total) {
     char figures[2][FIGURES];
@@ -50,7 +44,7 @@ int command_build(struct table *t, const struct options *with, struct output *o)
     char figures[FIGURES];
     FILE *to;
     a = table_mst1(t);
-    if (with->table) return a.kind == STAR_PASSED ? write_table(t, o) : refused(t, a);
+    if (with->table) return a.kind == STAR_PASSED ? edit_marks(o, t) : refused(t, a);
     to = output_open(o);
     if (!to) return EXIT_UNWRITTEN;
     if (a.kind != STAR_PASSED) {
@@ -70,7 +64,7 @@ int command_build(struct table *t, const struct options *with, struct output *o)
 int command_table(struct table *t, const struct options *with, struct output *o) {
     struct star_answer a = table_cst(t);
     (void)with;
-    return a.kind != STAR_REFUSED || refusal_of_plan(a) ? write_table(t, o) : refused(t, a);
+    return a.kind != STAR_REFUSED || refusal_of_plan(a) ? edit_marks(o, t) : refused(t, a);
 }
 
 /* A picture with what check says of the plan. A plan that is refused is drawn, since its table is sound, and its refusal is told; where no

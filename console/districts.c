@@ -3,6 +3,7 @@
 #include <string.h>
 
 #include "commands.h"
+#include "edit.h"
 #include "refusal.h"
 #include "status.h"
 #include "usage.h"
@@ -76,12 +77,9 @@ int command_districts(struct table *t, const struct options *with, struct output
     if (status != 0) return status;
     a = table_districts(t, ends, count, forests);
     if (a.kind != STAR_PASSED) return refused(with->table ? stderr : output_open(o), t, a, ends, with);
+    if (with->table) return edit_marks(o, t);
     to = output_open(o);
     if (!to) return EXIT_UNWRITTEN;
-    if (with->table) {
-        table_write(to, t);
-        return EXIT_PASSED;
-    }
     for (i = 0; i < count; i++) {
         size_t first = i ? ends[i - 1] + (size_t)1 : 1;
         if (first < ends[i]) fprintf(to, "District %zu, trenches %zu to %u:\n", i + 1, first, (unsigned)ends[i]);

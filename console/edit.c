@@ -75,6 +75,17 @@ static void lines(FILE *to, const struct table *t, const struct edit *e) {
     new_line(to, t, e->line);
 }
 
+int edit_marks(struct output *o, const struct table *t) {
+    static struct edit marks;
+    FILE *to;
+    marks.marks = 1;
+    if (!t->stp) return edit_write(o, t, &marks);
+    to = output_open(o);
+    if (!to) return EXIT_UNWRITTEN;
+    table_write(to, t);
+    return EXIT_PASSED;
+}
+
 int edit_write(struct output *o, const struct table *t, const struct edit *e) {
     FILE *to = output_open(o);
     if (!to) return EXIT_UNWRITTEN;

@@ -19,4 +19,7 @@ struct edit {
    written. Gives a status of status.h. */
 int edit_write(struct output *o, const struct table *t, const struct edit *e);
 
+/* Writes the table with the marks that it has now: its file with these marks, or a new table where it was read from an STP file. */
+int edit_marks(struct output *o, const struct table *t);
+
 #endif

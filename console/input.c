@@ -1,4 +1,6 @@
 /* Files, byte order marks, and which of the two layouts a text has. */
+#define _POSIX_C_SOURCE 200809L
+
 #include "input.h"
 
 #include <errno.h>
@@ -48,6 +50,7 @@ int input_open(struct input *in, const char *file, struct message *fault) {
         in->file = file;
         from = fopen(file, "rb");
     }
+    if (from) in->id = file_open(fileno(from));
     if (from) in->bytes = whole(from, &len);
     if (!in->bytes) unreadable(in, fault, errno ? strerror(errno) : "it cannot be read");
     if (from && from != stdin) fclose(from);

@@ -2,6 +2,7 @@
 #ifndef CONSOLE_INPUT_H
 #define CONSOLE_INPUT_H
 
+#include "files.h"
 #include "table.h"
 
 struct input {
@@ -9,6 +10,7 @@ struct input {
     char *bytes;      /* all of it */
     struct span text; /* all of it but a byte order mark */
     int stp;          /* whether it is an STP text */
+    struct file_id id; /* which file it is */
 };
 
 /* Reads a file, or standard input for NULL or '-'. Each of the two says what is wrong, and gives a status of status.h: 0 if all is well. */

@@ -15,7 +15,7 @@ struct command {
     int (*run)(struct table *t, const struct options *with, struct output *o);
     const char *takes; /* what it takes beside a file: t --table, a --all, n the number of a trench, w words */
     enum needs { FILE_ALONE, PLAN, LINES, TEXT } needs; /* marks, or lines that can be changed, which an STP file has not; its text, refused or not */
-    enum result { WORDS, WRITING } result; /* words, of which a refusal is one too, or a file */
+    enum result { WORDS, WRITING, TABLE } result; /* words, of which a refusal is one too, or a file, or one that is a table */
     const char *plan;  /* what it does with a plan; NULL where it needs none */
 };
 
@@ -26,17 +26,17 @@ static const struct command COMMANDS[] = {
     {"draw", command_draw, "", FILE_ALONE, WRITING, NULL},
     {"dot", command_dot, "", FILE_ALONE, WRITING, NULL},
     {"page", command_page, "", FILE_ALONE, WRITING, NULL},
-    {"table", command_table, "", FILE_ALONE, WRITING, NULL},
+    {"table", command_table, "", FILE_ALONE, TABLE, NULL},
     {"digs", command_digs, "", TEXT, WRITING, NULL},
     {"quote", command_quote, "w", FILE_ALONE, WORDS, NULL},
     {"breaking", command_breaking, "w", FILE_ALONE, WORDS, NULL},
     {"which", command_which, "w", PLAN, WORDS, "compare"},
     {"stretch", command_stretch, "w", PLAN, WORDS, "follow"},
-    {"strike", command_strike, "w", LINES, WRITING, NULL},
-    {"add", command_add, "w", LINES, WRITING, NULL},
-    {"merge", command_merge, "", LINES, WRITING, NULL},
+    {"strike", command_strike, "w", LINES, TABLE, NULL},
+    {"add", command_add, "w", LINES, TABLE, NULL},
+    {"merge", command_merge, "", LINES, TABLE, NULL},
     {"districts", command_districts, "tw", FILE_ALONE, WORDS, NULL},
-    {"mend", command_mend, "", LINES, WRITING, NULL},
+    {"mend", command_mend, "", LINES, TABLE, NULL},
     {"outlets", command_outlets, "tw", FILE_ALONE, WORDS, NULL},
 };
 
@@ -45,6 +45,7 @@ struct request {
     const char *file;
     struct options with;
     struct output out;
+    int outputs; /* how often -o was given */
     int help;
 };
 
@@ -69,6 +70,14 @@ static int operand(struct request *r, char *word, int before) {
     return 0;
 }
 
+/* The word that follows -o. One that opens with - is an option before whose name was forgotten: './-x' names a file. */
+static int output_named(struct request *r, const char *word) {
+    if (!word || (word[0] == '-' && word[1] != '\0')) return misused("no file follows", "-o");
+    if (r->outputs++ > 0) return misused("one output is written, and there is also", word);
+    if (strcmp(word, "-") != 0) r->out.file = word;
+    return 0;
+}
+
 /* Reads the words after the command; 0 if they are right. */
 static int options(struct request *r, char **words) {
     int files_only = 0, count = 0, status;
@@ -85,11 +94,11 @@ static int options(struct request *r, char **words) {
         else if (strcmp(word, "--table") == 0 && takes(r, 't')) r->with.table = 1;
         else if (strcmp(word, "--all") == 0 && takes(r, 'a')) r->with.all = 1;
         else if (strncmp(word, "-o", 2) == 0) {
-            r->out.file = word[2] ? word + 2 : *++words;
-            if (!r->out.file) return misused("no file follows", "-o");
-            if (strcmp(r->out.file, "-") == 0) r->out.file = NULL;
+            status = output_named(r, word[2] ? word + 2 : *++words);
+            if (status != 0) return status;
         } else return misused("unknown option", word);
     }
+    if (r->out.file && !r->file && !r->help) return misused("no file is named to be read, which may be '-', and the output goes to", r->out.file);
     return 0;
 }
 
@@ -97,7 +106,12 @@ static int run(struct request *r) {
     static struct table t;
     struct input in;
     struct message fault = {{0}, 0};
-    int status = input_open(&in, r->file, &fault);
+    int status = input_open(&in, r->file, &fault), over;
+    over = status == 0 ? output_spares(&r->out, in.id, r->command->name, !in.stp && (r->command->result == TABLE || r->with.table)) : 0;
+    if (over != 0) {
+        input_close(&in);
+        return over;
+    }
     if (status == 0 && in.stp && (r->command->needs == PLAN || r->command->needs == LINES)) {
         say_place(&fault, in.file, 0);
         if (r->command->needs == LINES) say(&fault, "an STP file is not changed. 'star table' writes a table, whose lines %s can change.", r->command->name);
@@ -120,10 +134,12 @@ static int run(struct request *r) {
     return status;
 }
 
-/* Writes what the console says of itself: the help of a command, or of all where it is NULL. */
+/* Writes what the console says of itself to standard output, so that no plan is replaced by it: the help of a command, or of all where it is NULL. */
 static int tell_help(struct request *r) {
-    FILE *to = output_open(&r->out);
     const struct page *p = r->command ? page_of(r->command->name) : NULL;
+    FILE *to;
+    r->out.file = NULL;
+    to = output_open(&r->out);
     if (!to) return EXIT_UNWRITTEN;
     if (p) help_of(to, p);
     else help_all(to);
@@ -140,8 +156,9 @@ static int tell_version(struct request *r) {
 static int asks_help(const char *word) { return strcmp(word, "--help") == 0 || strcmp(word, "-h") == 0 || strcmp(word, "help") == 0; }
 
 int main(int count, char **words) {
-    struct request r = {NULL, NULL, {0, 0, 0, NULL, NULL, 0}, {NULL, NULL}, 0};
+    struct request r = {NULL, NULL, {0, 0, 0, NULL, NULL, 0}, {NULL, NULL, NULL, 0}, 0, 0};
     int status;
+    file_guard();
     if (count < 2) {
         help_all(stderr);
         return EXIT_USAGE;
@@ -158,5 +175,6 @@ int main(int count, char **words) {
     } else {
         return misused(words[1][0] == '-' ? "unknown option" : "unknown command", words[1]);
     }
+    if (status > EXIT_REFUSED) output_drop(&r.out);
     return output_close(&r.out) ? status : EXIT_UNWRITTEN;
 }

@@ -5,7 +5,6 @@
 #include "status.h"
 #include "verdict.h"
 
-static struct edit edit;
 static struct star_record records[RECORDS];
 
 static void say_step(struct message *to, const struct table *t, struct star_record step) {
@@ -59,8 +58,7 @@ int command_mend(struct table *t, const struct options *with, struct output *o) 
         fprintf(stderr, "%s\n", words.text);
         return EXIT_REFUSED;
     }
-    edit.marks = 1;
-    status = edit_write(o, t, &edit);
+    status = edit_marks(o, t);
     if (status == 0) tell(t, (size_t)a.amount, before);
     return status;
 }

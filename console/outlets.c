@@ -2,6 +2,7 @@
 #include <string.h>
 
 #include "commands.h"
+#include "edit.h"
 #include "refusal.h"
 #include "status.h"
 #include "usage.h"
@@ -84,12 +85,9 @@ int command_outlets(struct table *t, const struct options *with, struct output *
     if (status != 0) return status;
     a = table_outlets(t, asked[0], asked[1]);
     if (a.kind != STAR_PASSED) return refused(with->table ? stderr : output_open(o), t, a, asked, with->words);
+    if (with->table) return edit_marks(o, t);
     to = output_open(o);
     if (!to) return EXIT_UNWRITTEN;
-    if (with->table) {
-        table_write(to, t);
-        return EXIT_PASSED;
-    }
     say_count(&words, asked[1], "trench", "trenches");
     fprintf(to, "A cheapest network with exactly %s at junction %u:\n", words.text, (unsigned)asked[0]);
     table_list(to, t, t->mark, 1, t->m);

@@ -1,29 +1,90 @@
-/* Output whose errors are told. */
+/* Output whose errors are told. What is to stand in a file is put together first and written when all of it is there. */
+#define _POSIX_C_SOURCE 200809L
+
 #include "output.h"
 
 #include <errno.h>
+#include <inttypes.h>
+#include <stdlib.h>
 #include <string.h>
+#include <unistd.h>
 
-static void complain(const struct output *o) {
-    fprintf(stderr, "%s: it could not be written: %s\n", o->file ? o->file : "standard output", errno ? strerror(errno) : "no reason given");
+#include "status.h"
+
+static void complain(const struct output *o, const char *what) {
+    fprintf(stderr, "%s: %s: %s\n", o->file ? o->file : "standard output", what,
+            errno ? strerror(errno) : "no reason given");
 }
+
+static const char UNWRITTEN[] = "it could not be written";
 
 FILE *output_open(struct output *o) {
     errno = 0;
-    if (!o->to) o->to = o->file ? fopen(o->file, "wb") : stdout;
-    if (!o->to) complain(o);
+    if (!o->to) o->to = o->file ? open_memstream(&o->bytes, &o->len) : stdout;
+    if (!o->to) complain(o, UNWRITTEN);
     return o->to;
 }
 
-int output_close(struct output *o) {
+/* Ends a stream; 0 with errno if something is lost. */
+static int ended(FILE *to) {
     int lost, why;
-    if (!o->to) return 1;
     errno = 0;
-    lost = fflush(o->to) != 0 || ferror(o->to);
+    lost = fflush(to) != 0 || ferror(to);
     why = errno;
-    if (fclose(o->to) != 0 && !lost) lost = 1, why = errno;
+    if (fclose(to) != 0 && !lost) {
+        lost = 1;
+        why = errno;
+    }
     errno = why;
-    if (lost) complain(o);
-    o->to = NULL;
     return !lost;
+}
+
+/* Other names of a file that was replaced stand for the old one. */
+static void tell_names(const struct output *o, struct file_id old) {
+    uintmax_t others = old.names - 1;
+    if (!old.regular || old.names < 2 || !file_replaced(o->file)) return;
+    fprintf(stderr, "%s: the file had %" PRIuMAX " other %s, which %s the old one\n", o->file, others,
+            others == 1 ? "name" : "names", others == 1 ? "keeps" : "keep");
+}
+
+static int put_in_place(const struct output *o) {
+    struct file_id old = file_named(o->file);
+    enum file_written said = file_write(o->file, o->bytes, o->len);
+    if (said == FILE_WRITTEN) tell_names(o, old);
+    if (said == FILE_UNWRITTEN) complain(o, UNWRITTEN);
+    if (said == FILE_UNSURE) complain(o, "it is written, but the disk did not confirm it");
+    return said == FILE_WRITTEN;
+}
+
+int output_close(struct output *o) {
+    int done;
+    if (!o->to) return 1;
+    done = ended(o->to);
+    o->to = NULL;
+    if (!done) complain(o, UNWRITTEN);
+    else if (o->file) done = put_in_place(o);
+    free(o->bytes);
+    o->bytes = NULL;
+    return done;
+}
+
+void output_drop(struct output *o) {
+    if (!o->to || !o->file) return;
+    fclose(o->to);
+    free(o->bytes);
+    o->to = NULL;
+    o->bytes = NULL;
+}
+
+int output_spares(const struct output *o, struct file_id read, const char *command, int table) {
+    struct file_id own = o->file ? file_named(o->file) : file_open(STDOUT_FILENO);
+    const char *name = o->file ? o->file : "standard output";
+    if (!file_same(own, read)) return 0;
+    if (!o->file || !file_replaced(o->file)) {
+        fprintf(stderr, "star: %s is the file that is read, and is left as it is; '-o FILE' replaces a file as a whole\n", name);
+        return EXIT_USAGE;
+    }
+    if (table) return 0;
+    fprintf(stderr, "star: %s is the file that is read, and is left as it is: what '%s' writes is no table that can take its place\n", name, command);
+    return EXIT_USAGE;
 }

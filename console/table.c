@@ -90,9 +90,7 @@ void table_write(FILE *to, const struct table *t) {
     char price[FIGURES];
     size_t i;
     fprintf(to, "junctions %" PRIu32 "\n", t->n);
-    for (i = 1; i <= t->m; i++)
-        if (t->struck[i - 1]) fprintf(to, "%.*s\n", (int)t->row[i - 1].text.len, t->row[i - 1].text.at);
-        else fprintf(to, "%u %u %s %u\n", t->left[i - 1], t->right[i - 1], table_price(price, t, i), t->mark[i - 1]);
+    for (i = 1; i <= t->m; i++) fprintf(to, "%u %u %s %u\n", t->left[i - 1], t->right[i - 1], table_price(price, t, i), t->mark[i - 1]);
 }
 
 static size_t kept(const struct table *t) { return t->m < KEPT ? t->m : KEPT; }

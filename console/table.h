@@ -40,7 +40,7 @@ struct table {
 /* Reads the planner's table. On a fault it says what and in which line, and returns 0. */
 int table_read(struct table *t, struct span text, struct message *fault);
 
-/* Writes a table that table_read takes. Struck trenches stand in it as they do in the file. */
+/* Writes a table that was read from an STP file as one that table_read takes. */
 void table_write(FILE *to, const struct table *t);
 
 /* The first trench in use after trench i; one more than there are trenches where there is none. The number of trenches in use. */

@@ -58,9 +58,10 @@ static int differ(struct message *to, const struct table *first, const struct ta
 }
 
 /* Reads the second file as the first was read. */
-static int read_second(struct input *in, struct table *second, const char *file) {
+static int read_second(struct input *in, struct table *second, const char *file, const struct output *o) {
     struct message fault = {{0}, 0};
-    int status = input_open(in, file, &fault);
+    int status = input_open(in, file, &fault), over = status == 0 ? output_spares(o, in->id, "which", 0) : 0;
+    if (over != 0) return over;
     if (status == 0 && in->stp) {
         say_place(&fault, in->file, 0);
         say(&fault, "an STP file marks no trench, so there is no plan to compare.");
@@ -104,7 +105,7 @@ int command_which(struct table *t, const struct options *with, struct output *o)
     int status;
     if (with->count != 1) return misused("a second file with marks follows the file of", "which");
     if (strcmp(t->file, "standard input") == 0 && strcmp(with->words[0], "-") == 0) return misused("one of the two files alone is standard input, and both are", "-");
-    status = read_second(&in, &second, with->words[0]);
+    status = read_second(&in, &second, with->words[0], o);
     if (status == 0) status = compare(t, &second, o);
     input_close(&in);
     return status;

@@ -1,0 +1,39 @@
+/* Files of the system: which one a name stands for, and one that is replaced as a whole. */
+#ifndef CONSOLE_FILES_H
+#define CONSOLE_FILES_H
+
+#include <stddef.h>
+#include <stdint.h>
+
+/* A regular file, by its device and inode: it is the same under each of its names. */
+struct file_id {
+    int regular; /* whether it is one; the rest counts only then */
+    uintmax_t device, inode;
+    uintmax_t names;
+};
+
+struct file_id file_named(const char *name);
+struct file_id file_open(int descriptor);
+int file_same(struct file_id one, struct file_id other);
+
+/* Whether file_write replaces what a name stands for: a regular file, or none yet. It does not
+   replace a device, a pipe or a stream that is open already, such as /dev/stdout. */
+int file_replaced(const char *name);
+
+/* Puts streams on which nothing can be read or written in the place of standard streams that are
+   closed, so that no file gets their numbers; and has a file size limit told as an error. */
+void file_guard(void);
+
+enum file_written {
+    FILE_UNWRITTEN, /* with errno; a file that was to be replaced is as it was */
+    FILE_WRITTEN,
+    FILE_UNSURE     /* with errno; it is replaced, but may be the old one after a power failure */
+};
+
+/* Writes a file. One that is replaced is written beside the old one, flushed to the disk, gets the
+   old one's mode and owner, and takes its place by a rename: at every moment the name stands for
+   the old file or for the whole new one. A signal that ends the program before the rename leaves
+   the old file and nothing beside it; SIGKILL may leave a file .star-XXXXXX. */
+enum file_written file_write(const char *name, const char *bytes, size_t len);
+
+#endif
