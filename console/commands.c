@@ -2,6 +2,7 @@
 #include "commands.h"
 
 #include "edit.h"
+#include "certificate.h"
 #include "picture.h"
 #include "refusal.h"
 #include "status.h"
@@ -19,10 +20,11 @@ int command_check(struct table *t, const struct options *with, struct output *o)
     struct star_answer a = table_cst(t);
     struct message words = {{0}, 0};
     FILE *to = output_open(o);
-    (void)with;
     if (!to) return EXIT_UNWRITTEN;
-    verdict_words(&words, t, a);
-    fprintf(to, "%s\n", words.text);
+    if (!with->certificate || !certificate_write(to, t, a)) {
+        verdict_words(&words, t, a);
+        fprintf(to, "%s\n", words.text);
+    }
     return a.kind == STAR_PASSED ? EXIT_PASSED : a.kind == STAR_LIGHTER ? EXIT_LIGHTER : EXIT_REFUSED;
 }
 

@@ -8,6 +8,7 @@
 /* What is asked for beside the command. */
 struct options {
     int table;     /* build, districts, outlets: the table with the chosen trenches marked */
+    int certificate; /* check: the certificate of the verdict in place of its words */
     int all;       /* explain: every trench that is left out */
     size_t trench; /* explain: this one; 0 for none */
     char *named;   /* explain: the word that names it */

@@ -69,7 +69,7 @@ static void options(FILE *to, const struct page *p) {
     for (o = OPTIONS; o->name; o++)
         if (page_has(p, o->name)) {
             int len = fprintf(to, "    %s %s", o->name, o->value);
-            fprintf(to, "%*s%s\n", 16 - len, "", o->does);
+            fprintf(to, "%*s%s\n", 20 - len, "", o->does);
         }
 }
 

@@ -13,14 +13,14 @@
 struct command {
     const char *name;
     int (*run)(struct table *t, const struct options *with, struct output *o);
-    const char *takes; /* what it takes beside a file: t --table, a --all, n the number of a trench, w words */
+    const char *takes; /* what it takes beside a file: c --certificate, t --table, a --all, n the number of a trench, w words */
     enum needs { FILE_ALONE, PLAN, LINES, TEXT } needs; /* marks, or lines that can be changed, which an STP file has not; its text, refused or not */
     enum result { WORDS, WRITING, TABLE } result; /* words, of which a refusal is one too, or a file, or one that is a table */
     const char *plan;  /* what it does with a plan; NULL where it needs none */
 };
 
 static const struct command COMMANDS[] = {
-    {"check", command_check, "", PLAN, WORDS, "check"},
+    {"check", command_check, "c", PLAN, WORDS, "check"},
     {"build", command_build, "t", FILE_ALONE, WORDS, NULL},
     {"explain", command_explain, "an", PLAN, WORDS, "explain"},
     {"draw", command_draw, "", FILE_ALONE, WRITING, NULL},
@@ -92,6 +92,7 @@ static int options(struct request *r, char **words) {
         } else if (strcmp(word, "--") == 0) files_only = 1;
         else if (strcmp(word, "-h") == 0 || strcmp(word, "--help") == 0) r->help = 1;
         else if (strcmp(word, "--table") == 0 && takes(r, 't')) r->with.table = 1;
+        else if (strcmp(word, "--certificate") == 0 && takes(r, 'c')) r->with.certificate = 1;
         else if (strcmp(word, "--all") == 0 && takes(r, 'a')) r->with.all = 1;
         else if (strncmp(word, "-o", 2) == 0) {
             status = output_named(r, word[2] ? word + 2 : *++words);
@@ -156,7 +157,7 @@ static int tell_version(struct request *r) {
 static int asks_help(const char *word) { return strcmp(word, "--help") == 0 || strcmp(word, "-h") == 0 || strcmp(word, "help") == 0; }
 
 int main(int count, char **words) {
-    struct request r = {NULL, NULL, {0, 0, 0, NULL, NULL, 0}, {NULL, NULL, NULL, 0}, 0, 0};
+    struct request r = {NULL, NULL, {0, 0, 0, 0, NULL, NULL, 0}, {NULL, NULL, NULL, 0}, 0, 0};
     int status;
     file_guard();
     if (count < 2) {

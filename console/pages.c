@@ -14,6 +14,7 @@ const char *const STATUS_TEXT[STATUSES] = {
 
 const struct option OPTIONS[] = {
     {"--table", "", "writes a table with the chosen trenches marked"},
+    {"--certificate", "", "writes what shows the verdict, for another program to check"},
     {"--all", "", "tells of every trench that is left out, and not of ten"},
     {"-o", "OUTPUT", "writes to the file OUTPUT in place of standard output"},
     {"--help", "", "writes the command's page; also -h"},
@@ -24,7 +25,7 @@ const struct page PAGES[] = {
     {
         .name = "check",
         .words = "[FILE]",
-        .options = "",
+        .options = "--certificate",
         .line = "say whether the plan is a cheapest network",
         .does = "Says whether the marked trenches reach every junction at the least total "
                 "price.\n\n"
@@ -32,7 +33,11 @@ const struct page PAGES[] = {
                 "and what that saves, beside the plan's total. This exchange is the first "
                 "found, and not the one that saves most.\n\n"
                 "Where none exists, it says whether the plan is the only cheapest network; if "
-                "it is not, it names an exchange that gives another of the same total.",
+                "it is not, it names an exchange that gives another of the same total.\n\n"
+                "With --certificate it writes what shows the verdict, so that nobody has to "
+                "believe this program: 'passed TOTAL only' or 'passed TOTAL not-only', and a "
+                "line for each trench left out, 'left-out TRENCH dearest TRENCH detour "
+                "TRENCH..'; or 'cheaper OUT IN BEFORE AFTER', the exchange and both totals.",
         .example = "check yard-dear.txt",
         .output = "A cheaper set exists, for 1 less:\n"
                   "  take out trench 1 (1-2, price 5)\n"

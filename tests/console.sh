@@ -64,6 +64,9 @@ try explain-zero 4 "a trench is named by its number, from 1 on, and not by '0'" 
 try explain-word 4 "a trench is named by its number, from 1 on, and not by 'x'" '' explain $yard x
 try explain-files 4 "one file is read, and there is also '3'" '' explain $yard 2 3
 try explain-stp 3 'no plan to explain' '' explain $street
+try certificate-passed 0 '^left-out 5 dearest 3 detour 4 3$' '' check --certificate $yard
+try certificate-cheaper 1 '^cheaper 1 4 13 12$' '' check --certificate $dear
+try certificate-refused 2 '^Refused \(9\)' '1 2 5 1\n2 3 4 0\n' check --certificate
 try explain-option 4 "unknown option '--all'" '' check --all $yard
 
 # The detours are those that a search over marked trenches finds, and so are a ring and what is cut off.
