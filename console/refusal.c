@@ -75,18 +75,39 @@ static void no_network(struct message *to, const struct table *t) {
     say(to, ".");
 }
 
+/* The junctions that no trench names, as runs: '3', '5 to 8'. At most so many runs are told. */
+enum { RUNS = 10 };
+
+static void unnamed(struct message *to, const struct table *t) {
+    uint32_t first = table_unnamed(t, 1), last;
+    int runs = 0;
+    if (first == 0) return;
+    say(to, " No trench%s names junction%s ", t->strikes > 0 ? " in use" : "", table_unnamed(t, first + 1) > 0 ? "s" : "");
+    for (; first > 0 && runs < RUNS; first = table_unnamed(t, last + 1), runs++) {
+        last = first;
+        while (table_unnamed(t, last + 1) == last + 1) last++;
+        say(to, "%s%" PRIu32, runs > 0 ? ", " : "", first);
+        if (last > first) say(to, " to %" PRIu32, last);
+    }
+    if (first > 0) say(to, " and others");
+    say(to, ", and junctions are numbered from 1 to %" PRIu32, t->n);
+    if (t->count.line > 0) say(to, " (line %zu)", t->count.line);
+    say(to, ".");
+}
+
 void refusal_words(struct message *to, const struct table *t, struct star_answer a) {
     struct place none = {0, {NULL, 0}};
     int of_trench = a.number == STAR_BAD_END || a.number == STAR_REPEATED_ROW || a.number == STAR_BAD_MARK;
     struct place at = of_trench && a.out >= 1 && a.out <= KEPT ? t->row[a.out - 1] : none;
     struct span ends[2];
+    if (a.number == STAR_TOO_MANY_ROWS && t->m >= KEPT) at = t->row[KEPT - 1];
     refusal_opens(to, a.number, t->file, a.number == STAR_BAD_JUNCTION_COUNT ? t->count.line : at.line);
     switch (a.number) {
     case STAR_BAD_JUNCTION_COUNT:
         junction_count(to, t);
         break;
     case STAR_TOO_MANY_ROWS:
-        say(to, "there are %zu trenches%s; at most %d are taken.", t->m, t->strikes > 0 ? ", struck ones included" : "", STAR_MAX_ROWS);
+        say(to, "there are %zu trenches%s; at most %d are taken, and trench %d stands in this line.", t->m, t->strikes > 0 ? ", struck ones included" : "", STAR_MAX_ROWS, KEPT);
         break;
     case STAR_BAD_END:
         ends[0] = text_nth(at.text, 0);
@@ -116,6 +137,7 @@ void refusal_words(struct message *to, const struct table *t, struct star_answer
     default:
         say(to, "%s (place %u).", star_refusal_text(a.number), a.out);
     }
+    if (refusal_of_plan(a) || a.number == STAR_NO_NETWORK) unnamed(to, t);
     if (t->strikes > 0 && (refusal_of_plan(a) || a.number == STAR_NO_NETWORK)) {
         say(to, " ");
         say_count(to, t->strikes, "struck trench is left out.", "struck trenches are left out.");

@@ -96,7 +96,7 @@ static struct graph graph_of(struct span text, uint64_t wanted, struct span like
 
 static void refused(struct message *to, const char *file, struct span text, struct star_imported a) {
     struct span none = {NULL, 0}, ends[2];
-    struct graph g = graph_of(text, a.place, none);
+    struct graph g = graph_of(text, a.number == STAR_TOO_MANY_ROWS ? KEPT : a.place, none);
     uint32_t n = 0;
     switch (a.number) {
     case STAR_BAD_EDGE_COUNT:
@@ -113,8 +113,8 @@ static void refused(struct message *to, const char *file, struct span text, stru
         say(to, "; from 1 to %d junctions are taken.", STAR_MAX_JUNCTIONS);
         break;
     case STAR_TOO_MANY_ROWS:
-        refusal_opens(to, a.number, file, 0);
-        say(to, "there are %zu E lines; at most %d are taken.", g.rows, STAR_MAX_ROWS);
+        refusal_opens(to, a.number, file, g.wanted.line);
+        say(to, "there are %zu E lines; at most %d are taken, and E line %d is this one.", g.rows, STAR_MAX_ROWS, KEPT);
         break;
     case STAR_BAD_END:
         refusal_opens(to, a.number, file, g.wanted.line);

@@ -7,6 +7,9 @@
 
 enum { MIN_WORDS = 3, MAX_WORDS = 4 };
 
+/* The lines that cannot stand which are told; the others are counted. */
+enum { TOLD = 20 };
+
 static int has(struct span s, char c) { return s.len > 0 && memchr(s.at, c, s.len) != NULL; }
 
 /* The line without its comment and the blanks around it. */
@@ -18,8 +21,9 @@ static struct span content(struct span line) {
     return line;
 }
 
-/* Says what is wrong with a line, with the piece of it that is meant. */
+/* Says what is wrong with a line, with the piece of it that is meant; nothing where there is no message. */
 static int wrong(struct message *fault, struct span line, struct span piece, const char *what) {
+    if (!fault) return 0;
     say_quoted(fault, piece);
     say(fault, " %s", what);
     if (has(line, ',') || has(line, ';')) say(fault, "; words are parted by blanks, not by commas or semicolons");
@@ -70,20 +74,34 @@ static int junctions(struct table *t, struct place at, struct message *fault) {
     return 1;
 }
 
+/* One line that is not empty. */
+static int line_read(struct table *t, struct place at, struct message *fault) {
+    struct span first = text_nth(at.text, 0);
+    if (has(at.text, '\0')) return wrong(fault, at.text, at.text, "has a zero byte");
+    if (text_is(first, "JUNCTIONS")) return junctions(t, at, fault);
+    return trench(t, at, text_is(first, "STRUCK"), fault);
+}
+
 int table_read(struct table *t, struct span text, struct message *fault) {
-    struct message words = {{0}, 0};
+    struct message words;
     struct place at = {0, {NULL, 0}};
+    size_t faults = 0;
     while (text_line(&text, &at.text)) {
         at.line++;
         at.text = content(at.text);
-        if (at.text.len == 0) continue;
-        if (has(at.text, '\0') ? wrong(&words, at.text, at.text, "has a zero byte")
-            : text_is(text_nth(at.text, 0), "JUNCTIONS") ? junctions(t, at, &words) : trench(t, at, text_is(text_nth(at.text, 0), "STRUCK"), &words)) continue;
+        words.len = 0;
+        if (at.text.len == 0 || line_read(t, at, faults < TOLD ? &words : NULL)) continue;
+        if (++faults > TOLD) continue;
+        if (faults > 1) say(fault, "\n");
         say_place(fault, t->file, at.line);
         say(fault, "%s", words.text);
-        return 0;
     }
-    return 1;
+    if (faults > TOLD) {
+        say(fault, "\n");
+        say_place(fault, t->file, 0);
+        say_count(fault, faults - TOLD, "more line cannot stand", "more lines cannot stand");
+    }
+    return faults == 0;
 }
 
 void table_write(FILE *to, const struct table *t) {
@@ -99,6 +117,14 @@ size_t table_next(const struct table *t, size_t i) {
     do i++;
     while (i <= kept(t) && t->struck[i - 1]);
     return i;
+}
+
+uint32_t table_unnamed(const struct table *t, uint32_t from) {
+    uint8_t named[STAR_MAX_JUNCTIONS + 1] = {0};
+    size_t i;
+    for (i = table_next(t, 0); i <= kept(t); i = table_next(t, i)) named[t->left[i - 1]] = named[t->right[i - 1]] = 1;
+    while (from <= t->n && from <= STAR_MAX_JUNCTIONS && named[from]) from++;
+    return from <= t->n && from <= STAR_MAX_JUNCTIONS ? from : 0;
 }
 
 size_t table_used(const struct table *t) { return t->m - t->strikes; }

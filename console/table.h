@@ -37,7 +37,7 @@ struct table {
     int stp;             /* whether the file is an STP text */
 };
 
-/* Reads the planner's table. On a fault it says what and in which line, and returns 0. */
+/* Reads the planner's table. Where lines cannot stand it says what is wrong with each of the first twenty and how many more there are, and returns 0. */
 int table_read(struct table *t, struct span text, struct message *fault);
 
 /* Writes a table that was read from an STP file as one that table_read takes. */
@@ -46,6 +46,9 @@ void table_write(FILE *to, const struct table *t);
 /* The first trench in use after trench i; one more than there are trenches where there is none. The number of trenches in use. */
 size_t table_next(const struct table *t, size_t i);
 size_t table_used(const struct table *t);
+
+/* The first junction from a number on that no trench in use names; 0 where each is named. */
+uint32_t table_unnamed(const struct table *t, uint32_t from);
 
 /* The doors, over the trenches in use of those that are kept. */
 struct star_answer table_cst(const struct table *t);

@@ -31,9 +31,10 @@ int text_is(struct span word, const char *name);
 /* A decimal number, digits alone; 0 if the word is none. Above 4294967295 it is taken as that. */
 int text_number(struct span word, uint32_t *value);
 
-/* A message that is put together; what does not fit is left out. */
+/* A message that is put together; what does not fit is left out. The longest tells of twenty lines of a file. */
+enum { MESSAGE = 16384 };
 struct message {
-    char text[1200];
+    char text[MESSAGE];
     size_t len;
 };
 

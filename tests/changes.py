@@ -50,7 +50,8 @@ def random_file():
 
 
 def without_places(said):
-    """What was said, without lines of the file and without the count of struck trenches."""
+    """What was said, without lines of the file and without what is said of struck trenches."""
+    said = re.sub(r" \(line \d+\)", "", said.replace("No trench in use", "No trench"))
     return re.sub(r"standard input:\d+:", "standard input:", re.sub(r" \d+ struck trench(es are| is) left out\.", "", said))
 
 

@@ -39,7 +39,7 @@ try last-struck 0 '^trench 1024 is new$' '' add "$work/last.txt" 1 2 9
 [ "$(wc -l <"$work/err")" = 1 ] && [ "$(grep -vc junctions "$work/out")" = 1024 ] && [ "$(tail -n 1 "$work/out")" = '1 2 9 0' ]
 verdict last-struck-written $?
 for words in 'strike %s 1' 'add %s 1 2 3' 'merge %s' 'check %s'; do
-    try "more: $words" 2 'Refused \(2\): .*more.txt: there are 1025 trenches, struck ones included; at most 1024' '' ${words/\%s/$work/more.txt}
+    try "more: $words" 2 'Refused \(2\): .*more.txt:1025: there are 1025 trenches, struck ones included; at most 1024' '' ${words/\%s/$work/more.txt}
 done
 try first-build 0 '^Total ' '' build "$work/first.txt"
 

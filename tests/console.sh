@@ -160,6 +160,32 @@ try cr-alone 0 'Total 8' '1 2 5 1\r2 3 3 1\r' check
 try cr-lf 3 'standard input:3: ' '1 2 5 1\r\n2 3 3 1\r\nx\r\n' check
 try cr-lines 3 'standard input:3: ' '1 2 5 1\r2 3 3 1\rx\r' check
 
+# Every line that cannot stand is told, up to twenty, and how many more there are; the line of trench 1,025 is; and junctions that no trench names are.
+try lines-all 3 "^standard input:2: 'x' is not a trench" '1 2 5 1\nx\n2 3 4 1\n\n2 y 4 1 # no\njunctions 3\njunctions 4\n' check
+[ "$(cut -d : -f 1,2 "$work/err")" = "$(printf 'standard input:%s\n' 2 5 7)" ]
+verdict lines-each $?
+lines() { for ((i = 0; i < $1; i++)); do printf '1 2\\n'; done; }
+try lines-20 3 "^standard input:20: '1 2' is not a trench" "$(lines 20)" check
+! grep -q 'more' "$work/err"
+verdict lines-20-alone $?
+try lines-21 3 '^standard input: 1 more line cannot stand$' "$(lines 21)" mend
+[ "$(wc -l <"$work/err")" = 21 ] && [ ! -s "$work/out" ]
+verdict lines-21-told $?
+try lines-many 3 '^standard input: 480 more lines cannot stand$' "$(lines 500)" check
+yes '1 2' | head -n 4000000 >"$work/lines.txt"
+(ulimit -S -v 200000 && timeout 20 "${star[@]}" check "$work/lines.txt") >"$work/all" 2>&1
+[ $? = 3 ] && grep -q 'lines.txt: 3999980 more lines cannot stand' "$work/all"
+verdict lines-endless $?
+try row-1025 2 'Refused \(2\): standard input:1028: there are 1026 trenches; at most 1024 are taken, and trench 1025 stands in this line' "# a\n\n$(rows 1000)junctions 2\n$(rows 26)" check
+try row-1025-stp 2 'Refused \(2\): standard input:1029: there are 1025 E lines; at most 1024 are taken, and E line 1025 is this one' "33D32945\nSECTION Graph\nNodes 2\nEdges 1025\n$(rows 1025 | sed 's/1 2 3 0/E 1 2 3/g')END\nEOF\n" build
+gap='1 2 5 1\n2 3 4 1\n3 7 2 1\n'
+for words in check build explain; do try "gap: $words" 2 'Refused \((9|11)\).* No trench names junctions 4 to 6, and junctions are numbered from 1 to 7 \(line 3\)\.' "$gap" $words; done
+try gap-one 2 ' No trench names junction 1, and junctions are numbered from 1 to 3 \(line 1\)\.' '2 3 4 1\n' check
+try gap-told 2 ' No trench names junctions 1, 3, 5 to 6, and junctions are numbered from 1 to 6 \(line 2\)\.' '2 4 4 1\njunctions 6\n' build
+try gap-struck 2 ' No trench in use names junction 3, and' '1 2 4 1\nstruck 2 3 4 1\n' build
+try gap-none 2 'junction 3 cannot be reached from junction 1\.$' '1 2 4 1\n3 4 4 1\n' build
+try gap-many 2 ' No trench names junctions 3 to 9, 11, 13, 15, 17, 19, 21, 23, 25, 27 and others, and' "1 2 1\n$(for ((v = 10; v < 100; v += 4)); do printf '%s %s 1\\n' $v $((v + 2)); done)" build
+
 # Refusal 11 names the smallest junction that cannot be reached; in large tables too, and where prices are the largest.
 try apart 2 'Refused \(11\): standard input: .*: junction 3 cannot be reached from junction 1' '1 2 2147483647\n3 4 2147483647\n5 4 1\njunctions 6\n' build
 try apart-first 2 'junction 2 cannot be reached' '1 3 5\n3 4 5\n2 5 1\n' build
