@@ -12,4 +12,46 @@ $(BUILD)/table_test_faulty: $(LIBRARY) $(TABLE_TEST) $(TABLE_HEADERS) tests/faul
 	$(CC) -std=c99 $(CFLAGS) -Iinclude -c -o $(BUILD)/faulty_table.o tests/faulty_table.c
 	$(CC) -std=c99 $(CFLAGS) -Iinclude -Itests $(FAULTY_TABLE) -o $@ $(TABLE_TEST) $(BUILD)/faulty_table.o $(LIBRARY) -pthread
 
-outside: $(BUILD)/table_test $(BUILD)/table_test_faulty
+# The shared library: all of the static one, with the names of the header global, under one symbol version, and no other.
+SONAME := libstar.so.$(firstword $(subst ., ,$(VERSION)))
+SHARED := $(BUILD)/libstar.so.$(VERSION)
+$(BUILD)/libstar.map: include/names.sed include/star.h
+	@mkdir -p $(BUILD)
+	@{ echo 'STAR_0 {'; echo 'global:'; sed -n -f include/names.sed include/star.h | sed 's/$$/;/'; echo 'local: *;'; echo '};'; } >$@
+
+SHARING := -Wl,-soname,$(SONAME) -Wl,--version-script=$(BUILD)/libstar.map -Wl,-z,defs -Wl,-z,text -Wl,-z,relro -Wl,-z,now
+$(SHARED): $(LIBRARY) $(BUILD)/libstar.map
+	$(CC) -shared $(LDFLAGS) $(SHARING) -o $@ -Wl,--whole-archive $(LIBRARY) -Wl,--no-whole-archive
+	ln -sf $(@F) $(BUILD)/$(SONAME)
+	ln -sf $(SONAME) $(BUILD)/libstar.so
+
+shared: $(SHARED)
+
+# Manual pages of section 3, from the header's comments.
+PAGES := $(BUILD)/man3
+$(PAGES): include/manual.py include/star.h
+	@rm -rf $@
+	python3 -B include/manual.py include/star.h $@
+
+all: $(SHARED) $(PAGES)
+outside: $(BUILD)/table_test $(BUILD)/table_test_faulty $(SHARED) $(PAGES)
+
+# What is installed beside the header, the static library, the console and star.pc.
+PACKAGE := $(DESTDIR)$(PREFIX)/lib/cmake/star
+MANUALS3 := $(DESTDIR)$(PREFIX)/share/man/man3
+install: install-library
+install-library: $(SHARED) $(PAGES)
+	install -d $(DESTDIR)$(PREFIX)/lib $(PACKAGE) $(MANUALS3)
+	install -m 755 $(SHARED) $(DESTDIR)$(PREFIX)/lib
+	ln -sf $(notdir $(SHARED)) $(DESTDIR)$(PREFIX)/lib/$(SONAME)
+	ln -sf $(SONAME) $(DESTDIR)$(PREFIX)/lib/libstar.so
+	install -m 644 include/starConfig.cmake $(PACKAGE)
+	sed 's|@VERSION@|$(VERSION)|' include/starConfigVersion.cmake.in >$(PACKAGE)/starConfigVersion.cmake
+	install -m 644 $(PAGES)/*.3 $(MANUALS3)
+
+uninstall: uninstall-library
+uninstall-library:
+	rm -f $(DESTDIR)$(PREFIX)/lib/libstar.so* $(PACKAGE)/starConfig.cmake $(PACKAGE)/starConfigVersion.cmake
+	rm -f $(MANUALS3)/libstar.3 $(patsubst %,$(MANUALS3)/%.3,$(shell sed -n -f include/names.sed include/star.h))
+
+.PHONY: shared install-library uninstall-library

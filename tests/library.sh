@@ -29,7 +29,7 @@ holds install env "PATH=$work/no-rt:$PATH" make install "PREFIX=$to"
 holds no-toolchain [ ! -e "$work/asked" ]
 for file in include/star.h lib/libstar.a lib/pkgconfig/star.pc bin/star share/man/man1/star.1; do holds "$file" [ -s "$to/$file" ]; done
 holds staged env "PATH=$work/no-rt:$PATH" make install "DESTDIR=$work/stage" PREFIX=/usr
-holds staged-prefix grep -qx 'prefix=/usr' "$work/stage/usr/lib/pkgconfig/star.pc"
+holds staged-prefix grep -qx 'prefix=${pcfiledir}/../..' "$work/stage/usr/lib/pkgconfig/star.pc"
 
 # One version: the header, the library, the console, the pkg-config file and the manual page.
 version=$("$to/bin/star" --version | sed 's/^star //')
@@ -38,7 +38,8 @@ holds version-numbers [ "$(sed -n 's/^#define STAR_VERSION_[A-Z]* //p' "$to/incl
 holds version-manual grep -q "^.TH STAR 1 .*star $version" "$to/share/man/man1/star.1"
 holds version-pc grep -qx "Version: $version" "$to/lib/pkgconfig/star.pc"
 
-# The flags: from pkg-config where it is installed.
+# The flags: from pkg-config where it is installed. The shared library is the one that is linked.
+export LD_LIBRARY_PATH=$to/lib
 flags=(-I"$to/include" -L"$to/lib" -lstar)
 if command -v pkg-config >/dev/null; then
     export PKG_CONFIG_PATH=$to/lib/pkgconfig
@@ -214,7 +215,7 @@ holds prices-c++17 "$plus" -std=c++17 "${strict[@]}" -Wconversion -o "$work/pric
 for language in c cpp; do holds "prices-$language" "$work/prices-$language"; done
 
 # The library has every function that the header declares, one of each name, and no other global name.
-sed -n 's/^\(STAR_INLINE \|const \)*[a-z].* \*\?\(star_[a-z0-9_]*\)(.*/\2/p' "$to/include/star.h" | sort >"$work/declared"
+sed -n -f include/names.sed "$to/include/star.h" | sort >"$work/declared"
 if command -v nm >/dev/null; then
     nm -g --defined-only "$to/lib/libstar.a" | awk 'NF == 3 { print $3 }' | sort >"$work/defined"
     holds declared [ -s "$work/declared" ]
@@ -233,7 +234,7 @@ for word in "opens with 'struck'" '-o OUTPUT' '5 the output'; do holds "help $wo
 # uninstall removes what install has put there, and nothing else.
 touch "$to/bin/other"
 holds uninstall make uninstall "PREFIX=$to"
-holds uninstalled [ "$(find "$to" -type f)" = "$to/bin/other" ]
+holds uninstalled [ "$(find "$to" -not -type d)" = "$to/bin/other" ]
 
 # While the core is proved make shows a line a crate, and keeps all in a log; where it is not proved make fails, and shows the log's end.
 cp -r Makefile include console "$work/no-rt"

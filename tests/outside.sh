@@ -128,6 +128,8 @@ python3 -B tests/page.py "$star" | tee "$work/page"
 add "$work/page"
 bash tests/library.sh | tee "$work/library"
 add "$work/library"
+bash tests/installed.sh "$build" | tee "$work/installed"
+add "$work/installed"
 
 echo "$passed passed, $failed failed"
 [ "$failed" = 0 ]
