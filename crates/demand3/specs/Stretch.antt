@@ -1,4 +1,4 @@
--- The dearest stretch between two vertices: what a claim that the checker passes is worth to who reads it by its heaviest row, over every accepted table, plain or working.
+-- The dearest stretch between two vertices: what a claim that the checker passes is worth to who reads it by its heaviest row, over every table, plain or working.
 -- Cites definitions alone; the proof is proofs/Stretch.antt. Assumes nothing.
 use Prim.Native.Nat.{ℕ}
 use lib.IntN.{ℤ}
@@ -12,7 +12,6 @@ use Rattle.graph.specs.Tree.{onPath, uses, once}
 use Rattle.star.specs.Accepted.{Vertex}
 use Rattle.star.specs.Call.{Call, used, graphOf, weightOf, claimed}
 use Rattle.star.specs.Cst.{passed, cst}
-use Rattle.star.specs.Refusals.{Accepted}
 
 -- the rows on the tree path between u and v, over the claim's marked rows
 abbrev pub pathOf : Call → ℕ → ℕ → ℕ → Bool
@@ -33,8 +32,8 @@ pub record Stretch (c : Call) (u v : ℕ) : Type 0 where
   -- the heaviest row on their tree path weighs no more than the heaviest row of any walk between them in the table
   pub no-heavier : (e : ℕ) → Heaviest (weightOf c) (pathOf c u v) e → (p : TableWalk c u v) (f : ℕ) → Heaviest (weightOf c) (uses p) f → weightOf c e ≤ℤ weightOf c f
 
--- the theorem: for every accepted table, every claim that the checker passes and every two different vertices
+-- the theorem: for every table and claim that the checker passes, and every two different vertices; a table that is not accepted is never passed
 abbrev pub StretchHolds : Type 0
 StretchHolds =
-    (c : Call) → Accepted c → (weight : ℤ) (alone : Bool) → cst c ≡ passed weight alone
+    (c : Call) (weight : ℤ) (alone : Bool) → cst c ≡ passed weight alone
     → (u v : ℕ) → Vertex (c .n) u → Vertex (c .n) v → u ≢ v → Stretch c u v

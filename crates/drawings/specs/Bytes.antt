@@ -5,13 +5,13 @@ use Prim.Native.Nat.{ℕ, _*_, _≤_}
 use lib.IntN.{ℤ, pos}
 use lib.ListN.{length, take, drop}
 use mathlib.Core.Bool.{Bool}
-use mathlib.Core.List.{List, List·Memᴰ}
+use mathlib.Core.List.{List}
 use mathlib.Core.Logic.{_↔_, _⊎_}
 use mathlib.Core.Path.{_≡_}
 use Rattle.demand3.specs.Bytes.{Written}
 use Rattle.demand3.specs.Demand3.{ZeroOrOne}
 use Rattle.graph.specs.Graph.{Connected}
-use Rattle.mending.specs.Promise.{Meant}
+use Rattle.mending.specs.Promise.{AllMeant, InOrder}
 use Rattle.record.specs.declared.Record.{Record}
 use Rattle.star.specs.Accepted.{AcceptedTable}
 use Rattle.star.specs.Call.{Call, rowsOf, graphOf, weightOf, claimed, withClaim}
@@ -35,8 +35,9 @@ pub record Steps (c : Call) (l : List Record) (k : ℕ) (marks : List ℕ) (list
   pub applied : appliedTo (c .mark) (take k list) ≡ marks
   pub few : k ≤ 2 * rowsOf c
   pub rest : drop k list ≡ drop k l
-  -- each of them says what was done
-  pub meant : (r : Record) → List·Memᴰ r (take k list) → Meant (graphOf c) (weightOf c) (claimed c) r
+  -- each of them says what was done at its step, and they stand in the order of the passes, those of one pass from the top
+  pub meant : AllMeant (graphOf c) (weightOf c) (claimed c) (take k list)
+  pub order : InOrder (take k list)
 
 -- the fields x of the answer, the claim and the list afterwards, where what is handed in is taken
 pub record MendedMeans (c : Call) (l : List Record) (x : Fields) (marks : List ℕ) (list : List Record) : Type 0 where

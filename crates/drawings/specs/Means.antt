@@ -4,13 +4,13 @@ use Prim.Native.Nat.{ℕ, zero, suc, _*_, _≤_}
 use lib.IntN.{ℤ}
 use lib.ListN.{length, take, drop, set}
 use mathlib.Core.Bool.{Bool}
-use mathlib.Core.List.{List, [], _∷_, List·Memᴰ}
+use mathlib.Core.List.{List, [], _∷_}
 use mathlib.Core.Logic.{_↔_}
 use mathlib.Core.Path.{_≡_}
 use Rattle.demand3.specs.Demand3.{ZeroOrOne}
 use Rattle.graph.specs.Graph.{Connected}
 use Rattle.record.specs.declared.Record.{Record}
-use Rattle.mending.specs.Promise.{Meant}
+use Rattle.mending.specs.Promise.{AllMeant, InOrder}
 use Rattle.star.specs.Call.{Call, rowsOf, graphOf, weightOf, claimed, withClaim}
 use Rattle.star.specs.Cst.{passed, cst}
 use Rattle.star.specs.Refusals.{Accepted}
@@ -39,8 +39,10 @@ pub record Mended (c : Call) (l : List Record) : Type 0 where
   -- they are at most 2 · m, and those past the last one keep their content
   pub few : (k : ℕ) → mend c (length l) ≡ mendedBy k → k ≤ 2 * rowsOf c
   pub rest : (k : ℕ) → mend c (length l) ≡ mendedBy k → drop k (mendList c l) ≡ drop k l
-  -- each of them says what was done: a dropped row closed a ring of kept marks, an added row joined two groups, an exchanged row was heavier and on the path
-  pub meant : (k : ℕ) → mend c (length l) ≡ mendedBy k → (r : Record) → List·Memᴰ r (take k (mendList c l)) → Meant (graphOf c) (weightOf c) (claimed c) r
+  -- each of them says what was done at its step: a dropped row closed a ring of kept marks, an added row joined two groups, an exchanged row was heavier and on the path
+  pub meant : (k : ℕ) → mend c (length l) ≡ mendedBy k → AllMeant (graphOf c) (weightOf c) (claimed c) (take k (mendList c l))
+  -- they stand in the order of the passes, those of one pass from the top
+  pub order : (k : ℕ) → mend c (length l) ≡ mendedBy k → InOrder (take k (mendList c l))
 
 -- the theorem
 abbrev pub MendingMeans : Type 0

@@ -5,10 +5,10 @@ use Rattle.decimal.specs.Decimal.{digitsBy, natural, integer}
 use Rattle.decimal.specs.Reading.{readNatural, readInteger}
 use Rattle.graph.specs.Builder.{cheapest, choose, first, next, fragment, treeOf, tree}
 use Rattle.graph.specs.Graph.{crosses, withEnds}
-use Rattle.listing.specs.DigList.{rowLine, rowLines, totalLine, digList, refusedLine, builtList, tableList, readList, textList, printed}
+use Rattle.listing.specs.DigList.{rowLine, rowLines, totalLine, digList, refusedLine, builtList, tableList, readList, textList, printed, exitStatus}
 use Rattle.listing.specs.Door.{listFields, textFields, withList}
 use Rattle.listing.specs.Reading.{onFirst, split, alike, digFrom, readRow, readTotal, atEnd, withRow, readLines, read}
-use Rattle.listing.specs.Trials.{PrintedHold, TextsHold, ReadHold, BytesHold, BehindHold, TrialsHold}
+use Rattle.listing.specs.Trials.{PrintedHold, TextsHold, ReadHold, StatusHold, BytesHold, BehindHold, TrialsHold}
 use Rattle.rowset.specs.Bytes.{little, inRow}
 use Rattle.rowset.specs.Integers.{fromBits, toBits, total}
 use Rattle.rowset.specs.Searches.{smallest}
@@ -36,6 +36,10 @@ read-hold : ReadHold
 unfolding readNatural readInteger onFirst split alike digFrom readRow readTotal atEnd withRow readLines read bytes within allDigits isEmpty decimal opensBelow below
 read-hold = refl
 
+status-hold : StatusHold
+unfolding xor digitsBy natural integer cheapest choose first next fragment treeOf tree crosses withEnds rowLine rowLines totalLine digList refusedLine printed builtList tableList little inRow fromBits toBits total smallest empty upTo both put any firstOf uppermost sum count used graphOf weightOf marked claimed claimWeight claimFrom claimOf chosenRows treeRows built mst1 builtMarks mst1Marks cause causeAt badVertices tooManyRows badLengths wrongRow badEnds badRow repeatsAbove repeats repeatedRow isNone noTree tableCauses mst1Causes orElse refusal bytes exitStatus
+status-hold = refl
+
 bytes-hold : BytesHold
 unfolding xor digitsBy natural integer cheapest choose first next fragment treeOf tree crosses withEnds rowLine rowLines totalLine digList refusedLine printed builtList tableList little inRow fromBits toBits total smallest empty upTo both put any firstOf uppermost sum count used graphOf weightOf marked claimed claimWeight claimFrom claimOf chosenRows treeRows built mst1 builtMarks mst1Marks cause causeAt badVertices tooManyRows badLengths wrongRow badEnds badRow repeatsAbove repeats repeatedRow isNone noTree tableCauses mst1Causes orElse refusal bytes listFields textFields fieldBytes bytesOf
 bytes-hold = refl
@@ -45,4 +49,4 @@ unfolding xor digitsBy natural integer cheapest choose first next fragment treeO
 behind-hold = refl
 
 pub trials-hold : TrialsHold
-trials-hold = record { printed-hold = printed-hold; texts-hold = texts-hold; read-hold = read-hold; bytes-hold = bytes-hold; behind-hold = behind-hold }
+trials-hold = record { printed-hold = printed-hold; texts-hold = texts-hold; read-hold = read-hold; status-hold = status-hold; bytes-hold = bytes-hold; behind-hold = behind-hold }

@@ -9,7 +9,7 @@ use mathlib.Core.Path.{_≡_}
 use lib.Dec.{eqb}
 use lib.IntN.{ℤ, pos, negsuc}
 use lib.ListN.{replicate}
-use Rattle.listing.specs.DigList.{digList, refusedLine, unlisted, tableList, textList, printed}
+use Rattle.listing.specs.DigList.{digList, refusedLine, unlisted, tableList, textList, printed, exitStatus}
 use Rattle.listing.specs.Door.{listFields, textFields, withList}
 use Rattle.listing.specs.Reading.{Dig, Listed, read}
 use Rattle.star.specs.Call.{Call, tableOf, callOf}
@@ -84,19 +84,23 @@ list rows total = some (record { rows = rows; total = total })
 abbrev dig : ℕ → ℕ → ℕ → ℤ → Dig
 dig position left right weight = record { position = position; left = left; right = right; weight = weight }
 
--- what is read, of bytes that are no list too: a total alone, rows; no LF at the end, a line after the total, no total, two spaces, a space at the end, a row of three numbers, another word, no number, an empty line, nothing
+-- what is read, of bytes that are no list too: a total alone, rows; no LF at the end, a line after the total, no total, two spaces, a space at the end, a row of three numbers, another word, the start of the word, no word, a longer one, no number, an empty line, nothing
 abbrev pub ReadHold : Type 0
 ReadHold =
     (
     read (bytes "Total 0\n") ∷ read (bytes "1 2 1 -7\n3 1 2 5\nTotal -2\n")
     ∷ read (bytes "Total 0") ∷ read (bytes "Total 0\n1 2 1 5\n") ∷ read (bytes "1 2 1 5\n") ∷ read (bytes "1 2  1 5\nTotal 5\n") ∷ read (bytes "Total 0 \n")
-    ∷ read (bytes "1 2 1\nTotal 0\n") ∷ read (bytes "total 0\n") ∷ read (bytes "Total x\n") ∷ read (bytes "\nTotal 0\n") ∷ read (bytes "")
+    ∷ read (bytes "1 2 1\nTotal 0\n") ∷ read (bytes "total 0\n") ∷ read (bytes "Tota 0\n") ∷ read (bytes " 0\n") ∷ read (bytes "Totals 0\n") ∷ read (bytes "Total x\n") ∷ read (bytes "\nTotal 0\n") ∷ read (bytes "")
     ∷ [])
     ≡ (
     list [] (pos 0) ∷ list (dig 1 2 1 (negsuc 6) ∷ dig 3 1 2 (pos 5) ∷ []) (negsuc 1)
     ∷ none ∷ none ∷ none ∷ none ∷ none
-    ∷ none ∷ none ∷ none ∷ none ∷ none
+    ∷ none ∷ none ∷ none ∷ none ∷ none ∷ none ∷ none ∷ none
     ∷ [])
+
+-- the exit status: 0 for a list, 1 for a refusal
+abbrev pub StatusHold : Type 0
+StatusHold = (exitStatus (tableList (callOf 1 [] [] [] [])) ∷ exitStatus (tableList (callOf 2 [] [] [] [])) ∷ []) ≡ (0 ∷ 1 ∷ [])
 
 -- the door's bytes: the length of a list of one vertex; 11 of a table, and 12 at 65,536 of a text
 abbrev pub BytesHold : Type 0
@@ -123,5 +127,6 @@ pub record TrialsHold : Type 0 where
   pub printed-hold : PrintedHold
   pub texts-hold : TextsHold
   pub read-hold : ReadHold
+  pub status-hold : StatusHold
   pub bytes-hold : BytesHold
   pub behind-hold : BehindHold

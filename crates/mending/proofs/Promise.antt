@@ -4,8 +4,6 @@ use Prim.Native.Nat.{ℕ, _≤_}
 use borrow.Author.Tests.{not-false}
 use lib.IntN.{ℤ}
 use mathlib.Core.Bool.{Bool, true, false, not}
-use mathlib.Core.List.{List·Memᴰ}
-use mathlib.Core.Logic.{⊎-elim}
 use mathlib.Core.Option.{none, some}
 use mathlib.Core.Path.{_≡_, refl, sym, subst}
 use native.Mathlib.Omega.{arith}
@@ -14,32 +12,28 @@ use Rattle.graph.proofs.Least.{good-least}
 use Rattle.graph.proofs.Reach.{walk-over-more, joined-walk, walk-joined}
 use Rattle.graph.specs.Graph.{Graph, Sound, Inside, Walk, joined}
 use Rattle.graph.specs.Tree.{SpanningTree}
+use Rattle.mending.proofs.Drawing.{recorded-next}
 use Rattle.mending.proofs.Gaps.{Filled, filled-after, filled-tree, filled-number}
 use Rattle.mending.proofs.Rings.{Kept, kept-after}
 use Rattle.mending.proofs.Visits.{visited-after, visited-good}
 use Rattle.mending.specs.Mending.{Drawing, ringless, gapless, exchanged, unjoined, mended}
-use Rattle.record.specs.declared.Record.{Record}
-use Rattle.mending.specs.Promise.{Meant, dropped, added, Mends, Mendings}
+use Rattle.mending.specs.Promise.{Mends, Mendings}
 use Rattle.rowset.proofs.Laws.{any-none, none-any}
 
 module _ (g : Graph) (ok : Sound g) (w : ℕ → ℤ) (M : ℕ → Bool) (inside : Inside g M) where
-  kept : Kept g ok M inside (g .m) (ringless g M)
+  kept : Kept g ok w M inside (g .m) (ringless g M)
   unfolding ringless
-  kept = kept-after g ok M inside (g .m)
+  kept = kept-after g ok w M inside (g .m)
 
-  filled : Filled g ok M inside (ringless g M) kept (g .m) (gapless g M)
+  filled : Filled g ok w M inside (ringless g M) kept (g .m) (gapless g M)
   unfolding gapless
-  filled = filled-after g ok M inside (ringless g M) kept (g .m)
-
-  -- each record of the first two passes says what was done
-  meant : (c : Record) → List·Memᴰ c (gapless g M .records) → Meant g w M c
-  meant c m = ⊎-elim (λ (j, q, _, t, off, ring). subst (Meant g w M) (sym q) (dropped j t off ring)) (λ (j, q, _, r, apart). subst (Meant g w M) (sym q) (added j r apart)) (filled .meant c m)
+  filled = filled-after g ok w M inside (ringless g M) kept (g .m)
 
   -- where there is a spanning tree, no vertex is left unjoined
   pub spanned : (B : ℕ → Bool) → SpanningTree g B → unjoined g (gapless g M .marks) ≡ false
   unfolding unjoined
   spanned B t =
-      let tree = filled-tree g ok M inside (ringless g M) kept (gapless g M) filled B t in
+      let tree = filled-tree g ok w M inside (ringless g M) kept (gapless g M) filled B t in
       none-any (g .n) (λ v. not (joined g (gapless g M .marks) 1 v)) (λ v l u. rw (walk-joined g ok (gapless g M .marks) (tree .inside) 1 (omega arith) (ok .vertex) v (tree .reached v l u)))
 
   -- where no vertex is left unjoined, the marks are a spanning tree
@@ -48,19 +42,20 @@ module _ (g : Graph) (ok : Sound g) (w : ℕ → ℤ) (M : ℕ → Bool) (inside
   joined-tree e =
       let walk : (v : ℕ) → 1 ≤ v → v ≤ g .n → Walk g (gapless g M .marks) 1 v = λ v l u. joined-walk g (gapless g M .marks) 1 v (not-false _ (any-none (g .n) (λ v. not (joined g (gapless g M .marks) 1 v)) e v l u)) in
       let (B, t) = connected-spanning g ok w (λ v l u. walk-over-more (filled .within) (walk v l u)) in
-      filled-tree g ok M inside (ringless g M) kept (gapless g M) filled B t
+      filled-tree g ok w M inside (ringless g M) kept (gapless g M) filled B t
 
   pub mends : unjoined g (gapless g M .marks) ≡ false → Mends g w M (exchanged g w M)
   unfolding exchanged
   mends e =
-      let visited = visited-after g ok w M (gapless g M) (joined-tree e) (filled .applied) meant (g .m) in
+      let visited = visited-after g ok w M (gapless g M) (joined-tree e) (recorded-next g w M 2 (g .m) (gapless g M) (filled .recorded)) (g .m) in
       let good = visited-good g ok w M (gapless g M) (exchanged g w M) visited in
       record {
         least = good-least g ok w (exchanged g w M .marks) (visited .tree) good;
         good = good;
-        applied = visited .applied;
-        few = omega (arith, visited .number, filled-number g ok M inside (ringless g M) kept (gapless g M) filled);
-        meant = visited .meant;
+        applied = visited .recorded .applied;
+        few = omega (arith, visited .number, filled-number g ok w M inside (ringless g M) kept (gapless g M) filled);
+        meant = visited .recorded .meant;
+        order = visited .recorded .order;
       }
 
 pub mendings : Mendings

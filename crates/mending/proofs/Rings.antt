@@ -1,9 +1,10 @@
 -- The first pass: the marks that are kept lie in a spanning tree if there is one, and each mark that was dropped closed a ring of kept marks above it.
 -- Defines: Kept (what holds after each position). Main statement: it holds after each position (kept-after). Assumes nothing.
 use Prim.Native.Nat.{ℕ, suc, _+_, _≤_}
+use lib.IntN.{ℤ}
 use lib.ListN.{length}
 use mathlib.Core.Bool.{Bool, true, false, _&&_, and-eq-true-iff}
-use mathlib.Core.List.{List·Memᴰ, List·Memᴰ·not-nil}
+use mathlib.Core.List.{List·Memᴰ·not-nil}
 use mathlib.Core.Logic.{⊎-elim}
 use mathlib.Core.Path.{_≡_, refl, sym, _∙_, ap, fun-ext}
 use native.Mathlib.Decide.{ℕ-discrete}
@@ -12,10 +13,10 @@ use native.Mathlib.Omega.{arith}
 use Rattle.graph.proofs.Reach.{same-truth, walk-over-more, joined-walk}
 use Rattle.graph.specs.Graph.{Graph, Sound, Inside, Walk}
 use Rattle.graph.specs.Tree.{SpanningTree}
-use Rattle.mending.proofs.Drawing.{cond-cases, down-keeps, Applied, done-applied, done-length, done-all}
+use Rattle.mending.proofs.Drawing.{cond-cases, down-keeps, Recorded, recorded-on, recorded-done, done-length}
 use Rattle.mending.proofs.Forest.{Extended, extended-fewer, extend-tree}
 use Rattle.mending.specs.Mending.{Drawing, drop, unmarkRow, markRow, apply, applyAll, done, down, joinsEnds, dropAt, old}
-use Rattle.record.specs.declared.Record.{Record}
+use Rattle.mending.specs.Promise.{dropped, AllMeant, visitedRow, InOrder}
 use Rattle.rowset.proofs.Laws.{clash, put-same, put-other, put-keeps, put-cases, takeOut-same, takeOut-other, takeOut-in, upTo-in, in-upTo, count-put, count-bound}
 use Rattle.rowset.proofs.Members.{put-all, both-in, in-both}
 use Rattle.rowset.specs.Sets.{upTo, both, put, takeOut, count}
@@ -42,43 +43,36 @@ module _ (k : ℕ) (S : ℕ → Bool) where
   pub above-same : S (suc k) ≡ false → both (upTo (suc k)) S ≡ both (upTo k) S
   above-same f = fun-ext λ i. same-truth _ _ (λ e. ⊎-elim (λ t. t) (λ q. clash (both-in (upTo (suc k)) S i e .1) (ap S q ∙ f)) (put-cases (both (upTo k) S) (suc k) i (above-next k S i e))) (above-more k (suc k) S S (omega arith) (λ j l h. h) i)
 
-module _ (g : Graph) (ok : Sound g) (M : ℕ → Bool) (inside : Inside g M) where
-  -- a record of a drop among the positions 1 to k, while the marks are S
-  abbrev pub DropMeant : ℕ → (ℕ → Bool) → Record → Type 0
-  DropMeant k S c = (j : ℕ) × (c ≡ drop (suc j)) × (suc j ≤ k) × (M (suc j) ≡ true) × (S (suc j) ≡ false) × Walk g (both (upTo j) S) (g .a (suc j)) (g .b (suc j))
-
+module _ (g : Graph) (ok : Sound g) (w : ℕ → ℤ) (M : ℕ → Bool) (inside : Inside g M) where
   -- after the positions 1 to k
   pub record Kept (k : ℕ) (s : Drawing) : Type 0 where
     pub within : (i : ℕ) → s .marks i ≡ true → M i ≡ true
     pub ring : (i : ℕ) → M i ≡ true → s .marks i ≡ false → Walk g (both (upTo k) (s .marks)) (g .a i) (g .b i)
     pub number : (X : ℕ → Bool) → ((i : ℕ) → M i ≡ true → s .marks i ≡ false → X i ≡ false) → length (s .records) + count (g .m) X ≤ g .m
-    pub applied : Applied M s
-    pub meant : (c : Record) → List·Memᴰ c (s .records) → DropMeant k (s .marks) c
+    pub recorded : Recorded g w M 1 k s
     pub extended : (B : ℕ → Bool) → SpanningTree g B → Extended g (both (upTo k) (s .marks))
 
   kept-old : Kept 0 (old M)
-  unfolding old applyAll
+  unfolding old applyAll AllMeant InOrder
   kept-old =
       record {
         within = λ i t. t;
         ring = λ i t f. clash t f;
         number = λ X h. omega (arith, count-bound (g .m) X);
-        applied = refl;
-        meant = λ c m. absurd (List·Memᴰ·not-nil m);
+        recorded = record { applied = refl; meant = tt; order = tt; by = λ c m. absurd (List·Memᴰ·not-nil m) };
         extended = λ B t. record { set = B; tree = t; has = λ i e. absurd (omega (arith, upTo-in 0 i (both-in (upTo 0) M i e .0))) };
       }
 
   module _ (k : ℕ) (s : Drawing) (h : Kept k s) where
     -- a mark whose ends earlier kept marks join is dropped
     drops : s .marks (suc k) ≡ true → joinsEnds g (both (upTo k) (s .marks)) (suc k) ≡ true → Kept (suc k) (done s (drop (suc k)))
-    unfolding done apply markRow unmarkRow joinsEnds
+    unfolding done apply markRow unmarkRow joinsEnds visitedRow
     drops on ends =
         record {
           within = λ i t. h .within i (takeOut-in S (suc k) i t .0);
           ring = λ i m off. walk-over-more (above-more k (suc k) S S′ (omega arith) less) (rings i m off);
           number = number;
-          applied = done-applied M s (drop (suc k)) (h .applied);
-          meant = done-all (DropMeant (suc k) S′) s (drop (suc k)) earlier (k, refl, omega arith, h .within (suc k) on, takeOut-same S (suc k), walk-over-more (above-more k k S S′ (omega arith) less) closed);
+          recorded = recorded-done g w M 1 k s (drop (suc k)) (h .recorded) refl refl (dropped k on closed);
           extended = λ B t. extended-fewer others (h .extended B t);
         }
       where
@@ -110,11 +104,6 @@ module _ (g : Graph) (ok : Sound g) (M : ℕ → Bool) (inside : Inside g M) whe
             let (m, ne) = takeOut-in S (suc k) i t in
             ⊎-elim (λ q. absurd (ne q)) (λ l. in-both (upTo k) S i (in-upTo k i lo (omega arith)) m) (eq-or-lt-of-le hi)
 
-        earlier : (c : Record) → List·Memᴰ c (s .records) → DropMeant (suc k) S′ c
-        earlier c m =
-            let (j, e, l, t, off, p) = h .meant c m in
-            (j, e, omega arith, t, off-still (suc j) off, walk-over-more (above-more j j S S′ (omega arith) (λ i li. less i (omega arith))) p)
-
         number : (X : ℕ → Bool) → ((i : ℕ) → M i ≡ true → S′ i ≡ false → X i ≡ false) → length (done s (drop (suc k)) .records) + count (g .m) X ≤ g .m
         number X d =
             let (l, u) = ok .position (suc k) (inside (suc k) (h .within (suc k) on)) in
@@ -127,8 +116,7 @@ module _ (g : Graph) (ok : Sound g) (M : ℕ → Bool) (inside : Inside g M) whe
           within = h .within;
           ring = λ i m off. walk-over-more (above-more k (suc k) (s .marks) (s .marks) (omega arith) (λ j l t. t)) (h .ring i m off);
           number = h .number;
-          applied = h .applied;
-          meant = λ c m. let (j, q, l, t, off, p) = h .meant c m in (j, q, omega arith, t, off, p);
+          recorded = recorded-on g w M 1 k s (h .recorded);
           extended = λ B t. go (s .marks (suc k)) refl (h .extended B t);
         }
       where

@@ -9,7 +9,6 @@ use lib.IntN.{ℤ}
 use lib.ListN.{length}
 use lib.Signed.{ltZ, _≤ℤ_, _<ℤ_, ≤ℤ-refl}
 use mathlib.Core.Bool.{Bool, true, false, not, cond, xor, _&&_, true≢false, and-eq-true-iff}
-use mathlib.Core.List.{List·Memᴰ}
 use mathlib.Core.Logic.{_⊎_, inl, inr, ⊎-elim}
 use mathlib.Core.Path.{_≡_, refl, sym, _∙_, ap}
 use native.Mathlib.Decide.{ℕ-discrete}
@@ -22,10 +21,9 @@ use Rattle.graph.proofs.Update.{path-update}
 use Rattle.graph.specs.Graph.{Graph, Sound}
 use Rattle.graph.specs.Least.{Good}
 use Rattle.graph.specs.Tree.{SpanningTree, onPath, exchange}
-use Rattle.mending.proofs.Drawing.{cond-cases, down-keeps, Applied, done-applied, done-length, done-all}
+use Rattle.mending.proofs.Drawing.{cond-cases, down-keeps, Recorded, recorded-on, recorded-done, done-length}
 use Rattle.mending.specs.Mending.{Drawing, exchangeOf, unmarkRow, markRow, apply, done, down, heavierThan, rowOut, exchangeFor, exchangeAt}
-use Rattle.record.specs.declared.Record.{Record}
-use Rattle.mending.specs.Promise.{Meant, swapped}
+use Rattle.mending.specs.Promise.{swapped, visitedRow}
 use Rattle.rowset.proofs.Integers.{integers, ltZ-true, ltZ-false, lt-ltZ, le-ltZ}
 use Rattle.rowset.proofs.Laws.{clash, refuted, put-same, put-keeps, put-cases, takeOut-other, takeOut-in, any-some, any-found, uppermost-some, uppermost-ext, false-xor, upTo-in, in-upTo}
 use Rattle.rowset.proofs.Members.{put-all, either-in, in-either}
@@ -177,8 +175,7 @@ module _ (g : Graph) (ok : Sound g) (w : ℕ → ℤ) (M : ℕ → Bool) (s₀ :
     pub known : (i : ℕ) → s .marks i ≡ true → reached k i ≡ true
     pub good : GoodOver g w (reached k) (s .marks)
     pub number : length (s .records) ≤ length (s₀ .records) + k
-    pub applied : Applied M s
-    pub meant : (c : Record) → List·Memᴰ c (s .records) → Meant g w M c
+    pub recorded : Recorded g w M 3 k s
 
   module _ (k : ℕ) (s : Drawing) (h : Visited k s) where
     -- a row that no row goes out for
@@ -189,13 +186,12 @@ module _ (g : Graph) (ok : Sound g) (w : ℕ → ℤ) (M : ℕ → Bool) (s₀ :
           known = λ i t. next-reached k i (h .known i t);
           good = λ f r new off e path. ⊎-elim (λ t. h .good f r t off e path) (λ q. rw q (light (sym (ap (g .rows) q) ∙ r) (sym (ap (s .marks) q) ∙ off) e (rw q at path))) (put-cases (reached k) (suc k) f (reached-next k f new));
           number = omega (arith, h .number);
-          applied = h .applied;
-          meant = h .meant;
+          recorded = recorded-on g w M 3 k s (h .recorded);
         }
 
     -- a row that row e goes out for
     swaps : g .rows (suc k) ≡ true → s .marks (suc k) ≡ false → (e : ℕ) → rowOut g w (s .marks) (suc k) ≡ suc e → Visited (suc k) (done s (exchangeOf (suc e) (suc k)))
-    unfolding done apply markRow unmarkRow exchange
+    unfolding done apply markRow unmarkRow exchange visitedRow
     swaps r off e o =
         let (path, heavy, heaviest) = rowOut-some g ok w (s .marks) (h .tree) (suc k) e o in
         let row-reached : reached (suc k) (suc k) ≡ true = in-either (s₀ .marks) (upTo (suc k)) (suc k) (inr (in-upTo (suc k) (suc k) (omega arith) (omega arith))) in
@@ -204,8 +200,7 @@ module _ (g : Graph) (ok : Sound g) (w : ℕ → ℤ) (M : ℕ → Bool) (s₀ :
           known = put-all (λ (i : ℕ). reached (suc k) i ≡ true) (takeOut (s .marks) (suc e)) (suc k) (λ i t. next-reached k i (h .known i (takeOut-in (s .marks) (suc e) i t .0))) row-reached;
           good = λ f rf new. exchange-good g ok w (s .marks) (h .tree) (reached k) (h .known) (h .good) (suc e) (suc k) r off path heavy heaviest f rf (reached-next k f new);
           number = omega (arith, h .number, done-length s (exchangeOf (suc e) (suc k)));
-          applied = done-applied M s (exchangeOf (suc e) (suc k)) (h .applied);
-          meant = done-all (Meant g w M) s (exchangeOf (suc e) (suc k)) (h .meant) (swapped (s .marks) (h .tree) (suc e) (suc k) r off path heavy heaviest (rowOut-uppermost g ok w (s .marks) (h .tree) (suc k) e o));
+          recorded = recorded-done g w M 3 k s (exchangeOf (suc e) (suc k)) (h .recorded) refl refl (swapped (h .tree) (suc e) (suc k) r off path heavy heaviest (rowOut-uppermost g ok w (s .marks) (h .tree) (suc k) e o));
         }
 
     pub visited-step : Visited (suc k) (exchangeAt g w (suc k) s)
@@ -216,7 +211,7 @@ module _ (g : Graph) (ok : Sound g) (w : ℕ → ℤ) (M : ℕ → Bool) (s₀ :
         go r off zero q = stays (λ _ _. rowOut-none g ok w (s .marks) (h .tree) (suc k) q)
         go r off (suc e) q = swaps r off e q
 
-  module _ (tree₀ : SpanningTree g (s₀ .marks)) (applied₀ : Applied M s₀) (meant₀ : (c : Record) → List·Memᴰ c (s₀ .records) → Meant g w M c) where
+  module _ (tree₀ : SpanningTree g (s₀ .marks)) (recorded₀ : Recorded g w M 3 0 s₀) where
     visited-first : Visited 0 s₀
     visited-first =
         record {
@@ -224,8 +219,7 @@ module _ (g : Graph) (ok : Sound g) (w : ℕ → ℤ) (M : ℕ → Bool) (s₀ :
           known = λ i t. in-either (s₀ .marks) (upTo 0) i (inl t);
           good = λ f r new off. ⊎-elim (λ t. clash t off) (λ t. absurd (omega (arith, upTo-in 0 f t))) (either-in (s₀ .marks) (upTo 0) f new);
           number = omega arith;
-          applied = applied₀;
-          meant = meant₀;
+          recorded = recorded₀;
         }
 
     -- after each position

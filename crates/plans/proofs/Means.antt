@@ -11,7 +11,7 @@ use mathlib.Core.Logic.{_↔_, _⊎_, inl, inr}
 use mathlib.Core.Option.{Option, none, some}
 use mathlib.Core.Path.{_≡_, refl, sym, ap, _∙_, subst}
 use native.Mathlib.Omega.{arith}
-use Rattle.demand3.proofs.Bytes.{cst-door-means}
+use Rattle.demand3.proofs.Bytes.{read-back, cst-door-means}
 use Rattle.demand3.proofs.Demand3.{apart, refused-passed, refused-lighter, demand3}
 use Rattle.demand3.specs.Bytes.{Written}
 use Rattle.demand3.specs.Demand3.{ClaimTree}
@@ -87,13 +87,12 @@ accepted-claim c l e a = rw e a
 
 -- ── The bytes ──
 
-eight : (x : ℕ) → x < 18446744073709551616 → x % 256 + 256 * (x / 256 % 256 + 256 * (x / 256 / 256 % 256 + 256 * (x / 256 / 256 / 256 % 256 + 256 * (x / 256 / 256 / 256 / 256 % 256 + 256 * (x / 256 / 256 / 256 / 256 / 256 % 256 + 256 * (x / 256 / 256 / 256 / 256 / 256 / 256 % 256 + 256 * (x / 256 / 256 / 256 / 256 / 256 / 256 / 256 % 256 + 256 * 0))))))) ≡ x
-eight x h = omega arith
-
 -- a weight within 64 bits, with kind 1, reads back
-weight-written : (w : ℤ) → mag w < 9223372036854775808 → Written (fieldBytes (whichFields (firstPlan w))) (whichFields (firstPlan w))
-unfolding whichFields fieldBytes bytesOf readBack little
-weight-written w h = record { sixteen = refl; unused = refl; fields = rw (eight (toBits 64 w) (bits-small 63 w h), bits-back 63 w h) }
+weight-written : (w : ℤ) → mag w < 9223372036854775808 → (answer : List ℕ) → length answer ≡ 16 → Written (fieldBytes (whichFields (firstPlan w))) (whichFields (firstPlan w))
+unfolding whichFields answerAfter wellLent
+weight-written w h answer l =
+    let x = read-back answer (whichFields (firstPlan w)) (record { kind = omega arith; number = omega arith; out = omega arith; into = omega arith; only = omega arith; amount = h }) l in
+    rw (eq-eqb (length answer) 16 l) at x
 
 -- the weight of a plan over an accepted table is within 64 bits
 weight-small : (c : Call) → Accepted c → mag (claimWeight c) < 9223372036854775808
@@ -116,7 +115,8 @@ record Told (c : Call) (second : List ℕ) (s : Standing) : Type 0 where
   told : (whichFields s .kind ≡ 1) ↔ BothTrees c second
   stands : whichFields s .kind ≡ 1 → Stands c second (planOf (c .mark) second (planNumber s)) (whichFields s .amount)
   refuses : (whichFields s .kind ≡ 1 → ⊥) → (whichFields s .kind ≡ 0) × RefusedBy c second (record { number = whichFields s .number; place = whichFields s .out }) × (planNumber s ≡ 0)
-  numbered : whichFields s .kind ≡ 1 → (planNumber s ≡ 1) ⊎ (planNumber s ≡ 2)
+  first : whichFields s .kind ≡ 1 → (planNumber s ≡ 1) ↔ (claimWeight c ≤ℤ claimWeight (withClaim c second))
+  second-plan : whichFields s .kind ≡ 1 → (planNumber s ≡ 2) ↔ (claimWeight (withClaim c second) <ℤ claimWeight c)
 
 module _ (c : Call) (second : List ℕ) where
   abbrev d : Call
@@ -132,7 +132,8 @@ module _ (c : Call) (second : List ℕ) where
         told = (λ k. absurd (omega arith), λ b. absurd (n b));
         stands = λ k. absurd (omega arith);
         refuses = λ k. (refl, by, refl);
-        numbered = λ k. absurd (omega arith);
+        first = λ k. absurd (omega arith);
+        second-plan = λ k. absurd (omega arith);
       }
 
   module _ (e : refusal (cstCauses c) ≡ none) (f : refusal (cstCauses d) ≡ none) where
@@ -143,7 +144,7 @@ module _ (c : Call) (second : List ℕ) where
     unfolding whichFields planNumber planOf
     told-first h =
         record {
-          written = λ answer l. weight-written (claimWeight c) (weight-small c (taken-table c e));
+          written = weight-written (claimWeight c) (weight-small c (taken-table c e));
           only = refl;
           told = (λ k. both, λ b. refl);
           stands = λ k. record {
@@ -153,17 +154,17 @@ module _ (c : Call) (second : List ℕ) where
             weight = refl;
             first-no-lighter = omega (arith, integers);
             second-no-lighter = h;
-            first-if-equal = λ q. refl;
           };
           refuses = λ k. absurd (k refl);
-          numbered = λ k. inl refl;
+          first = λ k. (λ e. h, λ l. refl);
+          second-plan = λ k. (λ e. absurd (omega arith), λ l. absurd (omega (arith, integers, h, l)));
         }
 
     told-second : claimWeight d <ℤ claimWeight c → Told c second (secondPlan (claimWeight d))
     unfolding whichFields planNumber planOf
     told-second h =
         record {
-          written = λ answer l. weight-written (claimWeight d) (weight-small d (taken-table d f));
+          written = weight-written (claimWeight d) (weight-small d (taken-table d f));
           only = refl;
           told = (λ k. both, λ b. refl);
           stands = λ k. record {
@@ -173,10 +174,10 @@ module _ (c : Call) (second : List ℕ) where
             weight = refl;
             first-no-lighter = omega (arith, integers);
             second-no-lighter = omega (arith, integers);
-            first-if-equal = λ q. absurd (omega (arith, integers, h, q));
           };
           refuses = λ k. absurd (k refl);
-          numbered = λ k. inr refl;
+          first = λ k. (λ e. absurd (omega arith), λ l. absurd (omega (arith, integers, h, l)));
+          second-plan = λ k. (λ e. h, λ l. refl);
         }
 
     told-lighter : Told c second (lighterPlan (claimWeight c) (claimWeight d))
@@ -245,7 +246,8 @@ plans-mean c second answer =
       neither = λ h. rw (read c second answer h, plan-is c second answer h, number-is c second answer h) (λ k. none-stands (told c second .refuses k));
       first = λ e. rw e refl;
       second-plan = λ e. rw e refl;
-      numbered = λ h. rw (read c second answer h, number-is c second answer h) (told c second .numbered);
+      first-unless-lighter = λ h. rw (read c second answer h, number-is c second answer h) (told c second .first);
+      second-if-lighter = λ h. rw (read c second answer h, number-is c second answer h) (told c second .second-plan);
     }
   where
     none-stands : {P : Type 0} {Q : Type 0} {k : ℕ} → P × Q × (k ≡ 0) → P × Q × (planOf (c .mark) second k ≡ []) × (k ≡ 0)

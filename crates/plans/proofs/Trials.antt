@@ -11,10 +11,10 @@ use Rattle.rowset.specs.Words.{inWords}
 use Rattle.star.specs.Call.{used, graphOf, weightOf, marked, claimed, claimWeight}
 use Rattle.star.specs.Door.{bytesOf, fieldBytes, wellLent, answerAfter}
 use Rattle.star.specs.Refusals.{cause, causeAt, badVertices, tooManyRows, badLengths, wrongRow, badEnds, badRow, repeatsAbove, repeats, repeatedRow, wrongByte, badClaim, badCount, unjoined, tableCauses, cstCauses, orElse, refusal}
-use Rattle.plans.specs.Door.{whichFields, planNumber, planOf, whichDoor, whichReturns, handedBack}
+use Rattle.plans.specs.Door.{whichFields, planNumber, planOf, startOf, whichDoor, whichReturns, handedBack}
 use Rattle.plans.specs.Trials.{TrialsHold}
 use Rattle.plans.specs.Which.{whichCauses, lighterPlan, whichOr, which}
 
 pub trials-hold : TrialsHold
-unfolding xor crosses withEnds step grow joined little inRow fromBits toBits total empty upTo both put any firstOf uppermost sum count these inWords used graphOf weightOf marked claimed claimWeight bytesOf fieldBytes wellLent answerAfter cause causeAt badVertices tooManyRows badLengths wrongRow badEnds badRow repeatsAbove repeats repeatedRow wrongByte badClaim badCount unjoined tableCauses cstCauses orElse refusal whichFields planNumber planOf whichDoor whichReturns handedBack whichCauses lighterPlan whichOr which
+unfolding xor crosses withEnds step grow joined little inRow fromBits toBits total empty upTo both put any firstOf uppermost sum count these inWords used graphOf weightOf marked claimed claimWeight bytesOf fieldBytes wellLent answerAfter cause causeAt badVertices tooManyRows badLengths wrongRow badEnds badRow repeatsAbove repeats repeatedRow wrongByte badClaim badCount unjoined tableCauses cstCauses orElse refusal whichFields planNumber planOf startOf whichDoor whichReturns handedBack whichCauses lighterPlan whichOr which
 trials-hold = (refl, refl, refl)

@@ -6,7 +6,7 @@ use mathlib.Core.Logic.{_↔_, _⊎_}
 use mathlib.Core.Path.{_≡_}
 use lib.IntN.{ℤ}
 use lib.ListN.{length}
-use lib.Signed.{_≤ℤ_}
+use lib.Signed.{_≤ℤ_, _<ℤ_}
 use Rattle.demand3.specs.Bytes.{Written}
 use Rattle.demand3.specs.Demand3.{ClaimTree}
 use Rattle.refusal.specs.declared.Refusal.{Refusal}
@@ -33,8 +33,6 @@ pub record Stands (c : Call) (second p : List ℕ) (w : ℤ) : Type 0 where
   pub weight : w ≡ claimWeight (withClaim c p)
   pub first-no-lighter : w ≤ℤ claimWeight c
   pub second-no-lighter : w ≤ℤ claimWeight (withClaim c second)
-  -- it is the first where the first weighs no more
-  pub first-if-equal : claimWeight c ≤ℤ claimWeight (withClaim c second) → p ≡ c .mark
 
 -- r is the refusal: CST gives it of the first plan; or it gives none of the first, and this one of the second
 abbrev pub RefusedBy : Call → List ℕ → Refusal → Type 0
@@ -53,10 +51,11 @@ pub record WhichCall (c : Call) (second answer after handed : List ℕ) (returne
   -- kind 0 in every other answer; the number and the place are CST's refusal, and the part handed back is empty
   pub neither : length answer ≡ 16 → (readBack after .kind ≡ 1 → ⊥)
       → (readBack after .kind ≡ 0) × RefusedBy c second (record { number = readBack after .number; place = readBack after .out }) × (handed ≡ []) × (returned ≡ 0)
-  -- the number that is returned says which plan is handed back
+  -- the number that is returned says which plan is handed back: 2 exactly where the second weighs less, else 1, whatever bytes the two plans have
   pub first : returned ≡ 1 → handed ≡ c .mark
   pub second-plan : returned ≡ 2 → handed ≡ second
-  pub numbered : length answer ≡ 16 → readBack after .kind ≡ 1 → (returned ≡ 1) ⊎ (returned ≡ 2)
+  pub first-unless-lighter : length answer ≡ 16 → readBack after .kind ≡ 1 → (returned ≡ 1) ↔ (claimWeight c ≤ℤ claimWeight (withClaim c second))
+  pub second-if-lighter : length answer ≡ 16 → readBack after .kind ≡ 1 → (returned ≡ 2) ↔ (claimWeight (withClaim c second) <ℤ claimWeight c)
 
 -- the theorem: of every call, whatever the columns, the plans and the lent answer hold
 abbrev pub PlansMean : Type 0

@@ -9,7 +9,7 @@ use Rattle.star.specs.Call.{Call, callOf}
 use Rattle.star.specs.SignedTrials.{minus, signedYard, extremes}
 use Rattle.star.specs.Trials.{because, yard, twice}
 use Rattle.star.specs.WorkTrials.{onlyRows, last}
-use Rattle.plans.specs.Door.{whichDoor, whichReturns, handedBack}
+use Rattle.plans.specs.Door.{startOf, whichDoor, whichReturns, handedBack}
 use Rattle.plans.specs.Which.{Standing, neither, firstPlan, secondPlan, which}
 
 -- plans of the yard by their rows: 1, 2, 3 weighs 13; 1, 2, 4 and 2, 3, 4 weigh 12; 1, 2, 5 joins no vertex 4
@@ -108,7 +108,7 @@ expectedWork = firstPlan (pos 9) ∷ neither (because 9 0) ∷ neither (because 
 abbrev nines : ℕ → List ℕ
 nines k = replicate k 9
 
--- the lent answer, what is handed back and what is returned: the second, the first, the first of one vertex, a refusal, and answers of fifteen and seventeen bytes
+-- the lent answer, what is handed back, where it begins (at place 5 for the first plan and 8 for the second) and what is returned: the second, the first, the first of one vertex, a refusal, and answers of fifteen and seventeen bytes
 abbrev pub givenBytes : List (List ℕ)
 givenBytes =
     whichDoor (yard rows123) rows124 (nines 16)
@@ -124,6 +124,7 @@ givenBytes =
     ∷ handedBack (yard rows123) rows124 (nines 15)
     ∷ whichDoor (yard rows123) rows124 (nines 17)
     ∷ handedBack (yard rows123) rows124 (nines 17)
+    ∷ (startOf 5 8 0 ∷ startOf 5 8 1 ∷ startOf 5 8 2 ∷ startOf 5 8 3 ∷ [])
     ∷ (whichReturns (yard rows123) rows124 (nines 16) ∷ whichReturns (yard rows124) rows234 (nines 16) ∷ whichReturns lone [] (nines 16) ∷ whichReturns (yard rows125) rows124 (nines 16) ∷ whichReturns (yard rows123) rows124 (nines 15) ∷ [])
     ∷ []
 
@@ -142,6 +143,7 @@ expectedBytes =
     ∷ []
     ∷ nines 17
     ∷ []
+    ∷ (5 ∷ 5 ∷ 8 ∷ 5 ∷ [])
     ∷ (2 ∷ 1 ∷ 1 ∷ 0 ∷ 0 ∷ [])
     ∷ []
 

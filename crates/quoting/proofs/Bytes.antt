@@ -4,28 +4,30 @@ use Prim.Native.Nat.{ℕ, _+_, _*_, _/_, _%_, _≤_, _<_}
 use borrow.Author.Tests.{eq-eqb, ne-eqb}
 use lib.Dec.{eqb}
 use lib.IntN.{ℤ, pos}
-use lib.ListN.{length}
+use lib.ListN.{length, take, replicate}
 use lib.Signed.{mag}
 use mathlib.Core.Bool.{Bool, true, false, not, cond}
 use mathlib.Core.List.{List, [], _∷_, _++_}
 use mathlib.Core.Logic.{_⊎_, inl, inr}
+use mathlib.Core.Option.{some}
 use mathlib.Core.Path.{_≡_, refl, sym, ap, _∙_, fun-ext}
 use native.Mathlib.Omega.{arith}
-use Rattle.demand3.proofs.Bytes.{TableRefusal, table-refusal, refused-first, turned-away}
-use Rattle.demand3.specs.Bytes.{TableDeclined}
+use Rattle.demand3.proofs.Bytes.{Fits, TableRefusal, table-refusal, refused-first, standing, accepted, turned, read-back, turned-away}
+use Rattle.demand3.specs.Bytes.{Written, TableDeclined}
 use Rattle.graph.specs.Graph.{Connected}
 use Rattle.prices.specs.Quote.{priced}
 use Rattle.refusal.specs.declared.Refusal.{Refusal}
+use Rattle.rowset.proofs.Laws.{clash}
 use Rattle.rowset.proofs.Signed.{bits-back, bits-small, total-small}
 use Rattle.rowset.specs.Bytes.{little, inRow}
 use Rattle.rowset.specs.Integers.{fromBits, toBits, signed, total}
-use Rattle.star.proofs.Accepted.{refusal-append, used-row, accepted-means}
+use Rattle.star.proofs.Accepted.{refusal-append, used-row, row-used, accepted-means}
 use Rattle.star.specs.Accepted.{Row, AcceptedTable}
 use Rattle.star.specs.Call.{Call, rowsOf, used, graphOf, weightOf}
-use Rattle.star.specs.Door.{Fields, bytesOf, fieldBytes, readBack}
+use Rattle.star.specs.Door.{Fields, bytesOf, fieldBytes, readBack, wellLent, answerAfter}
 use Rattle.star.specs.Refusals.{Accepted, cause, noTree, tableCauses, orElse, refusal}
 use Rattle.quoting.proofs.Means.{totals-built, quotes-mean}
-use Rattle.quoting.specs.Bytes.{kindOf, numberOf, placeOf, beforeOf, totalAfter, QuotedMeans, Declined, QuoteCall, QuoteDoorMeans}
+use Rattle.quoting.specs.Bytes.{kindOf, numberOf, placeOf, beforeOf, totalAfter, QuoteWritten, QuotedMeans, Declined, QuoteCall, QuoteDoorMeans}
 use Rattle.quoting.specs.Door.{quoteFields, afterOf, quoteBytes, lentQuote, quoteReturns, quoteDoor}
 use Rattle.quoting.specs.Means.{Quoted}
 use Rattle.quoting.specs.Quote.{noRow, quoteCauses, builtTotal, newPrices, QuoteAnswer, unquoted, quoted, quoteOr, quote}
@@ -154,6 +156,62 @@ row-refused c ok k n x = go (used c k) refl
     go true e = absurd (n (used-row c k e))
     go false e = rw (refusal-append (tableCauses c) (noRow c k ∷ noTree c ∷ []) ok, e)
 
+-- the bytes of an answer whose fields fit
+sixteen-written : (a : QuoteAnswer) → Fits (quoteFields a) → Written (take 16 (quoteBytes a)) (quoteFields a)
+unfolding quoteBytes fieldBytes bytesOf answerAfter wellLent
+sixteen-written a f = read-back (replicate 16 0) (quoteFields a) f refl
+
+after-written : (a : QuoteAnswer) → mag (afterOf a) < 9223372036854775808 → totalAfter (quoteBytes a) ≡ afterOf a
+unfolding quoteBytes quoteFields afterOf fieldBytes bytesOf little toBits fromBits
+after-written (unquoted r) m = refl
+after-written (quoted before after) m = quoted-after before after m
+
+fitting-written : (a : QuoteAnswer) → Fits (quoteFields a) → mag (afterOf a) < 9223372036854775808 → QuoteWritten (quoteBytes a) a
+fitting-written a f m = record { twenty-four = bytes-length a; first = sixteen-written a f; total = after-written a m }
+
+refusal-written : (r : Refusal) → r .number < 256 → r .place < 65536 → QuoteWritten (quoteBytes (unquoted r)) (unquoted r)
+unfolding quoteFields afterOf
+refusal-written r n p =
+    fitting-written (unquoted r) (record { kind = omega arith; number = n; out = p; into = omega arith; only = omega arith; amount = omega arith }) (omega arith)
+
+module _ (c : Call) (k x : ℕ) where
+  -- over an accepted table, of a row in use
+  answered-written : Accepted c → Row c k → (s : QuoteAnswer) → quote c k x ≡ s → QuoteWritten (quoteBytes s) s
+  unfolding quoteFields afterOf
+  answered-written a row (unquoted r) e =
+      let q = quotes-mean c a k row x in
+      let is : unquoted r ≡ unquoted (record { number = 11; place = 0 }) = sym e ∙ q .unconnected .0 (λ joins. let (before, after, h) = q .connected .0 joins in answers-apart (sym e ∙ h)) in
+      rw is (refusal-written (record { number = 11; place = 0 }) (omega arith) (omega arith))
+  answered-written a row (quoted before after) e =
+      let b = totals-built c a k row x before after e in
+      let t = accepted-means c .0 a in
+      fitting-written (quoted before after)
+      (record { kind = omega arith; number = omega arith; out = omega arith; into = omega arith; only = omega arith; amount = rw (b .0) at (before-fits c t k x) })
+      (rw (b .1) at (after-fits c t k x))
+
+  -- of a refused one
+  turned-written : (r : Refusal) → refusal (tableCauses c) ≡ some r → QuoteWritten (quoteBytes (quote c k x)) (quote c k x)
+  unfolding quote quoteOr quoteCauses
+  turned-written r e =
+      let t = table-refusal c r e in
+      rw (refused-first c r (noRow c k ∷ noTree c ∷ []) (tableCauses c) e) (refusal-written r (small (t .number)) (omega (arith, t .place)))
+    where
+      small : ((1 ≤ r .number) × (r .number ≤ 4)) ⊎ (r .number ≡ 15) → r .number < 256
+      small (inl h) = omega (arith, h .1)
+      small (inr q) = omega arith
+
+  -- whatever the table and the row
+  all-written : QuoteWritten (quoteBytes (quote c k x)) (quote c k x)
+  all-written =
+      elim (standing c) [
+        | accepted a ↦ taken a (used c k) refl
+        | turned r e ↦ turned-written r e
+      ]
+    where
+      taken : Accepted c → (b : Bool) → used c k ≡ b → QuoteWritten (quoteBytes (quote c k x)) (quote c k x)
+      taken a true e = answered-written a (used-row c k e) (quote c k x) refl
+      taken a false e = rw (row-refused c a k (λ row. clash (row-used c k row) e) x) (refusal-written (record { number = 7; place = 0 }) (omega arith) (omega arith))
+
 -- a table that is refused
 table-refused : (c : Call) (k x : ℕ) → (AcceptedTable c → ⊥) → TableDeclined (readBack (quoteBytes (quote c k x))) × (totalAfter (quoteBytes (quote c k x)) ≡ pos 0)
 unfolding quote quoteOr quoteCauses
@@ -164,7 +222,8 @@ unfolding quoteDoor quoteReturns lentQuote
 quote-door-means c k x answer =
     record {
       declined = λ n. rw (ne-eqb (length answer) 24 n) (refl, refl);
-      returns = λ h. rw (eq-eqb (length answer) 24 h) (refl, bytes-length (quote c k x));
+      returns = λ h. rw (eq-eqb (length answer) 24 h);
+      written = λ h. rw (eq-eqb (length answer) 24 h) (all-written c k x);
       means = λ h a row. rw (eq-eqb (length answer) 24 h) (quoted-means c (accepted-means c .1 a) a k row x);
       no-row = λ h a n. rw (eq-eqb (length answer) 24 h, row-refused c (accepted-means c .1 a) k n x) seven-told;
       refused = λ h n. rw (eq-eqb (length answer) 24 h) (table-refused c k x n);

@@ -6,8 +6,8 @@ use mathlib.Core.List.{List}
 use mathlib.Core.Logic.{_↔_}
 use mathlib.Core.Path.{_≡_}
 use lib.IntN.{ℤ, pos}
-use lib.ListN.{length}
-use Rattle.demand3.specs.Bytes.{TableDeclined}
+use lib.ListN.{length, take}
+use Rattle.demand3.specs.Bytes.{Written, TableDeclined}
 use Rattle.graph.specs.Graph.{Connected}
 use Rattle.prices.specs.Quote.{Bound}
 use Rattle.rowset.specs.Bytes.{little}
@@ -15,9 +15,9 @@ use Rattle.rowset.specs.Integers.{fromBits, signed}
 use Rattle.star.specs.Accepted.{Row, AcceptedTable}
 use Rattle.star.specs.Call.{Call, graphOf, weightOf}
 use Rattle.star.specs.Door.{readBack}
-use Rattle.quoting.specs.Door.{quoteReturns, quoteDoor}
+use Rattle.quoting.specs.Door.{quoteFields, afterOf, quoteReturns, quoteDoor}
 use Rattle.quoting.specs.Means.{LeastIs}
-use Rattle.quoting.specs.Quote.{newPrices}
+use Rattle.quoting.specs.Quote.{QuoteAnswer, newPrices, quote}
 
 -- what is read back of bytes 0, 1, 2 and 3, 8 to 15, and 16 to 23
 abbrev pub kindOf : List ℕ → ℕ
@@ -34,6 +34,12 @@ beforeOf l = readBack l .amount
 
 abbrev pub totalAfter : List ℕ → ℤ
 totalAfter l = fromBits 64 (little l 16 8)
+
+-- what is left of a lent answer of twenty-four bytes: the first sixteen are an answer's as every door writes it, and the last eight the total after, nothing of it cut off
+pub record QuoteWritten (after : List ℕ) (answer : QuoteAnswer) : Type 0 where
+  pub twenty-four : length after ≡ 24
+  pub first : Written (take 16 after) (quoteFields answer)
+  pub total : totalAfter after ≡ afterOf answer
 
 -- the bytes of a quote of a row in use of an accepted table
 pub record QuotedMeans (c : Call) (k x : ℕ) (bytes : List ℕ) : Type 0 where
@@ -56,7 +62,8 @@ pub record QuoteCall (c : Call) (k x : ℕ) (answer after : List ℕ) (returned 
   -- an answer of another length than twenty-four bytes: 0 is returned, and nothing is written
   pub declined : (length answer ≡ 24 → ⊥) → (returned ≡ 0) × (after ≡ answer)
   -- twenty-four bytes: 1 is returned, and the answer is written
-  pub returns : length answer ≡ 24 → (returned ≡ 1) × (length after ≡ 24)
+  pub returns : length answer ≡ 24 → returned ≡ 1
+  pub written : length answer ≡ 24 → QuoteWritten after (quote c k x)
   pub means : length answer ≡ 24 → AcceptedTable c → Row c k → QuotedMeans c k x after
   -- a row that is not in use, or none: 7, whether the table is connected or not
   pub no-row : length answer ≡ 24 → AcceptedTable c → (Row c k → ⊥) → Declined after 7

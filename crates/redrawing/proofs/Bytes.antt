@@ -131,7 +131,7 @@ module _ (c : Call) (l : List Record) where
             let joins = m .connected .1 (k, q) in
             record {
               mended = (λ e. joins, λ j. refl);
-              steps = λ e. (k, refl, record { passes = m .passes k q; applied = m .applied k q; few = m .few k q; rest = m .rest k q; meant = m .meant k q });
+              steps = λ e. (k, refl, record { passes = m .passes k q; applied = m .applied k q; few = m .few k q; rest = m .rest k q; meant = m .meant k q; order = m .order k q });
               declined = (λ e. absurd (omega arith), λ n. absurd (n joins));
               number = λ e. absurd (omega arith);
               kept = λ e. absurd (omega arith);

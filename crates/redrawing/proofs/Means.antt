@@ -7,7 +7,7 @@ use lib.IntN.{ℤ}
 use lib.ListN.{length, getD, set, take, drop, length-set}
 use lib.Seq.{ext-getD, getD-set-same, getD-set-other}
 use mathlib.Core.Bool.{Bool, true, false, cond, _&&_}
-use mathlib.Core.List.{List, [], _∷_, _++_, List·Memᴰ, List·Memᴰ·head, List·Memᴰ·tail}
+use mathlib.Core.List.{List, [], _∷_, _++_}
 use mathlib.Core.Logic.{_⊎_, inl, inr, _≢_}
 use mathlib.Core.Option.{Option, none, some}
 use mathlib.Core.Path.{_≡_, refl, sym, _∙_, ap, subst, fun-ext}
@@ -25,9 +25,9 @@ use Rattle.refusal.specs.declared.Refusal.{Refusal}
 use Rattle.mending.proofs.Promise.{spanned, mends}
 use Rattle.mending.specs.Mending.{unmarkRow, markRow, apply, applyAll, exchanged}
 use Rattle.record.specs.declared.Record.{Record}
-use Rattle.mending.specs.Promise.{Mends, Meant, dropped, added, swapped}
-use Rattle.rowset.proofs.Laws.{clash, uppermost-zero, put-same, put-other, takeOut-same, takeOut-other}
-use Rattle.rowset.proofs.Members.{both-in}
+use Rattle.mending.specs.Promise.{Mends, Meant, dropped, added, swapped, AllMeant}
+use Rattle.rowset.proofs.Laws.{clash, uppermost-zero, put-same, put-other, takeOut-same, takeOut-other, takeOut-in}
+use Rattle.rowset.proofs.Members.{both-in, put-all}
 use Rattle.rowset.specs.Bytes.{inRow}
 use Rattle.rowset.specs.Sets.{both, put, takeOut}
 use Rattle.star.proofs.Accepted.{none-cause, none-causeAt, none-cons, refusal-append, Taken, taken, used-row, row-used, sound, accepted-means}
@@ -235,22 +235,42 @@ module _ (c : Call) (a : Accepted c) (small : ZeroOrOne c) (l : List Record) (ro
     in-byte p (suc j) (inl e) = absurd (omega arith)
     in-byte p (suc j) (inr row) = set-byte p (put p (suc j)) j true row (put-same p (suc j)) (put-other p (suc j))
 
+    -- each record's rows are rows in use
+    record-rows : (p : ℕ → Bool) (r : Record) → Meant g (weightOf c) p r → Inside g p → RowOrNone (r .out) × RowOrNone (r .into)
+    unfolding graphOf
+    record-rows p r (dropped j m w) within = (inr (used-row c (suc j) (within (suc j) m)), inl refl)
+    record-rows p r (added j row w) within = (inl refl, inr (used-row c (suc j) row))
+    record-rows p r (swapped tr e f row off on heavy heaviest uppermost) within = (inr (used-row c e (tr .inside e (path-inside (graphOf c) ok p tr (inRow 1 (c .left) f) (inRow 1 (c .right) f) e on))), inr (used-row c f row))
+
+    applied-as : (p : ℕ → Bool) (r : Record) → markRow (unmarkRow p (r .out)) (r .into) ≡ apply p r
+    unfolding apply
+    applied-as p r = refl
+
+    -- and it leaves rows in use
+    record-inside : (p : ℕ → Bool) (r : Record) → Meant g (weightOf c) p r → Inside g p → Inside g (apply p r)
+    unfolding apply markRow unmarkRow
+    record-inside p r (dropped j m w) within i e = within i (takeOut-in p (suc j) i e .0)
+    record-inside p r (added j row w) within i e = put-all (λ (k : ℕ). g .rows k ≡ true) p (suc j) within row i e
+    record-inside p r (swapped tr e f row off on heavy heaviest uppermost) within i t = marked-in f row i t
+      where
+        unmarked : (k i : ℕ) → unmarkRow p k i ≡ true → g .rows i ≡ true
+        unmarked zero i h = within i h
+        unmarked (suc k) i h = within i (takeOut-in p (suc k) i h .0)
+
+        marked-in : (k : ℕ) → g .rows k ≡ true → (i : ℕ) → markRow (unmarkRow p e) k i ≡ true → g .rows i ≡ true
+        marked-in zero u i h = unmarked e i h
+        marked-in (suc k) u i h = put-all (λ (j : ℕ). g .rows j ≡ true) (unmarkRow p e) (suc k) (unmarked e) u i h
+
     -- the records applied to the bytes of a claim are the records applied to its rows
-    applied-bytes : (rs : List Record) (p : ℕ → Bool) → ((r : Record) → List·Memᴰ r rs → RowOrNone (r .out) × RowOrNone (r .into)) → appliedTo (at p) rs ≡ at (applyAll p rs)
-    unfolding appliedTo applyAll apply
-    applied-bytes [] p h = refl
-    applied-bytes (r ∷ rs) p h =
-        let (o, i) = h r (List·Memᴰ·head refl) in
+    applied-bytes : (rs : List Record) (p : ℕ → Bool) → Inside g p → AllMeant g (weightOf c) p rs → appliedTo (at p) rs ≡ at (applyAll p rs)
+    unfolding appliedTo applyAll AllMeant
+    applied-bytes [] p within h = refl
+    applied-bytes (r ∷ rs) p within h =
+        let (o, i) = record-rows p r (h .0) within in
         ap (λ (b : List ℕ). appliedTo (byteWritten b (r .into) 1) rs) (out-byte p (r .out) o)
         ∙ ap (λ (b : List ℕ). appliedTo b rs) (in-byte (unmarkRow p (r .out)) (r .into) i)
-        ∙ applied-bytes rs (apply p r) (λ q m. h q (List·Memᴰ·tail m))
-
-    -- each record's rows are rows in use
-    record-rows : (r : Record) → Meant g (weightOf c) (claimed c) r → RowOrNone (r .out) × RowOrNone (r .into)
-    unfolding graphOf
-    record-rows r (dropped j m off w) = (inr (used-row c (suc j) (inside (suc j) m)), inl refl)
-    record-rows r (added j row w) = (inl refl, inr (used-row c (suc j) row))
-    record-rows r (swapped T tr e f row off on heavy heaviest uppermost) = (inr (used-row c e (tr .inside e (path-inside (graphOf c) ok T tr (inRow 1 (c .left) f) (inRow 1 (c .right) f) e on))), inr (used-row c f row))
+        ∙ ap (λ (q : ℕ → Bool). appliedTo (at q) rs) (applied-as p r)
+        ∙ applied-bytes rs (apply p r) (record-inside p r (h .0) within) (h .1)
 
     -- the old claim is its own rows
     old-bytes : at (claimed c) ≡ c .mark
@@ -279,7 +299,7 @@ module _ (c : Call) (a : Accepted c) (small : ZeroOrOne c) (l : List Record) (ro
     applied k e =
         rw (back k e, marks-are)
         (ap (λ (b : List ℕ). appliedTo b (drawn c .records)) (sym old-bytes)
-        ∙ applied-bytes (drawn c .records) (claimed c) (λ r m. record-rows r (all .meant r m))
+        ∙ applied-bytes (drawn c .records) (claimed c) inside (all .meant)
         ∙ ap at (all .applied))
 
     rest : (k : ℕ) → mend c (length l) ≡ mendedBy k → drop k (mendList c l) ≡ drop k l
@@ -298,7 +318,8 @@ module _ (c : Call) (a : Accepted c) (small : ZeroOrOne c) (l : List Record) (ro
         applied = λ k e. applied (mended-connected k e) k e;
         few = λ k e. few-records k e;
         rest = λ k e. rest (mended-connected k e) k e;
-        meant = λ k e r m. all (mended-connected k e) .meant r (subst (List·Memᴰ r) (back (mended-connected k e) k e) m);
+        meant = λ k e. rw (back (mended-connected k e) k e) (all (mended-connected k e) .meant);
+        order = λ k e. rw (back (mended-connected k e) k e) (all (mended-connected k e) .order);
       }
     where
       kept-both : noTree c ≡ some (record { number = 11; place = 0 }) → (mendMarks c (length l) ≡ c .mark) × (mendList c l ≡ l)
