@@ -5,6 +5,7 @@
 #include "certificate.h"
 #include "picture.h"
 #include "refusal.h"
+#include "ring.h"
 #include "status.h"
 #include "verdict.h"
 
@@ -16,23 +17,33 @@ static int refused(const struct table *t, struct star_answer a) {
     return EXIT_REFUSED;
 }
 
+/* Writes the words, if there are any, and a line end. */
+static void told(FILE *to, const struct message *words) {
+    if (words->len > 0) fprintf(to, "%s\n", words->text);
+}
+
 int command_check(struct table *t, const struct options *with, struct output *o) {
+    static const int status[] = {[STAR_PASSED] = EXIT_PASSED, [STAR_LIGHTER] = EXIT_LIGHTER, [STAR_REFUSED] = EXIT_REFUSED};
     struct star_answer a = table_cst(t);
-    struct message words = {{0}, 0};
+    struct message words = {{0}, 0}, gap = {{0}, 0}, next = {{0}, 0};
     FILE *to = output_open(o);
     if (!to) return EXIT_UNWRITTEN;
-    if (!with->certificate || !certificate_write(to, t, a)) {
-        verdict_words(&words, t, a);
-        fprintf(to, "%s\n", words.text);
-    }
-    return a.kind == STAR_PASSED ? EXIT_PASSED : a.kind == STAR_LIGHTER ? EXIT_LIGHTER : EXIT_REFUSED;
+    if (with->certificate && certificate_write(to, t, a)) return status[a.kind];
+    verdict_words(&words, t, a);
+    verdict_gap(&gap, t, a);
+    verdict_next(&next, t, a);
+    told(to, &words);
+    told(to, &gap);
+    if (refusal_of_plan(a) && table_marks(t) > 0) ring_tell(to, t, 0);
+    told(to, &next);
+    return status[a.kind];
 }
 
 /* What the marks cost before they were replaced. */
 static void say_saving(struct message *to, struct star_answer before, int64_t marked, int64_t total) {
     char figures[2][FIGURES];
     say(to, "The marked trenches cost %s", amount_figures(figures[0], marked));
-    if (before.kind == STAR_REFUSED) say(to, ", and are no network: they %s", before.number == STAR_BAD_MARK_COUNT ? "are not one fewer than the junctions" : "do not reach every junction");
+    if (before.kind == STAR_REFUSED) say(to, " by the console's own sum, and are no network: they %s", before.number == STAR_BAD_MARK_COUNT ? "are not one fewer than the junctions" : "do not reach every junction");
     else if (marked == total) say(to, " too");
     else say(to, ": these save %s", amount_figures(figures[1], marked - total));
     say(to, ".");
@@ -40,7 +51,7 @@ static void say_saving(struct message *to, struct star_answer before, int64_t ma
 
 int command_build(struct table *t, const struct options *with, struct output *o) {
     struct star_answer before = table_cst(t), a;
-    int64_t marked = table_total(t);
+    int64_t marked = table_plan_total(t);
     size_t marks = table_marks(t);
     struct message words = {{0}, 0};
     char figures[FIGURES];
@@ -73,7 +84,7 @@ int command_table(struct table *t, const struct options *with, struct output *o)
    trench is marked there is no plan to refuse. */
 static int picture(struct table *t, struct output *o, void (*paint)(FILE *, const struct picture *)) {
     struct star_answer a = table_cst(t);
-    struct picture p = {t, 0, 0, {{0}, 0}};
+    struct picture p = {t, 0, 0, {{0}, 0}, 0};
     char amount[FIGURES];
     int status = EXIT_PASSED;
     FILE *to;
@@ -94,6 +105,7 @@ static int picture(struct table *t, struct output *o, void (*paint)(FILE *, cons
     } else {
         status = refused(t, a);
         t->file = NULL; /* the picture says it without the file's name */
+        p.refused = 1;
         refusal_words(&p.words, t, a);
     }
     to = output_open(o);

@@ -10,9 +10,8 @@ struct options {
     int table;     /* build, districts, outlets: the table with the chosen trenches marked */
     int certificate; /* check: the certificate of the verdict in place of its words */
     int all;       /* explain: every trench that is left out */
-    size_t trench; /* explain: this one; 0 for none */
-    char *named;   /* explain: the word that names it */
-    char **words;  /* quote, breaking, which, stretch, strike, add, districts, outlets: what follows the file */
+    int steps;     /* mend: each step too */
+    char **words;  /* what follows the file */
     int count;
 };
 

@@ -91,6 +91,11 @@ uint32_t table_which(const struct table *first, const struct table *second, stru
     return said;
 }
 
+int64_t table_plan_total(const struct table *t) {
+    struct star_answer a;
+    return table_which(t, t, &a) > 0 ? a.amount : table_total(t);
+}
+
 /* The ends of districts as the doors take them: the last row of a working table is 1,024, whatever the file's last trench is. Ends keep their order. */
 static void ends_of(const struct table *t, const uint32_t *ends, size_t count, uint32_t *to) {
     size_t i;

@@ -4,6 +4,7 @@
 #include "refusal.h"
 #include "ring.h"
 #include "status.h"
+#include "usage.h"
 #include "verdict.h"
 
 /* Trenches that are explained where neither one nor all of them are asked for. */
@@ -35,12 +36,13 @@ static void left_out(FILE *to, const struct table *t, size_t i, const struct det
 static void each_left_out(FILE *to, const struct table *t, struct paths *p, int all) {
     static struct detour d;
     size_t count[STANDINGS] = {0, 0, 0}, shown = 0, hidden = 0, i;
+    int64_t total = table_plan_total(t);
     struct message words = {{0}, 0};
     int standing;
     for (standing = CHEAPER; standing < STANDINGS; standing++)
         for (i = table_next(t, 0); i <= t->m; i = table_next(t, i)) {
             if (t->mark[i - 1] == 1 || !detour_of(&d, p, t, i) || (int)d.standing != standing) continue;
-            if (all || shown < FIRST) shown++, left_out(to, t, i, &d, table_total(t));
+            if (all || shown < FIRST) shown++, left_out(to, t, i, &d, total);
             else count[standing]++, hidden++;
         }
     if (shown == 0) say(&words, "No trench is left out.");
@@ -79,7 +81,7 @@ static void marked(FILE *to, const struct table *t, struct paths *p, size_t i) {
     line(to, &words);
 }
 
-static void network(FILE *to, const struct table *t, const struct options *with) {
+static void network(FILE *to, const struct table *t, size_t trench, int all) {
     static struct paths p;
     static struct detour d;
     struct message words = {{0}, 0};
@@ -91,52 +93,61 @@ static void network(FILE *to, const struct table *t, const struct options *with)
         return;
     }
     say_count(&words, table_marks(t), "marked trench joins", "marked trenches join");
-    say(&words, " all %u junctions, for %s in all.\n", (unsigned)t->n, amount_figures(total, table_total(t)));
+    say(&words, " all %u junctions, for %s in all.\n", (unsigned)t->n, amount_figures(total, table_plan_total(t)));
     say(&words, "A trench that is left out is held against the dearest trench of its detour, the way around over marked trenches, and against nothing else.");
     line(to, &words);
-    if (with->trench == 0) each_left_out(to, t, &p, with->all);
-    else if (t->mark[with->trench - 1] == 1) marked(to, t, &p, with->trench);
-    else if (detour_of(&d, &p, t, with->trench)) left_out(to, t, with->trench, &d, table_total(t));
+    if (trench == 0) each_left_out(to, t, &p, all);
+    else if (t->mark[trench - 1] == 1) marked(to, t, &p, trench);
+    else if (detour_of(&d, &p, t, trench)) left_out(to, t, trench, &d, table_plan_total(t));
 }
 
 /* Marks that are no network, or too few or too many for one. */
-static void no_network(FILE *to, const struct table *t) {
-    static struct ring r;
+static void no_network(FILE *to, const struct table *t, int all) {
     struct message words = {{0}, 0};
     ring_count(&words, t);
     line(to, &words);
-    if (!ring_of(&r, t)) return;
-    ring_words(&words, &r);
-    line(to, &words);
-    ring_cuts(&words, &r);
-    line(to, &words);
+    if (table_marks(t) > 0) ring_tell(to, t, all);
+}
+
+/* The trench that is named, of a table or a plan that is refused. */
+static void not_looked_at(FILE *to, size_t trench, struct star_answer a) {
+    fprintf(to, "Trench %zu was not looked at: the %s.\n", trench,
+            refusal_of_plan(a) ? "marks are no network, so that no trench has a detour" : "table is refused");
 }
 
 void explain_limit(struct message *to) {
     say(to, "A junction's code is one byte. A byte has 256 codes, 0 to 255, and code 0 is no junction: %d are left, 1 to %d.", STAR_MAX_JUNCTIONS, STAR_MAX_JUNCTIONS);
 }
 
+/* The trench that is named; 0 for none. */
+static int trench_asked(const struct options *with, uint32_t *trench) {
+    *trench = 0;
+    if (with->count > 1) return misused("one trench is explained, and there is also", with->words[1]);
+    return with->count == 1 ? trench_named(with->words[0], trench) : 0;
+}
+
 int command_explain(struct table *t, const struct options *with, struct output *o) {
     struct star_answer a = table_cst(t);
     struct message words = {{0}, 0};
+    uint32_t trench;
+    int status = trench_asked(with, &trench), sound = a.kind != STAR_REFUSED || refusal_of_plan(a);
     FILE *to;
-    if (with->trench > t->m) {
-        say(&words, "there is no trench ");
-        say_given(&words, with->named);
-        fprintf(stderr, "star: %s; the table has %zu\n", words.text, t->m);
-        return EXIT_USAGE;
-    }
-    if (with->trench > 0 && t->m <= STAR_MAX_ROWS && t->struck[with->trench - 1]) {
-        fprintf(stderr, "star: trench %zu is struck, and so left out of everything\n", with->trench);
-        return EXIT_USAGE;
-    }
+    if (status != 0) return status;
     to = output_open(o);
     if (!to) return EXIT_UNWRITTEN;
-    if (a.kind != STAR_REFUSED) network(to, t, with);
-    else if (refusal_of_plan(a)) no_network(to, t);
+    if (sound && with->count == 1 && !refusal_has_trench(t, trench)) {
+        refusal_of_asked(&words, t, trench, with->words[0]);
+        line(to, &words);
+        return EXIT_REFUSED;
+    }
+    if (a.kind != STAR_REFUSED) network(to, t, trench, with->all);
+    else if (sound) no_network(to, t, with->all);
     else if (a.number == STAR_BAD_JUNCTION_COUNT) explain_limit(&words);
     line(to, &words);
+    if (a.kind == STAR_REFUSED && with->count == 1) not_looked_at(to, trench, a);
     verdict_words(&words, t, a);
+    line(to, &words);
+    verdict_gap(&words, t, a);
     line(to, &words);
     return a.kind == STAR_REFUSED ? EXIT_REFUSED : EXIT_PASSED;
 }

@@ -13,7 +13,7 @@
 struct command {
     const char *name;
     int (*run)(struct table *t, const struct options *with, struct output *o);
-    const char *takes; /* what it takes beside a file: c --certificate, t --table, a --all, n the number of a trench, w words */
+    const char *takes; /* what it takes beside a file: c --certificate, t --table, a --all, s --steps, w words */
     enum needs { FILE_ALONE, PLAN, LINES, TEXT } needs; /* marks, or lines that can be changed, which an STP file has not; its text, refused or not */
     enum result { WORDS, WRITING, TABLE } result; /* words, of which a refusal is one too, or a file, or one that is a table */
     const char *plan;  /* what it does with a plan; NULL where it needs none */
@@ -22,7 +22,7 @@ struct command {
 static const struct command COMMANDS[] = {
     {"check", command_check, "c", PLAN, WORDS, "check"},
     {"build", command_build, "t", FILE_ALONE, WORDS, NULL},
-    {"explain", command_explain, "an", PLAN, WORDS, "explain"},
+    {"explain", command_explain, "aw", PLAN, WORDS, "explain"},
     {"draw", command_draw, "", FILE_ALONE, WRITING, NULL},
     {"dot", command_dot, "", FILE_ALONE, WRITING, NULL},
     {"page", command_page, "", FILE_ALONE, WRITING, NULL},
@@ -36,7 +36,7 @@ static const struct command COMMANDS[] = {
     {"add", command_add, "w", LINES, TABLE, NULL},
     {"merge", command_merge, "", LINES, TABLE, NULL},
     {"districts", command_districts, "tw", FILE_ALONE, WORDS, NULL},
-    {"mend", command_mend, "", LINES, TABLE, NULL},
+    {"mend", command_mend, "s", LINES, TABLE, NULL},
     {"outlets", command_outlets, "tw", FILE_ALONE, WORDS, NULL},
 };
 
@@ -58,15 +58,11 @@ static const struct command *find(const char *name) {
 
 static int takes(const struct request *r, char what) { return strchr(r->command->takes, what) != NULL; }
 
-/* The words that are no options: a file, and the number of a trench, or any words, where the command takes them. */
+/* The words that are no options: a file, and others where the command takes them. */
 static int operand(struct request *r, char *word, int before) {
-    struct span number = {word, strlen(word)};
-    uint32_t trench;
     if (before == 0) r->file = word;
     else if (takes(r, 'w')) r->with.words[r->with.count++] = word;
-    else if (before > 1 || !takes(r, 'n')) return misused("one file is read, and there is also", word);
-    else if (!text_number(number, &trench) || trench == 0) return misused("a trench is named by its number, from 1 on, and not by", word);
-    else r->with.trench = trench, r->with.named = word;
+    else return misused("one file is read, and there is also", word);
     return 0;
 }
 
@@ -94,6 +90,7 @@ static int options(struct request *r, char **words) {
         else if (strcmp(word, "--table") == 0 && takes(r, 't')) r->with.table = 1;
         else if (strcmp(word, "--certificate") == 0 && takes(r, 'c')) r->with.certificate = 1;
         else if (strcmp(word, "--all") == 0 && takes(r, 'a')) r->with.all = 1;
+        else if (strcmp(word, "--steps") == 0 && takes(r, 's')) r->with.steps = 1;
         else if (strncmp(word, "-o", 2) == 0) {
             status = output_named(r, word[2] ? word + 2 : *++words);
             if (status != 0) return status;
@@ -157,7 +154,7 @@ static int tell_version(struct request *r) {
 static int asks_help(const char *word) { return strcmp(word, "--help") == 0 || strcmp(word, "-h") == 0 || strcmp(word, "help") == 0; }
 
 int main(int count, char **words) {
-    struct request r = {NULL, NULL, {0, 0, 0, 0, NULL, NULL, 0}, {NULL, NULL, NULL, 0}, 0, 0};
+    struct request r = {NULL, NULL, {0, 0, 0, 0, NULL, 0}, {NULL, NULL, NULL, 0}, 0, 0};
     int status;
     file_guard();
     if (count < 2) {

@@ -1,4 +1,6 @@
-/* The command mend: the file with its plan made a cheapest network, and each step in words. The door decides on the steps; the lines of the file follow. */
+/* The command mend: the file with its plan made a cheapest network, what changed in the end, and each step where it is asked for. The door decides on the steps; the lines of the file follow. */
+#include <string.h>
+
 #include "commands.h"
 #include "edit.h"
 #include "refusal.h"
@@ -26,32 +28,58 @@ static void say_step(struct message *to, const struct table *t, struct star_reco
     }
 }
 
-/* Tells the steps, and what the marked trenches cost before and after. */
-static void tell(const struct table *t, size_t steps, int64_t before) {
-    char figures[2][FIGURES];
-    struct message last = {{0}, 0};
+/* The trenches whose marks changed from one state to another, a line each. */
+static size_t tell_changed(const struct table *t, const uint8_t *before, int marked) {
+    size_t i, count = 0;
+    for (i = table_next(t, 0); i <= t->m; i = table_next(t, i)) {
+        struct message words = {{0}, 0};
+        if (before[i - 1] == t->mark[i - 1] || t->mark[i - 1] != marked) continue;
+        say_trench(&words, t, i);
+        fprintf(stderr, "%s %s\n", marked ? "put in   " : "taken out", words.text);
+        count++;
+    }
+    return count;
+}
+
+/* What the marks were before: their number, their cost, and whether they were a network. */
+struct past {
+    uint8_t mark[KEPT];
+    size_t marks;
+    int64_t cost;
+    int network;
+};
+
+/* What changed in the end, and what the marked trenches cost before and after. */
+static void tell(const struct table *t, const struct past *past) {
+    char before[FIGURES], now[FIGURES];
+    size_t changed = tell_changed(t, past->mark, 0);
+    changed += tell_changed(t, past->mark, 1);
+    amount_figures(before, past->cost);
+    amount_figures(now, table_plan_total(t));
+    if (changed == 0) fprintf(stderr, "There is nothing to mend: the plan is a cheapest network. Total %s.\n", now);
+    else if (past->network) fprintf(stderr, "The plan's total was %s and is %s now: no network is cheaper.\n", before, now);
+    else if (past->marks == 0) fprintf(stderr, "No trench was marked. The plan's total is %s now: no network is cheaper.\n", now);
+    else fprintf(stderr, "The marked trenches were no network, and cost %s by the console's own sum. The plan's total is %s now: no network is cheaper.\n", before, now);
+}
+
+static void tell_steps(const struct table *t, size_t steps) {
     size_t i;
     for (i = 0; i < steps; i++) {
         struct message words = {{0}, 0};
         say_step(&words, t, records[i]);
         fprintf(stderr, "%s\n", words.text);
     }
-    amount_figures(figures[0], before);
-    amount_figures(figures[1], table_total(t));
-    if (steps == 0) say(&last, "There is nothing to mend: the plan is a cheapest network. Total %s.", figures[1]);
-    else {
-        say(&last, "The plan is mended in ");
-        say_count(&last, steps, "step", "steps");
-        say(&last, ": the marked trenches cost %s before and %s now, and no network is cheaper.", figures[0], figures[1]);
-    }
-    fprintf(stderr, "%s\n", last.text);
 }
 
 int command_mend(struct table *t, const struct options *with, struct output *o) {
-    int64_t before = table_total(t);
-    struct star_answer a = table_mend(t, records);
+    static struct past past;
+    struct star_answer a;
     int status;
-    (void)with;
+    memcpy(past.mark, t->mark, sizeof past.mark);
+    past.marks = table_marks(t);
+    past.cost = table_plan_total(t);
+    past.network = table_cst(t).kind != STAR_REFUSED;
+    a = table_mend(t, records);
     if (a.kind != STAR_PASSED) {
         struct message words = {{0}, 0};
         refusal_words(&words, t, a);
@@ -59,6 +87,8 @@ int command_mend(struct table *t, const struct options *with, struct output *o) 
         return EXIT_REFUSED;
     }
     status = edit_marks(o, t);
-    if (status == 0) tell(t, (size_t)a.amount, before);
-    return status;
+    if (status != 0) return status;
+    tell(t, &past);
+    if (with->steps) tell_steps(t, (size_t)a.amount);
+    return EXIT_PASSED;
 }

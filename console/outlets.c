@@ -44,12 +44,8 @@ static int refused(FILE *to, const struct table *t, struct star_answer a, const 
     struct message words = {{0}, 0};
     if (!to) return EXIT_UNWRITTEN;
     if (a.number == STAR_NO_OUTLETS) say_no_outlets(&words, t, asked, given);
-    else if (a.number == STAR_BAD_SOURCE) {
-        refusal_opens(&words, a.number, t->file, 0);
-        say(&words, "there is no junction ");
-        say_given(&words, given[0]);
-        say(&words, "; junctions are numbered from 1 to %u.", (unsigned)t->n);
-    } else refusal_words(&words, t, a);
+    else if (a.number == STAR_BAD_SOURCE) refusal_of_asked_junction(&words, t, given[0]);
+    else refusal_words(&words, t, a);
     fprintf(to, "%s\n", words.text);
     return EXIT_REFUSED;
 }
@@ -66,13 +62,14 @@ static void compare(FILE *to, const struct table *t, uint32_t junction, int64_t 
 
 /* The words JUNCTION COUNT. */
 static int question(const struct options *with, uint32_t asked[2]) {
-    int i;
+    struct span count;
+    int status;
     if (with->count != 2) return misused("a junction and a number of trenches follow the file of", "outlets");
-    for (i = 0; i < 2; i++) {
-        struct span word = {with->words[i], strlen(with->words[i])};
-        if (!text_number(word, &asked[i])) return misused(i == 0 ? "a junction is a number from 1 to 255, and not" : "the trenches at a junction are a number, and not", with->words[i]);
-    }
-    return 0;
+    status = junction_asked(with->words[0], &asked[0]);
+    if (status != 0) return status;
+    count.at = with->words[1];
+    count.len = strlen(with->words[1]);
+    return text_number(count, &asked[1]) ? 0 : misused("the trenches at a junction are a number, and not", with->words[1]);
 }
 
 int command_outlets(struct table *t, const struct options *with, struct output *o) {

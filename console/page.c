@@ -11,6 +11,7 @@ static const char STYLE[] =
     "body{font:16px/1.45 Arial,'Liberation Sans',sans-serif;color:#222;background:#fff;max-width:1180px;margin:0 auto;padding:0 20px 40px}\n"
     "h1{font-size:26px}h2{font-size:20px;border-top:1px solid #999;padding-top:16px;margin-top:36px}\n"
     ".core{border-left:6px solid #1b5e20;background:#eef5ee;padding:6px 12px}.where{color:#555}\n"
+    ".refused{border:2px solid #b3261e;border-left-width:6px;background:#fdecea;padding:6px 12px}\n"
     ".stage{overflow:auto;max-height:680px;border:1px solid #ccc;background:#fff}.stage svg{display:block;margin:0 auto}\n"
     ".count{font-size:22px}.two{display:flex;flex-wrap:wrap;gap:16px}.half{flex:1 1 420px;min-width:0}\n"
     ".pick{position:relative;display:grid;grid-template-columns:230px minmax(0,1fr);grid-template-rows:auto 1fr;gap:10px}\n"
@@ -42,8 +43,9 @@ static const char SCRIPT[] =
 
 static const char FOOTER[] =
     "<footer>\n<p>A sentence with a green bar at its left is an answer of the proved core in words: passed or not, the total of a plan that passed, whether it is the only cheapest network,\n"
-    "the exchange that is named, a refusal with its number and place (star_cst, star_other). The trenches of each detour come from the core too (star_paths), and so do a ring and the\n"
-    "junctions that are cut off (star_mst1 and star_paths on the marked trenches).</p>\n"
+    "the exchange that is named and what it saves (star_cst, star_other), the totals before and after it (star_which), the least total (star_mst1). A refusal stands in a red box: its\n"
+    "number and its place are the core's answer (star_cst), and what is counted in its words is counted by this page. The trenches of each detour come from the core too (star_paths),\n"
+    "and so do rings and groups that stand apart (star_mst1 and star_paths on the marked trenches).</p>\n"
     "<p>All else is drawing and arithmetic of this page, and not proved: where junctions stand, colours, the order of a detour's trenches, sums, and which of two prices is larger.</p>\n</footer>\n";
 
 /* The yard, for what a table does not show. Its trees 1, 2, 4 and 2, 3, 4 both cost 12; with 1, 2, 5 it has a ring. */
@@ -129,11 +131,17 @@ static void panels(FILE *to, const struct table *t, struct shows s) {
     fputs("</section>\n", to);
 }
 
+/* The name of a file without its folders. */
+static const char *name_of(const char *file) {
+    const char *last = strrchr(file, '/');
+    return last && last[1] ? last + 1 : file;
+}
+
 int command_page(struct table *t, const struct options *with, struct output *o) {
     struct star_answer a = table_cst(t);
     struct shows s = shows_of(t, a);
     struct message words = {{0}, 0};
-    const char *name = t->file;
+    const char *name = name_of(t->file);
     int status = EXIT_PASSED;
     FILE *to;
     (void)with;
@@ -145,15 +153,13 @@ int command_page(struct table *t, const struct options *with, struct output *o) 
     to = output_open(o);
     if (!to) return EXIT_UNWRITTEN;
     t->file = NULL; /* the page says the file's name once, in its heading */
-    words.len = 0;
-    if (s.drawn && a.kind == STAR_REFUSED && table_marks(t) == 0) say(&words, "No trench is marked.");
-    else verdict_words(&words, t, a);
     fputs("<!DOCTYPE html>\n<html lang=\"en\">\n<head>\n<meta charset=\"utf-8\">\n<meta name=\"viewport\" content=\"width=device-width, initial-scale=1\">\n<title>", to);
     html_text(to, name);
     fprintf(to, "</title>\n<style>\n%s</style>\n</head>\n<body>\n<h1>", STYLE);
     html_text(to, name);
     fputs("</h1>\n", to);
-    panel_core(to, words.text);
+    if (s.drawn && a.kind == STAR_REFUSED && table_marks(t) == 0) panel_plain(to, "No trench is marked.");
+    else panel_verdict(to, t, a);
     panels(to, t, s);
     fprintf(to, "%s%s</body>\n</html>\n", FOOTER, SCRIPT);
     return status;

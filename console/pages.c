@@ -15,7 +15,8 @@ const char *const STATUS_TEXT[STATUSES] = {
 const struct option OPTIONS[] = {
     {"--table", "", "writes a table with the chosen trenches marked"},
     {"--certificate", "", "writes what shows the verdict, for another program to check"},
-    {"--all", "", "tells of every trench that is left out, and not of ten"},
+    {"--all", "", "tells of all trenches left out, rings, groups; not of a few"},
+    {"--steps", "", "tells each step too"},
     {"-o", "OUTPUT", "writes to the file OUTPUT in place of standard output"},
     {"--help", "", "writes the command's page; also -h"},
     {NULL, NULL, NULL},
@@ -30,10 +31,14 @@ const struct page PAGES[] = {
         .does = "Says whether the marked trenches reach every junction at the least total "
                 "price.\n\n"
                 "Where a cheaper set exists, it names one trench to take out, one to put in, "
-                "and what that saves, beside the plan's total. This exchange is the first "
-                "found, and not the one that saves most.\n\n"
+                "and what that saves; the plan's total, the total after this exchange, the "
+                "least total, and what can be saved at most. Where the exchange does not save "
+                "all of it, it is the first one found.\n\n"
                 "Where none exists, it says whether the plan is the only cheapest network; if "
                 "it is not, it names an exchange that gives another of the same total.\n\n"
+                "Where the marks are no network, it names the trenches of each ring that they "
+                "close, and the groups of junctions that they leave apart; of each the first "
+                "twenty.\n\n"
                 "With --certificate it writes what shows the verdict, so that nobody has to "
                 "believe this program: 'passed TOTAL only' or 'passed TOTAL not-only', and a "
                 "line for each trench left out, 'left-out TRENCH dearest TRENCH detour "
@@ -42,7 +47,10 @@ const struct page PAGES[] = {
         .output = "A cheaper set exists, for 1 less:\n"
                   "  take out trench 1 (1-2, price 5)\n"
                   "  put in   trench 4 (1-4, price 4)\n"
-                  "The plan's total is 13, and 12 after this exchange. It is the first one found, not the one that saves most: 'star build' lists a cheapest set.\n",
+                  "The plan's total is 13, and 12 after this exchange. The least total is 12.\n"
+                  "At most 1 is saved, and this exchange saves all of it.\n"
+                  "'star explain' says why.\n"
+                  "'star mend' writes the file with its plan made a cheapest network.\n",
         .statuses = "0 passed\n1 a cheaper set exists\n2 the table or the plan was refused",
     },
     {
@@ -72,9 +80,11 @@ const struct page PAGES[] = {
                 "the two prices. Those that save come first, those that cost as much next, "
                 "and ten are told unless --all is given.\n\n"
                 "Where TRENCH is given, it is told of that one alone; of a trench of the "
-                "plan, which others could come in for it.\n\n"
-                "Of marks that are no network: a ring, and the junctions that are cut off "
-                "from junction 1. Of too many junctions: why there are 255.",
+                "plan, which others could come in for it. A trench that is struck, or a "
+                "number that no trench has, is refused (7).\n\n"
+                "Of marks that are no network: the rings that they close, and the groups of "
+                "junctions that they leave apart; of each the first twenty unless --all is "
+                "given. Of too many junctions: why there are 255.",
         .example = "explain yard.txt 5",
         .output = "3 marked trenches join all 4 junctions, for 12 in all.\n"
                   "A trench that is left out is held against the dearest trench of its detour, the way around over marked trenches, and against nothing else.\n"
@@ -82,7 +92,7 @@ const struct page PAGES[] = {
                   "  sum 9, does not count; dearest 5 (trench 3); 6 > 5: the exchange would give a network of 13, for 1 more, so it stays out\n"
                   "Passed: the marked trenches reach every junction, and no set that does is cheaper. Total 12.\n"
                   "Another network costs the same: take out trench 3 (3-4, price 5), put in trench 1 (1-2, price 5).\n",
-        .statuses = "0 explained, and the plan was not refused\n2 the table or the plan was refused, and why is told",
+        .statuses = "0 explained, and the plan was not refused\n2 the table, the plan or what was asked was refused, and why is told",
     },
     {
         .name = "page",
@@ -202,16 +212,18 @@ const struct page PAGES[] = {
         .words = "FILE JUNCTION JUNCTION",
         .options = "",
         .line = "list the plan's way between two junctions",
-        .does = "Lists the trenches of the plan between two junctions, in order, and names "
-                "the dearest. Where the plan is a cheapest network, no route between the two "
-                "over the table's trenches has a dearest trench that is cheaper. Where a "
-                "cheaper set exists, that is said in place of it, and the status is 1.",
+        .does = "Lists the trenches of the plan between two junctions, in order, what they "
+                "cost in all, the dearest of them, and which others are as dear. Where the "
+                "plan is a cheapest network, no route between the two over the table's "
+                "trenches has a dearest trench that is cheaper. Where a cheaper set exists, "
+                "that is said in place of it, and the status is 1.\n\n"
+                "A number that no junction has is refused (7).",
         .example = "stretch yard.txt 1 2",
         .output = "From junction 1 to junction 2 the plan has 3 trenches:\n"
                   "trench 4: 1-4, price 4\n"
                   "trench 3: 4-3, price 5\n"
                   "trench 2: 3-2, price 3\n"
-                  "The dearest is trench 3, price 5.\n"
+                  "The way costs 12 in all. Its dearest is trench 3, price 5; no other of its trenches is as dear.\n"
                   "No route between 1 and 2 over the table's trenches has a dearest trench cheaper than 5.\n",
         .statuses = "0 told\n1 a cheaper set exists\n2 the table, the plan or what was asked was refused",
     },
@@ -292,21 +304,28 @@ const struct page PAGES[] = {
     {
         .name = "mend",
         .words = "[FILE]",
-        .options = "",
+        .options = "--steps",
         .line = "write the file with a cheapest network marked",
-        .does = "Writes the file with its plan made a cheapest network, whatever was marked, "
-                "and tells each step on standard error: going down the marks, a trench that "
-                "closes a ring is dropped; going down the trenches, one that joins what was "
-                "apart is added; then each trench left out is exchanged for the dearest of "
-                "its detour where that one costs more. Marks are changed, and all else stands "
-                "as it did, comments too.",
+        .does = "Writes the file with its plan made a cheapest network, whatever was marked. "
+                "Marks are changed, and all else stands as it did, comments too. On standard "
+                "error it tells the trenches that are taken out and put in, and the totals "
+                "before and after.\n\n"
+                "With --steps it tells each step below that: going down the marks, a trench "
+                "that closes a ring is dropped; going down the trenches, one that joins what "
+                "was apart is added; then each trench left out is exchanged for the dearest "
+                "of its detour where that one costs more.",
         .example = "mend old.txt",
         .output = "# The yard in an old drawing: trenches 1, 2 and 5 make a ring, and junction 4 is left out. star mend makes it a cheapest network.\n"
-                  "1 2 5 0\n2 3 3 1\n3 4 5 1\n1 4 4 1\n1 3 6 0\n"
-                  "dropped trench 5 (1-3, price 6): it closes a ring\n"
-                  "added trench 3 (3-4, price 5): it joins what was apart\n"
-                  "exchanged trench 1 (1-2, price 5) for trench 4 (1-4, price 4): saves 1\n"
-                  "The plan is mended in 3 steps: the marked trenches cost 14 before and 12 now, and no network is cheaper.\n",
+                  "1 2 5 0\n"
+                  "2 3 3 1\n"
+                  "3 4 5 1\n"
+                  "1 4 4 1\n"
+                  "1 3 6 0\n"
+                  "taken out trench 1 (1-2, price 5)\n"
+                  "taken out trench 5 (1-3, price 6)\n"
+                  "put in    trench 3 (3-4, price 5)\n"
+                  "put in    trench 4 (1-4, price 4)\n"
+                  "The marked trenches were no network, and cost 14 by the console's own sum. The plan's total is 12 now: no network is cheaper.\n",
         .statuses = "0 written\n2 the table was refused, and nothing was written",
     },
     {

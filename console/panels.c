@@ -8,16 +8,21 @@
 #include "ring.h"
 #include "verdict.h"
 
-void panel_core(FILE *to, const char *text) {
-    fputs("<p class=\"core\">", to);
+/* A paragraph of some look. */
+static void paragraph(FILE *to, const char *look, const char *text) {
+    fprintf(to, "<p class=\"%s\">", look);
     html_text(to, text);
     fputs("</p>\n", to);
 }
 
-static void plain(FILE *to, const char *text) {
-    fputs("<p>", to);
-    html_text(to, text);
-    fputs("</p>\n", to);
+void panel_plain(FILE *to, const char *text) { paragraph(to, "plain", text); }
+
+void panel_verdict(FILE *to, const struct table *t, struct star_answer a) {
+    struct message words = {{0}, 0}, gap = {{0}, 0};
+    verdict_words(&words, t, a);
+    verdict_gap(&gap, t, a);
+    paragraph(to, a.kind == STAR_REFUSED ? "refused" : "core", words.text);
+    if (gap.len > 0) panel_plain(to, gap.text);
 }
 
 static void plan(FILE *to, const struct drawing *g, const struct table *t) {
@@ -30,7 +35,7 @@ static void sample(FILE *to, const char *look, const char *says) {
     fprintf(to, "<span><svg class=\"sample\" width=\"34\" height=\"14\" aria-hidden=\"true\"><path class=\"%s\" d=\"M3 7h28\"/></svg>%s</span> ", look, says);
 }
 
-/* A view of a ring and of the junctions that are cut off. */
+/* A view of a ring and of the junctions that stand apart. */
 static void ring_view(FILE *to, const struct drawing *g, const struct ring *r, struct box b, const char *name, const char *says) {
     size_t k;
     fputs("<div class=\"half\"><div class=\"stage\">", to);
@@ -64,23 +69,24 @@ static void ring_views(FILE *to, const struct drawing *g, const struct ring *r, 
 
 void panel_ring(FILE *to, const struct drawing *g) {
     static struct ring r;
-    struct message count = {{0}, 0}, ring = {{0}, 0}, cuts = {{0}, 0}, core = {{0}, 0};
+    struct message count = {{0}, 0}, ring = {{0}, 0}, cuts = {{0}, 0};
     ring_of(&r, g->t);
     ring_count(&count, g->t);
     ring_words(&ring, &r);
-    ring_cuts(&cuts, &r);
+    if (ring.len > 0) say(&ring, " ");
+    ring_advice(&ring, &r);
+    ring_groups(&cuts, &r, g->t);
     fprintf(to, "<p class=\"count\"><b>%zu</b> marked, <b>%" PRIu32 "</b> junctions: %" PRIu32 " - 1 = %" PRIu32 "</p>\n", table_marks(g->t), g->t->n, g->t->n, g->t->n - 1);
-    plain(to, count.text);
+    panel_plain(to, count.text);
     ring_views(to, g, &r, ring.text, cuts.text);
     fputs("<p class=\"key\">", to);
     sample(to, "plan", "marked");
     if (r.count > 0) sample(to, "ring", "marked, in a ring");
-    if (r.cuts > 0) fputs("<span><svg class=\"sample cut\" width=\"20\" height=\"20\" aria-hidden=\"true\"><circle cx=\"10\" cy=\"10\" r=\"7\"/></svg>cut off</span>", to);
+    if (r.cuts > 0) fputs("<span><svg class=\"sample cut\" width=\"20\" height=\"20\" aria-hidden=\"true\"><circle cx=\"10\" cy=\"10\" r=\"7\"/></svg>stands apart</span>", to);
     fputs("</p>\n", to);
-    if (ring.len > 0) plain(to, ring.text);
-    if (cuts.len > 0) plain(to, cuts.text);
-    verdict_words(&core, g->t, table_cst(g->t));
-    panel_core(to, core.text);
+    if (ring.len > 0) panel_plain(to, ring.text);
+    if (cuts.len > 0) panel_plain(to, cuts.text);
+    panel_verdict(to, g->t, table_cst(g->t));
 }
 
 /* The sentences of one trench that is left out: its sum struck through, the dearest trench compared. */
@@ -97,7 +103,7 @@ static void detour_sentences(FILE *to, const struct table *t, size_t i, const st
     html_text(to, words.text);
     fprintf(to, "<br><s>sum %s</s> does not count. Dearest: <b>%s</b> (trench %u). ", amount_figures(sum, d->sum), table_price(dearest, t, d->dearest), d->dearest);
     words.len = 0;
-    detour_compared(&words, t, i, d, table_total(t));
+    detour_compared(&words, t, i, d, table_plan_total(t));
     html_text(to, words.text);
     fputs(".</p>\n", to);
 }
@@ -158,7 +164,6 @@ static void detour_choice(FILE *to, const struct drawing *g, size_t i, const str
 }
 
 void panel_detours(FILE *to, const struct drawing *g) {
-    struct message core = {{0}, 0};
     fputs("<p>Choose a trench that is left out. It is held against the dearest trench of its detour, and against nothing else.</p>\n<style>", to);
     each(to, g, detour_rule);
     fputs("</style>\n<div class=\"pick\">\n", to);
@@ -182,8 +187,7 @@ void panel_detours(FILE *to, const struct drawing *g) {
     sample(to, "dearest", "its dearest trench");
     sample(to, "left-out", "left out");
     fputs("</p>\n", to);
-    verdict_words(&core, g->t, table_cst(g->t));
-    panel_core(to, core.text);
+    panel_verdict(to, g->t, table_cst(g->t));
 }
 
 /* One of two networks: those of its trenches that the other has not are drawn in colour. */
@@ -204,7 +208,7 @@ static void one_network(FILE *to, const struct drawing *g, struct box b, const s
         if (t->mark[i - 1] != other->mark[i - 1]) view_label(to, g, i);
     view_close(to);
     fputs("</div>\n", to);
-    panel_core(to, core.text);
+    paragraph(to, "core", core.text);
     fputs("</div>\n", to);
 }
 
@@ -221,7 +225,7 @@ void panel_equal(FILE *to, const struct drawing *g, const struct table *other) {
     say(&words, "Both reach every junction, and both cost the same: ");
     if (out > 0 && in > 0) say_trench(&words, g->t, out), say(&words, " goes, and "), say_trench(&words, g->t, in), say(&words, " comes in");
     say(&words, ". Neither is wrong.");
-    plain(to, words.text);
+    panel_plain(to, words.text);
     fputs("<div class=\"two\">\n", to);
     one_network(to, g, box_shown(b, g), g->t, other, "equal-first", "out");
     one_network(to, g, box_shown(b, g), other, g->t, "equal-second", "in");
@@ -243,7 +247,7 @@ void panel_limit(FILE *to, const struct table *t) {
     struct message words = {{0}, 0}, says = {{0}, 0};
     double last = LEFT + STEP * STAR_MAX_JUNCTIONS, own = t->n <= STAR_MAX_JUNCTIONS ? LEFT + (double)STEP * t->n : last + 90;
     explain_limit(&words);
-    plain(to, words.text);
+    panel_plain(to, words.text);
     say(&says, "A number line: 0 is no junction, 1 to 255 are junctions, 256 has no code. This table has ");
     table_junctions(&says, t);
     say(&says, ".");

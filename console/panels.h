@@ -4,8 +4,11 @@
 
 #include "views.h"
 
-/* A sentence that is an answer of the proved core in words. */
-void panel_core(FILE *to, const char *text);
+/* A paragraph. */
+void panel_plain(FILE *to, const char *text);
+
+/* The verdict on a table: an answer of the proved core in words, under its sign, and below it what the console adds; a refusal in a box of its own colour. */
+void panel_verdict(FILE *to, const struct table *t, struct star_answer a);
 
 /* Each over a drawing whose table has what the panel shows. */
 void panel_ring(FILE *to, const struct drawing *g);                      /* marks that are no network */

@@ -9,6 +9,7 @@ struct picture {
     const struct table *t;
     unsigned out, in;     /* the trenches of the exchange, 0 for none */
     struct message words; /* the verdict */
+    int refused;          /* whether that is a refusal, which stands in a box of its own colour */
 };
 
 /* How a trench is drawn: the four kinds share their colours and widths among the pictures. */

@@ -54,6 +54,17 @@ void refusal_of_asked(struct message *to, const struct table *t, size_t trench, 
     of_trench(to, t, STAR_BAD_SOURCE, trench, word, "is struck, and so left out of everything", "");
 }
 
+void refusal_of_asked_junction(struct message *to, const struct table *t, const char *word) {
+    refusal_opens(to, STAR_BAD_SOURCE, t->file, 0);
+    say(to, "there is no junction ");
+    say_given(to, word);
+    say(to, "; the table has ");
+    table_junctions(to, t);
+    say(to, ".");
+}
+
+int refusal_has_trench(const struct table *t, size_t trench) { return trench >= 1 && trench <= t->m && trench <= KEPT && !t->struck[trench - 1]; }
+
 static void junction_count(struct message *to, const struct table *t) {
     say(to, t->count.line == 0 ? "no junction from 1 on is named" : t->told ? "the number of junctions is " : "the largest junction is ");
     say_word(to, t->count.text);

@@ -11,36 +11,61 @@
 static int ends_named(const struct options *with, uint32_t end[2]) {
     int status;
     if (with->count != 2) return misused("two junctions follow the file of", "stretch");
-    status = junction_named(with->words[0], &end[0]);
-    if (status == 0) status = junction_named(with->words[1], &end[1]);
+    status = junction_asked(with->words[0], &end[0]);
+    if (status == 0) status = junction_asked(with->words[1], &end[1]);
     if (status != 0) return status;
-    return end[0] == end[1] ? misused("a stretch joins two different junctions, and both are", with->words[0]) : 0;
+    return end[0] == end[1] && end[0] < UINT32_MAX ? misused("a stretch joins two different junctions, and both are", with->words[0]) : 0;
 }
 
-/* Whether both are junctions of a table that was not refused. */
-static int ends_there(const struct table *t, const uint32_t end[2]) {
-    uint32_t largest = end[0] > end[1] ? end[0] : end[1];
-    if (largest <= t->n) return 1;
-    fprintf(stderr, "star: there is no junction %u; the table has %u\n", (unsigned)largest, (unsigned)t->n);
-    return 0;
+/* The word that names no junction of the table; NULL where both do. */
+static const char *not_there(const struct table *t, const uint32_t end[2], char **words) {
+    int i;
+    for (i = 0; i < 2; i++)
+        if (end[i] < 1 || end[i] > t->n) return words[i];
+    return NULL;
 }
 
-/* The trenches in order, a line each, and the dearest of them. */
+/* The other trenches of the way that cost as much as its dearest. */
+static void say_as_dear(struct message *to, const struct table *t, const struct detour *d) {
+    unsigned row[STAR_MAX_JUNCTIONS];
+    size_t count = 0, k;
+    for (k = 0; k < d->count; k++)
+        if (d->row[k] != d->dearest && table_cost(t, d->row[k]) == table_cost(t, d->dearest)) row[count++] = d->row[k];
+    if (count > 0) {
+        say(to, "; ");
+        detour_rows(to, row, count);
+        say(to, count == 1 ? " is as dear" : " are as dear");
+    } else if (d->count > 1) say(to, "; no other of its trenches is as dear");
+    say(to, ".");
+}
+
+/* The trenches in order, a line each, their sum, and the dearest of them. */
 static void list(FILE *to, const struct table *t, const struct detour *d) {
     struct message words = {{0}, 0};
-    char price[FIGURES];
+    char price[FIGURES], sum[FIGURES];
     size_t k;
     say(&words, "From junction %u to junction %u the plan has ", d->stop[0], d->stop[d->count]);
-    say_count(&words, d->count, "trench:", "trenches:");
-    fprintf(to, "%s\n", words.text);
+    say_count(&words, d->count, "trench:\n", "trenches:\n");
+    fputs(words.text, to);
     for (k = 0; k < d->count; k++) fprintf(to, "trench %u: %u-%u, price %s\n", d->row[k], d->stop[k], d->stop[k + 1], table_price(price, t, d->row[k]));
-    fprintf(to, "The dearest is trench %u, price %s.\n", d->dearest, table_price(price, t, d->dearest));
+    words.len = 0;
+    say(&words, "The way costs %s in all. Its dearest is trench %u, price %s", amount_figures(sum, d->sum), d->dearest, table_price(price, t, d->dearest));
+    say_as_dear(&words, t, d);
+    fprintf(to, "%s\n", words.text);
+}
+
+/* Why nothing is listed: the table, a junction that is not there, or the plan. */
+static int refused(FILE *to, const struct table *t, struct star_answer a, const char *not_there) {
+    struct message words = {{0}, 0};
+    if (not_there && (a.kind != STAR_REFUSED || refusal_of_plan(a))) refusal_of_asked_junction(&words, t, not_there);
+    else refusal_words(&words, t, a);
+    fprintf(to, "%s\n", words.text);
+    return EXIT_REFUSED;
 }
 
 int command_stretch(struct table *t, const struct options *with, struct output *o) {
     static struct paths p;
     static struct detour d;
-    struct message words = {{0}, 0};
     struct star_answer a;
     uint32_t end[2];
     char price[FIGURES];
@@ -48,14 +73,9 @@ int command_stretch(struct table *t, const struct options *with, struct output *
     FILE *to;
     if (status != 0) return status;
     a = table_cst(t);
-    if (a.kind != STAR_REFUSED && !ends_there(t, end)) return EXIT_USAGE;
     to = output_open(o);
     if (!to) return EXIT_UNWRITTEN;
-    if (a.kind == STAR_REFUSED || !way_between(&d, &p, t, end[0], end[1])) {
-        refusal_words(&words, t, a);
-        fprintf(to, "%s\n", words.text);
-        return EXIT_REFUSED;
-    }
+    if (a.kind == STAR_REFUSED || not_there(t, end, with->words) || !way_between(&d, &p, t, end[0], end[1])) return refused(to, t, a, not_there(t, end, with->words));
     list(to, t, &d);
     if (a.kind == STAR_PASSED) fprintf(to, "No route between %u and %u over the table's trenches has a dearest trench cheaper than %s.\n", (unsigned)end[0], (unsigned)end[1], table_price(price, t, d.dearest));
     else fprintf(to, "The plan is no cheapest network, so nothing is promised of other routes: 'star check' names an exchange.\n");

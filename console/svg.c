@@ -108,7 +108,7 @@ static void head(FILE *to, const char *title, double width, double height, doubl
     for (k = 0; k < LOOKS; k++)
         fprintf(to, ".%s{stroke:%s;stroke-width:%s}.%s-label{fill:%s}", STYLES[k].name, STYLES[k].colour, STYLES[k].width, STYLES[k].name,
                 k == OTHER ? "#555" : STYLES[k].colour);
-    fprintf(to, ".out{stroke-dasharray:9 8}circle{fill:#fff;stroke:#222;stroke-width:1.5}.ground{fill:#fff;fill-opacity:.9}"
+    fprintf(to, ".out{stroke-dasharray:9 8}circle{fill:#fff;stroke:#222;stroke-width:1.5}.ground{fill:#fff;fill-opacity:.9}.refused{fill:#fdecea;stroke:#b3261e;stroke-width:2}"
                 "text{font-family:Arial,'Liberation Sans',sans-serif}.verdict{font-size:14px;font-weight:bold}.key{font-size:12px;fill:#444}"
                 ".name{font-size:%.0fpx;text-anchor:middle}.label{font-size:%dpx;text-anchor:middle}"
                 ".marked-label,.out-label,.in-label{font-weight:bold}</style>\n<rect width=\"100%%\" height=\"100%%\" fill=\"#fff\"/>\n",
@@ -124,14 +124,15 @@ void picture_svg(FILE *to, const struct picture *p) {
     layout_sheet(&l, p->t);
     left_out = place_labels(&l, p);
     y = l.height + LINE;
-    head(to, words, l.width, verdict(NULL, words, l.width, y) + 2 * LINE, l.dot);
+    head(to, words, l.width, verdict(NULL, words, l.width, y) + 2 * LINE + (p->refused ? 5 : 0), l.dot);
     trenches(to, p, &l);
     labels(to, p, &l);
     for (v = 1; v <= p->t->n; v++) {
         fprintf(to, "<circle cx=\"%.1f\" cy=\"%.1f\" r=\"%.0f\"/>", l.at[v].x, l.at[v].y, l.dot);
         fprintf(to, "<text class=\"name\" x=\"%.1f\" y=\"%.1f\">%u</text>\n", l.at[v].x, l.at[v].y + l.dot * 0.33, (unsigned)v);
     }
-    y = verdict(to, words, l.width, y);
+    if (p->refused) fprintf(to, "<rect class=\"refused\" x=\"5\" y=\"%.0f\" width=\"%.0f\" height=\"%.0f\"/>\n", y - LINE + 2, l.width - 10, verdict(NULL, words, l.width, y) - y + 5);
+    y = verdict(to, words, l.width, y) + (p->refused ? 5 : 0);
     key(to, p, y);
     fprintf(to, "<text class=\"key\" x=\"12\" y=\"%.0f\">A label has the trench's number and its price.", y + LINE);
     if (left_out > 0) fprintf(to, " %zu of %zu found no room: 'star table' lists every trench in order.", left_out, table_used(p->t));

@@ -64,6 +64,9 @@ struct star_answer table_digs(const struct table *t, uint8_t *text, size_t len);
 /* Which of two marked tables costs less: 1 the first, 2 the second, 0 none where one is refused. They are the same but for their marks. */
 uint32_t table_which(const struct table *first, const struct table *second, struct star_answer *a);
 
+/* The total of a plan: that of star_which, asked about the plan and itself. Of marks that are no network it is the console's own sum. */
+int64_t table_plan_total(const struct table *t);
+
 /* The doors that make a plan, whose marks the table has afterwards: of at most eight districts, given by the numbers of their last trenches, with the
    trenches of each in forests; of any marks, with the steps; with exactly `count` trenches at a junction. */
 struct star_answer table_districts(struct table *t, const uint32_t *ends, size_t count, uint8_t forests[KEPT]);

@@ -8,6 +8,20 @@ void say_trench(struct message *to, const struct table *t, size_t i) {
     say(to, "trench %zu (%u-%u, price %s)", i, t->left[i - 1], t->right[i - 1], table_price(price, t, i));
 }
 
+struct totals verdict_totals(const struct table *t, struct star_answer a) {
+    static struct table other;
+    struct totals totals;
+    totals.plan = table_plan_total(t);
+    other = *t;
+    if (a.kind == STAR_LIGHTER) {
+        other.mark[a.out - 1] = 0;
+        other.mark[a.in - 1] = 1;
+    }
+    totals.after = table_plan_total(&other);
+    totals.least = table_mst1(&other).amount;
+    return totals;
+}
+
 static void say_passed(struct message *to, const struct table *t, struct star_answer a) {
     struct star_answer other;
     char total[FIGURES];
@@ -25,17 +39,37 @@ static void say_passed(struct message *to, const struct table *t, struct star_an
 }
 
 static void say_lighter(struct message *to, const struct table *t, struct star_answer a) {
-    char saving[FIGURES], before[FIGURES], after[FIGURES];
-    say(to, "A cheaper set exists, for %s less:\n  take out ", amount_figures(saving, a.amount));
+    struct totals totals = verdict_totals(t, a);
+    char figures[4][FIGURES];
+    say(to, "A cheaper set exists, for %s less:\n  take out ", amount_figures(figures[0], a.amount));
     say_trench(to, t, a.out);
     say(to, "\n  put in   ");
     say_trench(to, t, a.in);
-    say(to, "\nThe plan's total is %s, and %s after this exchange. It is the first one found, not the one that saves most: 'star build' lists a cheapest set.",
-        amount_figures(before, table_total(t)), amount_figures(after, table_total(t) - a.amount));
+    say(to, "\nThe plan's total is %s, and %s after this exchange. The least total is %s.", amount_figures(figures[1], totals.plan),
+        amount_figures(figures[2], totals.after), amount_figures(figures[3], totals.least));
 }
 
 void verdict_words(struct message *to, const struct table *t, struct star_answer a) {
     if (a.kind == STAR_PASSED) say_passed(to, t, a);
     else if (a.kind == STAR_LIGHTER) say_lighter(to, t, a);
     else refusal_words(to, t, a);
+}
+
+void verdict_gap(struct message *to, const struct table *t, struct star_answer a) {
+    struct totals totals;
+    char most[FIGURES];
+    if (a.kind != STAR_LIGHTER) return;
+    totals = verdict_totals(t, a);
+    say(to, "At most %s is saved", amount_figures(most, totals.plan - totals.least));
+    if (totals.after == totals.least) say(to, ", and this exchange saves all of it.");
+    else say(to, "; this exchange is the first one found, and does not save all of it.");
+}
+
+void verdict_next(struct message *to, const struct table *t, struct star_answer a) {
+    static struct table copy;
+    copy = *t;
+    if (a.kind != STAR_LIGHTER && !refusal_of_plan(a)) return;
+    say(to, "'star explain' says why.\n");
+    if (table_mst1(&copy).kind == STAR_PASSED) say(to, "'star mend' writes the file with its plan made a cheapest network.");
+    else say(to, "No marks would do: 'star build' names a junction that the table's trenches do not reach.");
 }

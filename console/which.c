@@ -74,7 +74,7 @@ static int read_second(struct input *in, struct table *second, const char *file,
 
 static void say_standing(struct message *to, const struct table *first, const struct table *second, uint32_t which, int64_t total) {
     const struct table *stands = which == 1 ? first : second;
-    int64_t other = table_total(which == 1 ? second : first);
+    int64_t other = table_plan_total(which == 1 ? second : first);
     char figures[3][FIGURES];
     say(to, "The %s plan stands, %.200s: ", which == 1 ? "first" : "second", stands->file);
     if (other == total) say(to, "both cost %s.", amount_figures(figures[0], total));

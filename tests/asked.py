@@ -158,8 +158,15 @@ def stretch(console, r, n, rows):
     least = total(rows, tree(n, rows)) == total(rows, chosen)
     dearest = max(rows[i - 1][2] for i in path)
     uppermost = min(i for i in path if rows[i - 1][2] == dearest)
+    equal = [i for i in path if rows[i - 1][2] == dearest and i != uppermost]
+    said = f"The way costs {sum(rows[i - 1][2] for i in path)} in all. Its dearest is trench {uppermost}, price {dearest}"
+    if equal:
+        several = len(equal) > 1
+        said += f"; trench{'es' if several else ''} {', '.join(map(str, equal))} {'are' if several else 'is'} as dear.\n"
+    else:
+        said += "; no other of its trenches is as dear.\n" if len(path) > 1 else ".\n"
     listed = [int(x) for x in re.findall(r"^trench (\d+): ", out, re.M)]
-    ok = (status, err) == (0 if least else 1, "") and listed == path and f"The dearest is trench {uppermost}, price {dearest}.\n" in out
+    ok = (status, err) == (0 if least else 1, "") and listed == path and said in out
     if least:
         ok = ok and out.endswith(f"has a dearest trench cheaper than {dearest}.\n") and bottleneck(n, rows, a, b) == dearest
     else:

@@ -16,7 +16,7 @@ try which-turned 0 '^The first plan stands, console/examples/office-b.txt: it co
 try which-standard-input 0 'The first plan stands, .*office-b.txt' "$(sed 's/$/\\n/' $first | tr -d '\n')" which $second -
 try stretch 0 '^No route between 1 and 2 over the table.s trenches has a dearest trench cheaper than 5\.$' '' stretch $yard 1 2
 try stretch-dear 1 'nothing is promised of other routes' '' stretch $dear 1 3
-try stretch-city 0 '^The dearest is trench ' '' stretch $city 1 255
+try stretch-city 0 'Its dearest is trench ' '' stretch $city 1 255
 try digs 0 '^Total 249$' '' digs $street
 try digs-city 0 '^Total 130316$' '' digs $city
 [ "$(wc -l <"$work/out")" = 255 ]
@@ -30,8 +30,6 @@ try quote-price 4 "a price is a whole number from -2147483648 to 2147483647, and
 try quote-price-word 4 "a price is .*, and not '4.50'" '' quote $yard 4 4.50
 try quote-price-below 4 "a price is .*, and not '-2147483649'" '' quote $yard 4 -2147483649
 try quote-minus 4 "unknown option '-x'" '' quote $yard 4 -x
-try quote-large 2 'Refused \(7\): .*there is no trench 99999999999; the table has 5' '' quote $yard 99999999999 1
-try breaking-large 2 'Refused \(7\): .*there is no trench 99999999999; the table has 5' '' breaking $yard 99999999999
 try which-large 3 'standard input:1: 5000000000 junctions$' 'junctions 5000000000\n1 2 5 0\n2 3 3 1\n3 4 5 1\n1 4 4 1\n1 3 6 0\n' which - $yard
 try breaking-few 4 "the number of one trench follows the file of 'breaking'" '' breaking $yard
 try breaking-many 4 "the number of one trench follows the file of 'breaking'" '' breaking $yard 4 5
@@ -44,10 +42,8 @@ try which-stp 3 "an STP file marks no trench, so there is no plan to compare. 's
 try stretch-few 4 "two junctions follow the file of 'stretch'" '' stretch $yard 1
 try stretch-many 4 "two junctions follow the file of 'stretch'" '' stretch $yard 1 2 3
 try stretch-same 4 "a stretch joins two different junctions, and both are '2'" '' stretch $yard 2 2
-try stretch-0 4 "a junction is a number from 1 to 255, and not '0'" '' stretch $yard 0 2
-try stretch-256 4 "a junction is a number from 1 to 255, and not '256'" '' stretch $yard 1 256
-try stretch-word 4 "a junction is a number from 1 to 255, and not 'x'" '' stretch $yard x 2
-try stretch-above 4 'there is no junction 5; the table has 4' '' stretch $yard 1 5
+try stretch-256 2 'there is no junction 256; the table has 4' '' stretch $yard 1 256
+try stretch-above 2 'there is no junction 5; the table has 4' '' stretch $yard 1 5
 try digs-two 4 "one file is read, and there is also '$dear'" '' digs $yard $dear
 try digs-option 4 "unknown option '--table'" '' digs --table $yard
 
@@ -65,7 +61,7 @@ verdict digs-long-line $?
 
 # An output file is left as it was where there is nothing to write, and a list is written whole.
 cp $yard "$work/kept.txt"
-try kept 4 'there is no junction 5' '' stretch -o "$work/kept.txt" $yard 1 5
+try kept 4 'two junctions follow' '' stretch -o "$work/kept.txt" $yard 1
 try kept-differ 3 'The two tables are not the same' '' which -o "$work/kept.txt" $yard $first
 diff $yard "$work/kept.txt" >"$work/all"
 verdict kept-file $?

@@ -7,7 +7,7 @@
 # random files is what a list of the trenches says.
 try struck 0 'Total 12' '' check $struck
 try struck-only 0 'It is the only cheapest network' '' check $struck
-try struck-explained 4 'trench 3 is struck' '' explain $struck 3
+try struck-explained 2 'trench 3 is struck' '' explain $struck 3
 try struck-page 0 'Passed' '' page $struck
 grep -q 'id="own-t4"' "$work/out" && ! grep -q 'id="own-[tl]3"' "$work/out"
 verdict struck-page-left-out $?

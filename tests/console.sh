@@ -35,11 +35,21 @@ try long 2 'Refused \(12\): .*long.stp: .*at most 65536' '' build "$work/long.st
 # What a plan's check says beside the verdict.
 try only 0 '^It is the only cheapest network\.$' '' check console/examples/t1.txt
 try not-only 0 '^Another network costs the same: take out trench 3 \(3-4, price 5\), put in trench 1 \(1-2, price 5\)\.$' '' check $yard
-try total-beside 1 "^The plan's total is 13, and 12 after this exchange\\. It is the first one found, not the one that saves most" '' check $dear
+try total-beside 1 "^The plan's total is 13, and 12 after this exchange\\. The least total is 12\\.$" '' check $dear
+try saves-all 1 '^At most 1 is saved, and this exchange saves all of it\.$' '' check $dear
+! grep -q 'first one found' "$work/all"
+verdict saves-all-alone $?
+try saves-some 1 '^At most 7 is saved; this exchange is the first one found, and does not save all of it\.$' '' check $grant
+try next-explain 1 "^'star explain' says why\\.$" '' check $dear
+try next-mend 1 "^'star mend' writes the file with its plan made a cheapest network\\.$" '' check $dear
+try next-apart 2 "^No marks would do: 'star build' names a junction" '1 2 5 1\n3 4 5 1\n' check
+try lonely-first 2 '^  junction 1$' '1 2 5 0\n2 3 3 1\n3 4 5 1\n2 4 4 1\n' check
+grep -qx '  junctions 2, 3, 4' "$work/out" && grep -qx 'A ring: trenches 2, 3, 4 (2-3-4-2).' "$work/out"
+verdict lonely-first-ring $?
 try build-saves 0 '^The marked trenches cost 13: these save 1\.$' '' build $dear
 try build-saves-nothing 0 '^The marked trenches cost 12 too\.$' '' build $yard
-try build-no-plan 0 '^The marked trenches cost 14, and are no network: they do not reach every junction\.$' '1 2 5 1\n2 3 3 1\n3 4 5 0\n1 4 4 0\n1 3 6 1\n' build
-try build-few 0 '^The marked trenches cost 5, and are no network: they are not one fewer than the junctions\.$' '1 2 5 1\n2 3 3 0\n' build
+try build-no-plan 0 '^The marked trenches cost 14 by the console.s own sum, and are no network: they do not reach every junction\.$' '1 2 5 1\n2 3 3 1\n3 4 5 0\n1 4 4 0\n1 3 6 1\n' build
+try build-few 0 '^The marked trenches cost 5 by the console.s own sum, and are no network: they are not one fewer than the junctions\.$' '1 2 5 1\n2 3 3 0\n' build
 try build-unmarked 0 '^Total 8$' '1 2 5\n2 3 3\n' build
 ! grep -q 'marked trenches' "$work/out"
 verdict build-unmarked-alone $?
@@ -58,11 +68,23 @@ verdict explain-all-whole $?
 try explain-city 0 '^760 more are left out: 0 that save, 0 that cost as much' '' explain console/examples/city.txt
 [ "$(wc -l <"$work/out")" -lt 40 ]
 verdict explain-city-short $?
-try explain-none 4 'there is no trench 6; the table has 5' '' explain $yard 6
-try explain-large 4 'there is no trench 99999999999; the table has 5' '' explain $yard 99999999999
-try explain-zero 4 "a trench is named by its number, from 1 on, and not by '0'" '' explain $yard 0
-try explain-word 4 "a trench is named by its number, from 1 on, and not by 'x'" '' explain $yard x
-try explain-files 4 "one file is read, and there is also '3'" '' explain $yard 2 3
+# One fault, one status, one wording: a trench or a junction that is not there.
+for number in 6 0 99999999999; do
+    for words in "explain $yard $number" "quote $yard $number 9" "breaking $yard $number"; do
+        try "not there: $words" 2 "^Refused \(7\): $yard: there is no trench $number; the table has 5\.$" '' $words
+    done
+    for words in "stretch $yard 1 $number" "stretch $yard $number 1" "outlets $yard $number 2"; do
+        try "not there: $words" 2 "^Refused \(7\): $yard: there is no junction $number; the table has 4\.$" '' $words
+    done
+done
+for words in "explain $struck 3" "quote $struck 3 9" "breaking $struck 3"; do
+    try "struck: $words" 2 "^Refused \(7\): $struck:4: trench 3 is struck, and so left out of everything\.$" '' $words
+done
+for words in "explain $yard x" "quote $yard x 9" "breaking $yard x"; do try "no number: $words" 4 "a trench is named by its number, from 1 on, and not by 'x'" '' $words; done
+for words in "stretch $yard x 2" "outlets $yard x 2"; do try "no number: $words" 4 "a junction is named by its number, from 1 on, and not by 'x'" '' $words; done
+try explain-unseen 2 '^Trench 3 was not looked at: the marks are no network' '1 2 5 1\n2 3 3 1\n3 4 5 0\n1 4 4 0\n1 3 6 1\n' explain - 3
+try explain-unseen-table 2 '^Trench 1 was not looked at: the table is refused' '1 2 5 1\n2 1 3 1\n' explain - 1
+try explain-files 4 "one trench is explained, and there is also '3'" '' explain $yard 2 3
 try explain-stp 3 'no plan to explain' '' explain $street
 try certificate-passed 0 '^left-out 5 dearest 3 detour 4 3$' '' check --certificate $yard
 try certificate-cheaper 1 '^cheaper 1 4 13 12$' '' check --certificate $dear
@@ -105,6 +127,12 @@ for picture in draw dot; do
     try "$picture-below-0" 0 'Passed. Total -5\.' '1 2 -5 1\n' $picture
     try "$picture-unmarked" 0 'No trench is marked' '' $picture $street
 done
+
+"${star[@]}" draw "$work/ring.txt" 2>/dev/null | grep -q '<rect class="refused" '
+verdict draw-refused-box $?
+"${star[@]}" draw $yard >"$work/all"
+! grep -q '<rect class="refused" ' "$work/all"
+verdict draw-passed-no-box $?
 
 # Large and endless input is told quickly and in little room.
 yes '1 2 3 0' | head -n 2000001 >"$work/rows.txt"

@@ -30,6 +30,44 @@ def joined(rows, n):
     return all(way(rows, 1, v) is not None for v in range(1, n + 1))
 
 
+def check(rows, n):
+    text = "junctions %d\n" % n + "".join("%d %d %d %d\n" % row for row in rows)
+    return star(text, "check")[0]
+
+
+def is_ring(rows, trenches, stops):
+    """Whether the trenches are marked and lead through the junctions, each once, back to the first."""
+    if len(set(trenches)) != len(trenches) or len(set(stops)) != len(trenches) or len(stops) != len(trenches) + 1 or stops[0] != stops[-1]:
+        return False
+    return all(rows[i - 1][3] and {rows[i - 1][0], rows[i - 1][1]} == {stops[k], stops[k + 1]} for k, i in enumerate(trenches))
+
+
+def numbers(text):
+    """The numbers of '1, 2, 5 to 9'."""
+    found = []
+    for piece in text.split(", "):
+        ends = [int(word) for word in piece.split(" to ")]
+        found += range(ends[0], ends[-1] + 1)
+    return found
+
+
+def torn(rows, n, said):
+    """Whether rings and groups are told of marks that are no network: every group, and as many rings as marked trenches have to go."""
+    groups = []
+    for v in range(1, n + 1):
+        if not any(v in group for group in groups):
+            groups.append([u for u in range(1, n + 1) if way(rows, v, u) is not None])
+    marks = sum(row[3] for row in rows)
+    if marks == 0:
+        return "ring:" not in said and "groups" not in said
+    told = [numbers(line) for line in re.findall(r"^  junctions? ([0-9, to]+)$", said, re.M)]
+    rings = re.findall(r"^A ring: trenches ([0-9, ]+) \(([0-9-]+)\)\.$", said, re.M)
+    rings = [([int(w) for w in trenches.split(", ")], [int(w) for w in stops.split("-")]) for trenches, stops in rings]
+    last = {trenches[-1] for trenches, _ in rings}
+    return (told == (groups if len(groups) > 1 else []) and len(rings) == marks - n + len(groups) == len(last)
+            and all(is_ring(rows, *ring) for ring in rings) and "Cut off" not in said)
+
+
 faults = 0
 for number in range(60):
     n = random.randrange(2, 13)
@@ -59,15 +97,6 @@ for number in range(60):
             faults += not (line and wanted in line.group(0) and "sum %d, does not count; dearest %d (trench %d); %d %s %d: " % (
                 sum(rows[k - 1][2] for k in path), dearest, min(k for k in path if rows[k - 1][2] == dearest), w, sign, dearest) in line.group(0))
     else:
-        cut = [v for v in range(1, n + 1) if way(rows, 1, v) is None]
-        wanted = "Cut off from junction 1: junction%s %s." % ("s" if len(cut) > 1 else "", ", ".join(map(str, cut))) if cut else ""
-        faults += wanted not in said or (not cut) != ("Cut off" not in said)
-        ring = re.search(r"A ring: trenches ([0-9, ]+) \(([0-9-]+)\)", said)
-        rings = any(row[3] and way(rows, row[0], row[1], i) is not None for i, row in enumerate(rows))
-        faults += rings != bool(ring)
-        if ring:
-            trenches, stops = [int(w) for w in ring.group(1).split(", ")], [int(w) for w in ring.group(2).split("-")]
-            faults += not (len(set(trenches)) == len(trenches) and stops[0] == stops[-1] and len(set(stops)) == len(trenches) == len(stops) - 1
-                           and all(rows[i - 1][3] and {rows[i - 1][0], rows[i - 1][1]} == {stops[k], stops[k + 1]} for k, i in enumerate(trenches)))
+        faults += not torn(rows, n, said) or not torn(rows, n, check(rows, n))
 print("%d faults" % faults)
 sys.exit(faults > 0)

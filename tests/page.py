@@ -55,6 +55,9 @@ class Page(html.parser.HTMLParser):
     def core(self, section=None):
         return [p["text"] for p in self.all("p", section, "core")]
 
+    def refused(self, section=None):
+        return [p["text"] for p in self.all("p", section, "refused")]
+
     def said(self, section):
         return " ".join(p["text"] for p in self.all("p", section))
 
@@ -146,7 +149,7 @@ with tempfile.TemporaryDirectory() as work:
     check("yard: verdict", page.core()[0].startswith("Passed: ") and "Another network costs the same: take out trench 3 (3-4, price 5), put in trench 1 (1-2, price 5)." in page.core()[0])
     check("yard: ring", page.rows("ring", "ring") == [1, 2, 5] and [p["href"] for p in page.all("use", "ring", "cut")] == ["#yard-j4"])
     check("yard: count", any(p["text"] == "3 marked, 4 junctions: 4 - 1 = 3" for p in page.all("p", "ring", "count")))
-    check("yard: ring refused", page.core("ring") == ["Refused (10): the marked trenches do not reach junction 4 from junction 1."])
+    check("yard: ring refused", page.refused("ring") == ["Refused (10): the marked trenches do not reach junction 4 from junction 1."])
     check("yard: views", [p["id"] for p in page.all("input", "detours")] == ["v1", "v5"] and len([p for p in page.all("input") if "checked" in p]) == 1)
     check("yard: detours", page.rows("detours", "detour") == [2, 4, 4] and page.rows("detours", "dearest") == [3, 3] and page.rows("detours", "left-out") == [1, 5])
     check("yard: sum struck", [p["text"] for p in page.all("s", "detours")] == ["sum 12", "sum 9"])
@@ -160,7 +163,13 @@ with tempfile.TemporaryDirectory() as work:
     sound("ring", page)
     check("ring: status", done.returncode == 2 and "Refused (10)" in done.stderr)
     check("ring: drawn", page.rows("ring", "ring") == [1, 2, 5] and [p["href"] for p in page.all("use", "ring", "cut")] == ["#own-j4"])
+    check("ring: box", page.refused()[0].startswith("Refused (10): ") and not any("Refused" in text for text in page.core()))
+    check("ring: groups", "Groups that stand apart: junctions 1, 2, 3; junction 4." in page.said("ring"))
     check("ring: where", [p["text"].startswith("On this table") for p in page.all("p", None, "where")] == [True, False, False, True])
+    # Junction 1 is the lonely one: it is the one that is shown so.
+    page = Page(run([(2, 3, 5, 1), (3, 4, 3, 1), (2, 4, 5, 1), (1, 4, 4, 0)], 4, work).stdout)
+    check("lonely: drawn", [p["href"] for p in page.all("use", "ring", "cut")] == ["#own-j1"])
+    check("lonely: groups", "Groups that stand apart: junction 1; junctions 2, 3, 4." in page.said("ring"))
     # The only cheapest network: two equal ones are shown on the yard.
     page = Page(run([(1, 2, 2, 1), (2, 3, 2, 1), (1, 3, 3, 0)], 3, work).stdout)
     sound("only", page)
@@ -169,12 +178,15 @@ with tempfile.TemporaryDirectory() as work:
     # A dearer plan, with prices below 0.
     page = Page(run([(1, 2, 5, 1), (2, 3, -3, 1), (3, 4, -1, 0), (1, 4, -4, 1), (1, 3, -2, 0)], 4, work).stdout)
     sound("dearer", page)
+    check("dearer: totals", page.core()[0].endswith("The plan's total is -2, and -8 after this exchange. The least total is -9."))
+    check("dearer: own sum", not any("At most" in text for text in page.core()) and page.all("p")[1]["text"] ==
+          "At most 7 is saved; this exchange is the first one found, and does not save all of it.")
     check("dearer: saves", "-1 < 5: the exchange gives a network of -8, for 6 less" in page.said("detours"))
     # 256 junctions: no picture of the table, and the number line has it.
     done = run([(1, 2, 5, 1)], 256, work)
     page = Page(done.stdout)
     sound("256", page)
-    check("256: status", done.returncode == 2 and "Refused (1)" in done.stderr and "Refused (1)" in page.core()[0])
+    check("256: status", done.returncode == 2 and "Refused (1)" in done.stderr and "Refused (1)" in page.refused()[0])
     check("256: line", any(t["text"] == "this table: 256" for t in page.all("text", "limit")) and not any("own-" in p.get("href", "") for p in page.all("use")))
     page = Page(run([(1, 2, 5, 1)], 5000000000, work).stdout)
     check("5000000000: line", any(t["text"] == "this table: 5000000000" for t in page.all("text", "limit")))
@@ -186,13 +198,13 @@ with tempfile.TemporaryDirectory() as work:
     done = run([(1, 2, 5, 0), (2, 3, 5, 0)], 3, work)
     page = Page(done.stdout)
     sound("unmarked", page)
-    check("unmarked: status", done.returncode == 0 and page.core()[0] == "No trench is marked.")
+    check("unmarked: status", done.returncode == 0 and page.all("p")[0]["text"] == "No trench is marked." and page.all("p")[0].get("class") == "plain")
     odd = os.path.join(work, "a<b>&c.txt")
     with open(odd, "w") as out:
         out.write("1 2 5 1\n")
     page = Page(subprocess.run(STAR + ["page", odd], capture_output=True, text=True).stdout)
     sound("name", page)
-    check("name: written", page.all("h1")[0]["text"] == odd)
+    check("name: written", page.all("h1")[0]["text"] == page.all("title")[0]["text"] == os.path.basename(odd))
     # Thirty junctions and a city: each trench that is left out has its view, and the page stays small.
     sizes = {}
     for name, n, path in (("thirty", 30, None), ("city", 255, "console/examples/city.txt")):

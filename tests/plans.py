@@ -109,13 +109,29 @@ def mended(rows, n):
     return marked, told
 
 
+def ended(rows, n, marked):
+    """What mend says first: the trenches taken out and put in, and the totals."""
+    before = {i for i in rows if rows[i][3]}
+    name = lambda i: "trench %d (%d-%d, price %d)\n" % (i, *rows[i][:3])
+    said = "".join("taken out " + name(i) for i in sorted(before - marked)) + "".join("put in    " + name(i) for i in sorted(marked - before))
+    if not said:
+        return "There is nothing to mend: the plan is a cheapest network. Total %d.\n" % cost(rows, marked)
+    if len(before) == n - 1 == len(least(rows, before)):
+        said += "The plan's total was %d and is %d now: no network is cheaper.\n" % (cost(rows, before), cost(rows, marked))
+    elif not before:
+        said += "No trench was marked. The plan's total is %d now: no network is cheaper.\n" % cost(rows, marked)
+    else:
+        said += "The marked trenches were no network, and cost %d by the console's own sum. The plan's total is %d now: no network is cheaper.\n" % (cost(rows, before), cost(rows, marked))
+    return said
+
+
 def without_marks(text):
     return [line.split("#")[0].split()[:3] if line[:1].isdigit() else line for line in text.split("\n")]
 
 
 def mend(n):
     text, rows, _ = random_file(n)
-    out, err, status = star(text, "mend")
+    out, err, status = star(text, "mend", "--steps")
     marked, told = mended(rows, n)
     if marked is None:
         if status != 2 or out or not err.startswith("Refused (11): "):
@@ -123,8 +139,10 @@ def mend(n):
         return
     lines = [line for line in out.split("\n") if line and not line.startswith("junctions")]
     written = {i for i, line in enumerate(lines, 1) if not line.startswith("struck") and line.split("#")[0].split()[3:] == ["1"]}
-    if status != 0 or err.split("\n")[:-2] != told or written != marked or without_marks(out) != without_marks(text) or not passes(out, cost(rows, marked)):
+    if status != 0 or err != ended(rows, n, marked) + "".join(step + "\n" for step in told) or written != marked or without_marks(out) != without_marks(text) or not passes(out, cost(rows, marked)):
         fault("a mend", text, out, err, told)
+    if star(text, "mend")[1] != ended(rows, n, marked):
+        fault("a mend without its steps", text)
     again = star(out, "mend")
     if again[0] != out or "nothing to mend" not in again[1]:
         fault("a mend of what is mended", text, out, again)

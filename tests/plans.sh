@@ -15,7 +15,8 @@ for ends in 1024 '200 1024' '100 101 300 555 556 800 900 1024'; do
     verdict "districts of the city, checked: $ends" $?
 done
 try districts-street 0 '^Total 249$' '' districts $street 5 12
-try old 0 '^The plan is mended in ' '' mend $old
+try old 0 '^The marked trenches were no network, and cost 14 by the console.s own sum\. The plan.s total is 12 now: no network is cheaper\.$' '' mend $old
+try old-steps 0 '^exchanged trench 1 \(1-2, price 5\) for trench 4 \(1-4, price 4\): saves 1$' '' mend $old --steps
 "${star[@]}" mend $old 2>/dev/null | "${star[@]}" check - >"$work/all"
 verdict old-checked $?
 try old-refused 2 'Refused \((9|10)\)' '' check $old
@@ -53,8 +54,6 @@ try mend-option 4 "unknown option '--table'" '' mend --table $yard
 try mend-stp 3 'an STP file is not changed\. .* whose lines mend can change' '' mend $street
 try outlets-few 4 "a junction and a number of trenches follow the file of 'outlets'" '' outlets $yard 1
 try outlets-more 4 "a junction and a number of trenches follow the file of 'outlets'" '' outlets $yard 1 2 3
-try outlets-word 4 "a junction is a number from 1 to 255, and not 'x'" '' outlets $yard x 1
-try outlets-large 2 'Refused \(7\): .*there is no junction 99999999999; junctions are numbered from 1 to 4' '' outlets $yard 99999999999 2
 try outlets-count 4 "the trenches at a junction are a number, and not '-1'" '' outlets $yard 1 -1
 for words in "districts --table -o %s $yard 4" 'mend -o %s tests/console/mend-apart.txt' "outlets --table -o %s $yard 1 9"; do
     echo kept >"$work/kept.txt"
