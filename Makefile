@@ -96,7 +96,7 @@ $(BUILD)/work_test: $(ARCHIVE) $(WORK) $(WORK_HEADERS)
 	@mkdir -p $(BUILD)
 	$(CC) -std=c99 $(CFLAGS) -Iinclude -Itests -o $@ $(WORK) $(ARCHIVE)
 
-FAULTY_WORK := $(foreach door,strike add merge work_cst work_other work_mst1 work_paths,-Dstar_$(door)=faulty_$(door))
+FAULTY_WORK := $(foreach door,strike add merge carry work_cst work_other work_mst1 work_paths,-Dstar_$(door)=faulty_$(door))
 $(BUILD)/work_test_faulty: $(ARCHIVE) $(WORK) $(WORK_HEADERS) tests/faulty_work.c tests/faulty.h
 	@mkdir -p $(BUILD)
 	$(CC) -std=c99 $(CFLAGS) -Iinclude -c -o $(BUILD)/faulty_work.o tests/faulty_work.c

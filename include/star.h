@@ -29,6 +29,7 @@
  * star_strike   takes a row out of use.
  * star_add      enters a row after the last one in use.
  * star_merge    packs the rows in use to the top, and says where each one went.
+ * star_carry    moves marks to where their rows went.
  *
  * Each returns 1 with the verdict in the sixteen bytes of the answer (star_quote: twenty-four), or 0 if the lent answer has
  * another length (star_digs, star_digs_text: or the lent text fewer than 6,370 bytes); then nothing is written anywhere.
@@ -91,8 +92,8 @@ enum star_kind {
     STAR_REFUSED = 0,
     STAR_PASSED = 1,  /* star_cst, star_other: no cheaper set exists; star_mst1: the network is built; star_paths: the matrix is filled;
                          star_quote: both totals are found; star_breaking: there is such a price; star_which: both claims are trees;
-                         star_digs: the list is written; star_import: the text is read; star_strike, star_add, star_merge, star_districts,
-                         star_mend, star_outlets: done */
+                         star_digs: the list is written; star_import: the text is read; star_strike, star_add, star_merge, star_carry,
+                         star_districts, star_mend, star_outlets: done */
     STAR_LIGHTER = 2  /* star_cst, star_other: a cheaper set exists: the exchange of two rows is one */
 };
 
@@ -278,15 +279,17 @@ uint32_t star_add(uint64_t *in_use, size_t in_use_words, uint8_t *left, size_t l
 uint32_t star_merge(uint64_t *in_use, size_t in_use_words, uint8_t *left, size_t left_len, uint8_t *right, size_t right_len, uint8_t *weight,
                     size_t weight_len, uint32_t *numbers, size_t count, uint8_t *answer, size_t answer_len);
 
-/* Carries marks through the numbers of star_merge or star_add: each byte to its row's new position, 0 elsewhere. No number is above its row's old
- * position, so it is done in place. */
+/* Carries marks through the numbers of star_merge or star_add: each byte to its row's new position,
+ * 0 elsewhere. Any numbers are taken: 0 and one above 1,024 name no row, and where two rows have the
+ * same number the upper one's byte stays. A refusal is 3: 1,024 numbers and 1,024 marks are lent.
+ * Where nothing is refused the answer's kind is STAR_PASSED and all else is 0. */
+uint32_t star_carry(const uint32_t *numbers, size_t count, uint8_t *mark, size_t mark_len,
+                    uint8_t *answer, size_t answer_len);
+
+/* The same where 1,024 marks and 1,024 numbers are lent, so that nothing can be refused. */
 STAR_INLINE void star_carry_marks(uint8_t *mark, const uint32_t *numbers) {
-    size_t row;
-    for (row = 1; row <= STAR_MAX_ROWS; row++) {
-        uint8_t own = mark[row - 1];
-        mark[row - 1] = 0;
-        if (numbers[row - 1] >= 1 && numbers[row - 1] <= row) mark[numbers[row - 1] - 1] = own;
-    }
+    uint8_t answer[STAR_ANSWER_BYTES];
+    star_carry(numbers, STAR_MAX_ROWS, mark, STAR_MAX_ROWS, answer, sizeof answer);
 }
 
 /* The rows in at most eight runs: ends has the last position of each, in order, and the last end is m; where m is 0 there is none. forests, m bytes,

@@ -8,6 +8,7 @@
 uint32_t faulty_strike(uint64_t *in_use, size_t in_use_words, uint32_t row, ANSWER);
 uint32_t faulty_add(WORKING, uint32_t *numbers, size_t count, uint8_t a, uint8_t b, int32_t price, ANSWER);
 uint32_t faulty_merge(WORKING, uint32_t *numbers, size_t count, ANSWER);
+uint32_t faulty_carry(const uint32_t *numbers, size_t count, MARK, ANSWER);
 uint32_t faulty_work_cst(uint32_t n, IN_USE, COLUMNS, CLAIM, ANSWER);
 uint32_t faulty_work_other(uint32_t n, IN_USE, COLUMNS, CLAIM, ANSWER);
 uint32_t faulty_work_mst1(uint32_t n, IN_USE, COLUMNS, MARK, ANSWER);
@@ -85,6 +86,36 @@ uint32_t faulty_merge(WORKING, uint32_t *numbers, size_t count, ANSWER) {
     if (fault("merge-writes-and-refuses") && sound(in_use, in_use_words, left_len, right_len, weight_len) && count != STAR_MAX_ROWS) left[0] ^= 1;
     said = star_merge(WORKING_LENT, numbers, count, answer, answer_len);
     if (said && answer[0] == STAR_PASSED) spoil(last_in_use(in_use), in_use, left, right, numbers, before);
+    return said;
+}
+
+/* What carrying leaves, spoilt; old is the marks before. */
+static void spoil_marks(const uint32_t *numbers, uint8_t *mark, const uint8_t *old) {
+    size_t row;
+    if (fault("carry-nothing")) memcpy(mark, old, STAR_MAX_ROWS);
+    if (fault("carry-ones-elsewhere"))
+        for (row = 0; row < STAR_MAX_ROWS; row++) mark[row] |= !mark[row];
+    for (row = 1; row <= STAR_MAX_ROWS; row++) {
+        uint32_t to = numbers[row - 1];
+        if (fault("carry-rows-without-a-number") && to == 0) mark[0] = old[row - 1];
+        if (to < 1 || to > STAR_MAX_ROWS) continue;
+        if (fault("carry-the-lower-row")) mark[to - 1] = old[row - 1];
+        if (fault("carry-upwards-only") && to > row) mark[to - 1] = 0;
+    }
+}
+
+uint32_t faulty_carry(const uint32_t *numbers, size_t count, MARK, ANSWER) {
+    uint8_t old[STAR_MAX_ROWS];
+    uint32_t said;
+    int whole = mark && mark_len == STAR_MAX_ROWS;
+    if (whole) memcpy(old, mark, sizeof old);
+    if (fault("carry-without-an-answer") && answer_len != STAR_ANSWER_BYTES && whole) mark[0] ^= 1;
+    said = star_carry(numbers, count, mark, mark_len, answer, answer_len);
+    if (!said) return said;
+    if (fault("carry-writes-and-refuses") && answer[0] == STAR_REFUSED && whole) mark[0] ^= 1;
+    if (answer[0] != STAR_PASSED) return said;
+    if (fault("carry-amount")) answer[8] = 1;
+    spoil_marks(numbers, mark, old);
     return said;
 }
 

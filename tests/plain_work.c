@@ -157,3 +157,15 @@ uint32_t plain_add(struct in_use u, const struct call *c, struct numbers to, uin
     u.words[last / 64] |= (uint64_t)1 << last % 64;
     return put(answer, 1, 0, (unsigned)last + 1);
 }
+
+uint32_t plain_carry(struct numbers to, uint8_t *mark, size_t mark_len, uint8_t *answer, size_t answer_len) {
+    uint8_t old[ROWS];
+    size_t row;
+    if (answer_len != 16) return 0;
+    if (to.count != ROWS || mark_len != ROWS) return refuse(answer, 3);
+    memcpy(old, mark, ROWS);
+    memset(mark, 0, ROWS);
+    for (row = ROWS; row >= 1; row--)
+        if (to.at[row - 1] >= 1 && to.at[row - 1] <= ROWS) mark[to.at[row - 1] - 1] = old[row - 1];
+    return put(answer, 1, 0, 0);
+}

@@ -26,5 +26,6 @@ uint32_t plain_work_paths(struct in_use u, const struct call *c, uint32_t s, uin
 uint32_t plain_strike(struct in_use u, uint32_t row, uint8_t *answer, size_t answer_len);
 uint32_t plain_add(struct in_use u, const struct call *c, struct numbers to, uint8_t a, uint8_t b, int32_t price, uint8_t *answer, size_t answer_len);
 uint32_t plain_merge(struct in_use u, const struct call *c, struct numbers to, uint8_t *answer, size_t answer_len);
+uint32_t plain_carry(struct numbers to, uint8_t *mark, size_t mark_len, uint8_t *answer, size_t answer_len);
 
 #endif

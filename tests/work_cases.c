@@ -96,6 +96,39 @@ static void merged_and_added(void) {
     tell(is_refused(asked(WORK_ADD, 0), STAR_BAD_LENGTHS, 0), "a table full but for the last word");
 }
 
+/* Numbers and marks at the first rows, a digit each, and 0 at the others. */
+static void numbers_and_marks(const char *numbers, const char *marks) {
+    size_t i;
+    memset(t.numbers, 0, sizeof t.numbers);
+    memset(t.mark, 0, sizeof t.mark);
+    for (i = 0; numbers[i]; i++) t.numbers[i] = (uint32_t)(numbers[i] - '0');
+    for (i = 0; marks[i]; i++) t.mark[i] = (uint8_t)(marks[i] - '0');
+}
+
+static void carried(void) {
+    yard("245");
+    asked(WORK_MERGE, 0);
+    memcpy(t.mark, "\7\1\7\0\1\7", 6);
+    tell(asked(WORK_CARRY, 0).kind == STAR_PASSED && marked("10100"), "marks of rows 2, 4, 5 carried");
+    numbers_and_marks("20110", "34567");
+    tell(asked(WORK_CARRY, 0).kind == STAR_PASSED && marked("53000"), "of two rows the upper one's");
+    numbers_and_marks("00005", "11111");
+    t.numbers[0] = STAR_MAX_ROWS + 1;
+    t.numbers[1] = UINT32_MAX;
+    asked(WORK_CARRY, 0);
+    tell(marked("00001"), "numbers that name no row");
+    t.count = STAR_MAX_ROWS - 1;
+    tell(is_refused(asked(WORK_CARRY, 0), STAR_BAD_LENGTHS, 0) && marked("00001"), "too few numbers");
+}
+
+/* Whether a door is lent this column: words, left, right, weight, mark, numbers, answer. */
+static int is_lent(enum work_door door, size_t column) {
+    if (column == 6 || (door == WORK_STRIKE && column == 0)) return 1;
+    if (door == WORK_STRIKE) return 0;
+    if (door == WORK_CARRY) return column == 4 || column == 5;
+    return column < 4 || column == (door < WORK_CST ? 5 : 4);
+}
+
 /* Each length one too small, one too large, and 0 with a null pointer, for every door. */
 static void lengths(void) {
     enum work_door door;
@@ -106,7 +139,7 @@ static void lengths(void) {
             unsigned number;
             yard("124");
             memset(t.mark, 1, 4);
-            number = k / 3 == 0 || (door != WORK_STRIKE && (k / 3 < 4 || k / 3 == (door < WORK_CST ? 5 : 4))) ? STAR_BAD_LENGTHS : 0;
+            number = is_lent(door, k / 3) ? STAR_BAD_LENGTHS : 0;
             if (door == WORK_STRIKE && k == 2) number = STAR_NOT_IN_USE;
             *len[k / 3] = k % 3 == 2 ? 0 : *len[k / 3] + 2 * (k % 3) - 1;
             asked(door, 1);
@@ -143,6 +176,7 @@ static void small_stack(void) {
 void work_cases(void) {
     built_and_struck();
     merged_and_added();
+    carried();
     lengths();
     small_stack();
 }

@@ -4,7 +4,7 @@
 
 #include "plain_work.h"
 
-const char *const WORK_NAMES[WORK_DOORS] = {"star_strike", "star_add", "star_merge", "star_work_cst", "star_work_other", "star_work_mst1", "star_work_paths"};
+const char *const WORK_NAMES[WORK_DOORS] = {"star_strike", "star_add", "star_merge", "star_carry", "star_work_cst", "star_work_other", "star_work_mst1", "star_work_paths"};
 
 void lent_lengths(struct lent *t) {
     t->words = STAR_COLUMN_WORDS;
@@ -29,6 +29,7 @@ static uint32_t handed(const struct ask *q, const struct lent *t, struct pointer
     case WORK_ADD:
         return star_add(p.in_use, t->words, p.left, t->left_len, p.right, t->right_len, p.weight, t->weight_len, p.numbers, t->count, q->a, q->b, q->price, p.answer, t->answer_len);
     case WORK_MERGE: return star_merge(p.in_use, t->words, p.left, t->left_len, p.right, t->right_len, p.weight, t->weight_len, p.numbers, t->count, p.answer, t->answer_len);
+    case WORK_CARRY: return star_carry(p.numbers, t->count, p.mark, t->mark_len, p.answer, t->answer_len);
     case WORK_MST1:
         return star_work_mst1(q->n, p.in_use, t->words, p.left, t->left_len, p.right, t->right_len, p.weight, t->weight_len, p.mark, t->mark_len, p.answer, t->answer_len);
     case WORK_PATHS:
@@ -71,6 +72,7 @@ static uint32_t plainly(const struct ask *q, struct lent *t) {
     case WORK_STRIKE: return plain_strike(u, q->row, t->answer, t->answer_len);
     case WORK_ADD: return plain_add(u, &c, to, q->a, q->b, q->price, t->answer, t->answer_len);
     case WORK_MERGE: return plain_merge(u, &c, to, t->answer, t->answer_len);
+    case WORK_CARRY: return plain_carry(to, t->mark, t->mark_len, t->answer, t->answer_len);
     case WORK_CST: return plain_work_cst(u, &c, t->answer, t->answer_len);
     case WORK_OTHER: return plain_work_other(u, &c, t->answer, t->answer_len);
     case WORK_MST1: return plain_work_mst1(u, &c, t->answer, t->answer_len);

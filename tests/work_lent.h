@@ -19,7 +19,7 @@ struct lent {
     size_t words, left_len, right_len, weight_len, mark_len, count, answer_len;
 };
 
-enum work_door { WORK_STRIKE, WORK_ADD, WORK_MERGE, WORK_CST, WORK_OTHER, WORK_MST1, WORK_PATHS, WORK_DOORS };
+enum work_door { WORK_STRIKE, WORK_ADD, WORK_MERGE, WORK_CARRY, WORK_CST, WORK_OTHER, WORK_MST1, WORK_PATHS, WORK_DOORS };
 
 extern const char *const WORK_NAMES[WORK_DOORS];
 

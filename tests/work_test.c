@@ -107,6 +107,12 @@ static struct star_answer least(uint32_t n) {
     return a;
 }
 
+/* Carries the marks through the numbers as they are. */
+static void carry_marks(uint32_t n) {
+    struct ask q = ask_of(WORK_CARRY, n);
+    compare(&q);
+}
+
 /* Makes a call that packs, between two checks of a claim: the second sees the rows that were in use before. */
 static void packing(const struct ask *q) {
     struct star_answer before, after, total[2];
@@ -117,7 +123,7 @@ static void packing(const struct ask *q) {
     compare(q);
     if (t.answer[0] != STAR_PASSED) return;
     added = q->door == WORK_ADD ? (size_t)star_read_answer(t.answer).amount : 0;
-    star_carry_marks(t.mark, t.numbers);
+    carry_marks(q->n);
     if (added) star_set_in_use(t.in_use, added, 0);
     after = judged(q->n);
     total[1] = least(q->n);
@@ -156,6 +162,16 @@ static void merge(uint32_t n, int sound) {
     else compare(&q);
 }
 
+/* Carries marks through numbers that no packing gives: some name no row, some the same one. */
+static void carry(uint32_t n) {
+    size_t i;
+    for (i = 0; i < STAR_MAX_ROWS; i++) {
+        if (any(4) == 0) t.numbers[i] = any(STAR_MAX_ROWS + 4);
+        if (any(400) == 0) t.numbers[i] = (uint32_t)bits();
+    }
+    carry_marks(n);
+}
+
 static void procedure(uint32_t n) {
     struct ask q = ask_of(WORK_CST, n);
     if (t.answer_len == STAR_ANSWER_BYTES) claim(n);
@@ -175,6 +191,7 @@ static void sequence(unsigned long k) {
         if (what < 6) strike(n);
         else if (what < 10) add(n, sound);
         else if (what < 13) merge(n, sound);
+        else if (what < 14) carry(n);
         else procedure(n);
         lent_lengths(&t);
     }
@@ -187,8 +204,8 @@ int main(int count, char **words) {
     for (door = WORK_STRIKE; door < WORK_DOORS; door++) tell(50 * done[door] >= sequences, "the share of calls that are not refused");
     tell(10 * carried >= sequences && 100 * carried_by_add >= sequences && 100 * only >= sequences && 50 * packs >= sequences && 200 * refused[17] >= sequences && 50 * refused[18] >= sequences && 20 * refused[3] >= sequences,
               "the share of claims that are carried, and of the refusals");
-    printf("%lu sequences, %lu calls: %lu strikes, %lu adds (%lu after row 1024), %lu merges, %lu checks, builds and paths; ", sequences, calls,
-           done[WORK_STRIKE], done[WORK_ADD], packs, done[WORK_MERGE], done[WORK_CST] + done[WORK_OTHER] + done[WORK_MST1] + done[WORK_PATHS]);
+    printf("%lu sequences, %lu calls: %lu strikes, %lu adds (%lu after row 1024), %lu merges, %lu carried claims, %lu checks, builds and paths; ", sequences, calls,
+           done[WORK_STRIKE], done[WORK_ADD], packs, done[WORK_MERGE], done[WORK_CARRY], done[WORK_CST] + done[WORK_OTHER] + done[WORK_MST1] + done[WORK_PATHS]);
     print_refused(numbers);
     printf("\n%lu passed claims carried through the numbers, %lu of them by an add that packs, %lu of them the only cheapest network\n", carried, carried_by_add, only);
     return told();

@@ -1,23 +1,16 @@
 -- The bytes of a claim that is carried: each at its row's number, 0 elsewhere. Assumes nothing.
 use Prim.Native.Nat.{ℕ, zero, suc, _-_, _≤_, _<_}
-use lib.ListN.{length, getD, replicate, length-set, length-replicate, getD-replicate, List·getD-eq-default}
+use lib.ListN.{length, getD, replicate, length-replicate, getD-replicate, List·getD-eq-default}
 use lib.Seq.{getD-set-same, getD-set-other}
 use mathlib.Core.List.{List, [], _∷_}
 use mathlib.Core.Logic.{_≢_, by-cases}
 use mathlib.Core.Path.{_≡_, refl, sym, ap, _∙_}
 use native.Mathlib.Decide.{decLe}
 use native.Mathlib.Omega.{arith}
-use Rattle.packing.specs.Carrying.{broughtTo, carriedClaim}
 use Rattle.rowset.specs.Bytes.{inRow}
 use Rattle.star.proofs.Claims.{inRow-byte}
-
--- the length stays
-brought-length : (numbers claim column : List ℕ) → length (broughtTo numbers claim column) ≡ length column
-unfolding broughtTo
-brought-length [] claim column = refl
-brought-length (number ∷ numbers) [] column = refl
-brought-length (zero ∷ numbers) (byte ∷ claim) column = brought-length numbers claim column
-brought-length (suc k ∷ numbers) (byte ∷ claim) column = length-set (broughtTo numbers claim column) k byte ∙ brought-length numbers claim column
+use Rattle.worktable.proofs.Carrying.{brought-length}
+use Rattle.worktable.specs.Carrying.{broughtTo, carriedClaim}
 
 -- the byte at a position that one number alone names
 brought-at : (numbers claim column : List ℕ) (j k : ℕ) → j < length numbers → j < length claim → k < length column → getD numbers j 0 ≡ suc k → ((i : ℕ) → getD numbers i 0 ≡ suc k → i ≡ j) → getD (broughtTo numbers claim column) k 0 ≡ getD claim j 0
@@ -35,14 +28,14 @@ brought-at (suc h ∷ numbers) (byte ∷ claim) column (suc j) k a b l e one =
     ∙ brought-at numbers claim column j k (omega arith) (omega arith) l e (λ i q. let s = one (suc i) q in omega arith)
 
 -- the byte at a position that no number names
-brought-none : (numbers claim column : List ℕ) (k : ℕ) → ((i : ℕ) → getD numbers i 0 ≢ suc k) → getD (broughtTo numbers claim column) k 0 ≡ getD column k 0
+brought-unnamed : (numbers claim column : List ℕ) (k : ℕ) → ((i : ℕ) → getD numbers i 0 ≢ suc k) → getD (broughtTo numbers claim column) k 0 ≡ getD column k 0
 unfolding broughtTo
-brought-none [] claim column k never = refl
-brought-none (number ∷ numbers) [] column k never = refl
-brought-none (zero ∷ numbers) (byte ∷ claim) column k never = brought-none numbers claim column k (λ i. never (suc i))
-brought-none (suc h ∷ numbers) (byte ∷ claim) column k never =
+brought-unnamed [] claim column k never = refl
+brought-unnamed (number ∷ numbers) [] column k never = refl
+brought-unnamed (zero ∷ numbers) (byte ∷ claim) column k never = brought-unnamed numbers claim column k (λ i. never (suc i))
+brought-unnamed (suc h ∷ numbers) (byte ∷ claim) column k never =
     getD-set-other (broughtTo numbers claim column) h k byte 0 (λ q. never 0 (ap suc (sym q)))
-    ∙ brought-none numbers claim column k (λ i. never (suc i))
+    ∙ brought-unnamed numbers claim column k (λ i. never (suc i))
 
 module _ (numbers claim : List ℕ) where
   pub carried-length : length (carriedClaim numbers claim) ≡ length claim
@@ -66,7 +59,7 @@ module _ (numbers claim : List ℕ) where
   carried-none zero never = refl
   carried-none (suc k) never =
       inRow-byte (carriedClaim numbers claim) k
-      ∙ brought-none numbers claim (replicate (length claim) 0) k (λ i q. never i q (omega arith))
+      ∙ brought-unnamed numbers claim (replicate (length claim) 0) k (λ i q. never i q (omega arith))
       ∙ by-cases (decLe (suc k) (length claim)) (λ h. getD-replicate (length claim) k 0 0 h) (λ h. List·getD-eq-default (replicate (length claim) 0) 0 (outside h))
     where
       outside : (suc k ≤ length claim → ⊥) → length (replicate {A = ℕ} (length claim) 0) ≤ k

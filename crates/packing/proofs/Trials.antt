@@ -4,7 +4,6 @@ use mathlib.Core.Bool.{xor}
 use mathlib.Core.Path.{refl}
 use Rattle.graph.specs.Graph.{crosses, withEnds, step, grow, joined}
 use Rattle.graph.specs.Tree.{onPath}
-use Rattle.packing.specs.Carrying.{broughtTo, carriedClaim}
 use Rattle.packing.specs.Trials.{TrialsHold}
 use Rattle.rowset.specs.Bytes.{little, inRow}
 use Rattle.rowset.specs.Integers.{fromBits, total}
@@ -16,10 +15,11 @@ use Rattle.star.specs.Call.{used, graphOf, weightOf, marked, claimed, claimWeig
 use Rattle.star.specs.Cst.{between, heavier, improves, rowIn, rowOut, equals, replaces, equalIn, only, judged, verdict, cst}
 use Rattle.star.specs.MatrixPath.{pathColumn}
 use Rattle.star.specs.Refusals.{cause, causeAt, badVertices, tooManyRows, badLengths, wrongRow, badEnds, badRow, repeatsAbove, repeats, repeatedRow, wrongByte, badClaim, badCount, unjoined, tableCauses, cstCauses, orElse, refusal}
+use Rattle.worktable.specs.Carrying.{broughtTo, carriedClaim}
 use Rattle.worktable.specs.Changes.{afterwards, packedTable, merged}
 use Rattle.worktable.specs.Packing.{keptFrom, keptRows, packed, newNumber, ownNumber, numbersFrom}
 use Rattle.worktable.specs.Tables.{badSizes, mergeRefusal}
 
 pub trials-hold : TrialsHold
 unfolding xor crosses withEnds step grow joined onPath broughtTo carriedClaim little inRow fromBits total greaterThan sameAs empty upTo both oneOf without put takeOut any firstOf uppermost sum count these wordAt columnWordsFrom inWords used graphOf weightOf marked claimed claimWeight between heavier improves rowIn rowOut equals replaces equalIn only judged verdict cst pathColumn cause causeAt badVertices tooManyRows badLengths wrongRow badEnds badRow repeatsAbove repeats repeatedRow wrongByte badClaim badCount unjoined tableCauses cstCauses orElse refusal afterwards packedTable merged keptFrom keptRows packed newNumber ownNumber numbersFrom badSizes mergeRefusal
-trials-hold = (refl, refl, refl)
+trials-hold = refl

@@ -1,3 +1,2 @@
-pub mod Carrying
 pub mod Packing
 pub mod Trials

@@ -10,13 +10,13 @@ use mathlib.Core.Option.{none}
 use mathlib.Core.Path.{_≡_}
 use Rattle.demand3.specs.Demand3.{ClaimTree, LeastClaim}
 use Rattle.graph.specs.LeastTotal.{leastTotal}
-use Rattle.packing.specs.Carrying.{carriedClaim}
 use Rattle.rowset.specs.Bytes.{inRow}
 use Rattle.star.specs.Accepted.{AcceptedTable}
 use Rattle.star.specs.Call.{Call, workOf, graphOf, weightOf, claimWeight}
 use Rattle.star.specs.Cst.{passed, cst}
 use Rattle.star.specs.Mst1.{mst1}
 use Rattle.star.specs.Refusals.{maxRows}
+use Rattle.worktable.specs.Carrying.{carriedClaim}
 use Rattle.worktable.specs.Changes.{struckWords, merged, roomMade, newRow, added}
 use Rattle.worktable.specs.Meaning.{numberOf}
 use Rattle.worktable.specs.Tables.{Working, working, inUse, mergeRefusal, addRefusal}

@@ -1,4 +1,4 @@
--- Laws of the refusals of striking, MERGE and adding a row, and of what each leaves behind, case by case.
+-- Laws of the refusals of striking, MERGE, adding a row and carrying a claim, and of what each leaves behind, case by case.
 -- Assumes nothing.
 use Prim.Native.Nat.{ℕ}
 use borrow.Author.Tests.{eq-eqb, ne-eqb}
@@ -12,6 +12,7 @@ use Rattle.refusal.specs.declared.Refusal.{Refusal}
 use Rattle.rowset.specs.Sets.{takeOut, count}
 use Rattle.rowset.specs.Words.{columnWords, inWords}
 use Rattle.star.specs.Refusals.{maxRows, cause, orElse, refusal}
+use Rattle.worktable.specs.Carrying.{carriedClaim, wrongCarry, carryRefusal, carriedMarks}
 use Rattle.worktable.specs.Changes.{afterwards, wordsOf, struckWords, packedTable, merged, roomMade, newRow, withNewRow, added, unadded, addedAt, answered, addAnswer}
 use Rattle.worktable.specs.Tables.{Working, inUse, badSizes, tableFull, notInUse, strikeRefusal, mergeRefusal, addRefusal}
 use Rattle.worktable.proofs.Tables.{wrong}
@@ -99,3 +100,22 @@ module _ (t : Working) where
     pub added-table : addRefusal t ≡ none → added t a b price ≡ withNewRow (roomMade t) (newRow (roomMade t)) a b price
     unfolding added
     added-table = made-new (addRefusal t) _ t
+
+-- ── Carrying ──
+
+module _ (numbers claim : List ℕ) where
+  pub carry-wrong : wrongCarry (length numbers) (length claim) ≡ true → carryRefusal numbers claim ≡ no 3
+  unfolding carryRefusal cause
+  carry-wrong e = rw e
+
+  pub carry-done : wrongCarry (length numbers) (length claim) ≡ false → carryRefusal numbers claim ≡ none
+  unfolding carryRefusal cause
+  carry-done e = rw e
+
+  pub uncarried : (r : Refusal) → carryRefusal numbers claim ≡ some r → carriedMarks numbers claim ≡ claim
+  unfolding carriedMarks
+  uncarried r = kept-old (carryRefusal numbers claim) r _ claim
+
+  pub carried : carryRefusal numbers claim ≡ none → carriedMarks numbers claim ≡ carriedClaim numbers claim
+  unfolding carriedMarks
+  carried = made-new (carryRefusal numbers claim) _ claim

@@ -14,6 +14,9 @@ ghost use Rattle.working.specs.Answers.{answerOf};
 ghost use Rattle.worktable.specs.Changes.{wordsOf, struckWords, merged, packedTable, roomMade, added, addAnswer};
 ghost use Rattle.worktable.specs.Packing.{keptRows, packed, newNumber, ownNumber, numbersFrom, lowermost, withRow};
 ghost use Rattle.worktable.specs.Tables.{working, wrongSizes, strikeRefusal, mergeRefusal};
+
+pub mod carry; // carry.rt: a claim carried through the numbers
+
 use refusal::Outcome;
 use refusal::Refusal;
 use slice::SIZE;
@@ -33,7 +36,7 @@ pub enum Added {
 }
 
 // The refusal with this number and place 0.
-fn because(number: u32) -> Refusal
+pub(crate) fn because(number: u32) -> Refusal
     ensures { λ r. ⌜ r ≡ record { number = number; place = 0 } ⌝ }
 {
     Refusal {
@@ -88,7 +91,7 @@ fn keep_rows(column: &mut [u8], x: Slice, width: usize) -> usize
 }
 
 // The bytes of a column from an index on become 0.
-fn clear_from(column: &mut [u8], from: usize)
+pub(crate) fn clear_from(column: &mut [u8], from: usize)
     requires { ⌜ from ≤ length (now column) ⌝ }
     ensures { λ u. ⌜ now (column .exit) ≡ take from (now (column .entry)) ++ replicate (length (now (column .entry)) - from) 0 ⌝ }
 {
@@ -125,7 +128,7 @@ fn number_rows(numbers: &mut [u32], x: Slice, packing: bool)
 }
 
 // Bytes are written into a column from an index on.
-fn write_bytes(column: &mut [u8], start: usize, bytes: &[u8])
+pub(crate) fn write_bytes(column: &mut [u8], start: usize, bytes: &[u8])
     requires { ⌜ start + length (now bytes) ≤ length (now column) ⌝ }
     ensures { λ u. ⌜ now (column .exit) ≡ take start (now (column .entry)) ++ now (bytes .entry) ++ drop (start + length (now (bytes .entry))) (now (column .entry)) ⌝ }
 {

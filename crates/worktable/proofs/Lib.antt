@@ -5,4 +5,5 @@ pub mod Numbers
 pub mod Columns
 pub mod Rows
 pub mod Meaning
+pub mod Carrying
 pub mod Trials

@@ -21,11 +21,11 @@ use Rattle.worktable.proofs.Packing.{packed-length, lowermost-below}
 use Rattle.worktable.proofs.Words.{words-hold, first-rows}
 
 -- neither of two tests holds
-or-false-both : (x y : Bool) → (x || y) ≡ false → (x ≡ false) × (y ≡ false)
+pub or-false-both : (x y : Bool) → (x || y) ≡ false → (x ≡ false) × (y ≡ false)
 or-false-both true y e = clash refl e
 or-false-both false y e = (refl, e)
 
-same : (n m : ℕ) → not (eqb n m) ≡ false → n ≡ m
+pub same : (n m : ℕ) → not (eqb n m) ≡ false → n ≡ m
 same n m e = eqb-true n m (not-false _ e)
 
 -- the lengths of a table's parts

@@ -7,12 +7,13 @@ use Rattle.rowset.specs.Trials.{these}
 use Rattle.rowset.specs.Words.{wordAt, columnWordsFrom, inWords}
 use Rattle.star.specs.Door.{bytesOf, fields, outcomeFields, fieldBytes, wellLent, answerAfter}
 use Rattle.star.specs.Refusals.{cause, orElse, refusal}
+use Rattle.worktable.specs.Carrying.{broughtTo, carriedClaim, carryRefusal, carriedMarks}
 use Rattle.worktable.specs.Changes.{afterwards, struckWords, packedTable, merged, unpackedTable, packedIf, roomMade, newRow, withNewRow, added, answered, addAnswer}
-use Rattle.worktable.specs.Door.{addFields, strikeDoor, strikeDoorWords, mergeDoor, mergeDoorTable, addDoor, addDoorTable}
+use Rattle.worktable.specs.Door.{addFields, strikeDoor, strikeDoorWords, mergeDoor, mergeDoorTable, addDoor, addDoorTable, carryDoor, carryDoorMarks}
 use Rattle.worktable.specs.Packing.{keptFrom, keptRows, packed, newNumber, ownNumber, numbersFrom, lowermost, withRow}
 use Rattle.worktable.specs.Tables.{badSizes, tableFull, notInUse, strikeRefusal, mergeRefusal, addRefusal}
 use Rattle.worktable.specs.Trials.{TrialsHold}
 
 pub trials-hold : TrialsHold
-unfolding empty upTo put takeOut sum count these wordAt columnWordsFrom inWords bytesOf cause orElse refusal afterwards struckWords packedTable merged unpackedTable packedIf roomMade newRow withNewRow added answered addAnswer keptFrom keptRows packed newNumber ownNumber numbersFrom lowermost withRow badSizes tableFull notInUse strikeRefusal mergeRefusal addRefusal toBits fieldBytes wellLent answerAfter fields outcomeFields addFields strikeDoor strikeDoorWords mergeDoor mergeDoorTable addDoor addDoorTable
-trials-hold = (refl, refl, refl, refl, refl, refl, refl, refl, refl, refl, refl, refl, refl, refl)
+unfolding empty upTo put takeOut sum count these wordAt columnWordsFrom inWords bytesOf cause orElse refusal afterwards struckWords packedTable merged unpackedTable packedIf roomMade newRow withNewRow added answered addAnswer keptFrom keptRows packed newNumber ownNumber numbersFrom lowermost withRow badSizes tableFull notInUse strikeRefusal mergeRefusal addRefusal toBits fieldBytes wellLent answerAfter fields outcomeFields addFields strikeDoor strikeDoorWords mergeDoor mergeDoorTable addDoor addDoorTable broughtTo carriedClaim carryRefusal carriedMarks carryDoor carryDoorMarks
+trials-hold = (refl, refl, refl, refl, refl, refl, refl, refl, refl, refl, refl, refl, refl, refl, refl, refl, refl, refl, refl)

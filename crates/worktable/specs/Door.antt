@@ -6,6 +6,7 @@ use mathlib.Core.List.{List}
 use mathlib.Core.Option.{some}
 use lib.IntN.{pos}
 use Rattle.star.specs.Door.{Fields, outcomeFields, wellLent, answerAfter}
+use Rattle.worktable.specs.Carrying.{carryRefusal, carriedMarks}
 use Rattle.worktable.specs.Changes.{AddAnswer, unadded, addedAt, struckWords, merged, added, addAnswer}
 use Rattle.worktable.specs.Tables.{Working, strikeRefusal, mergeRefusal}
 
@@ -34,3 +35,10 @@ addDoor t answer = answerAfter answer (addFields (addAnswer t))
 
 unfoldable pub addDoorTable : Working → (a b price : ℕ) → (answer : List ℕ) → Working
 addDoorTable t a b price answer = cond (wellLent answer) (added t a b price) t
+
+-- carrying a claim: the answer and the claim
+unfoldable pub carryDoor : (numbers claim answer : List ℕ) → List ℕ
+carryDoor numbers claim answer = answerAfter answer (outcomeFields (carryRefusal numbers claim))
+
+unfoldable pub carryDoorMarks : (numbers claim answer : List ℕ) → List ℕ
+carryDoorMarks numbers claim answer = cond (wellLent answer) (carriedMarks numbers claim) claim

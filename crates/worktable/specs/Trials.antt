@@ -9,9 +9,11 @@ use lib.ListN.{replicate}
 use Rattle.refusal.specs.declared.Refusal.{Refusal}
 use Rattle.rowset.specs.Sets.{empty, upTo}
 use Rattle.rowset.specs.Trials.{these}
+use Rattle.star.specs.Refusals.{maxRows}
 use Rattle.star.specs.Trials.{small, because}
+use Rattle.worktable.specs.Carrying.{carriedClaim, carryRefusal, carriedMarks}
 use Rattle.worktable.specs.Changes.{AddAnswer, unadded, addedAt, wordsOf, struckWords, merged, added, addAnswer}
-use Rattle.worktable.specs.Door.{strikeDoor, strikeDoorWords, mergeDoor, mergeDoorTable, addDoor, addDoorTable}
+use Rattle.worktable.specs.Door.{strikeDoor, strikeDoorWords, mergeDoor, mergeDoorTable, addDoor, addDoorTable, carryDoor, carryDoorMarks}
 use Rattle.worktable.specs.Packing.{packed, newNumber, ownNumber, numbersFrom, lowermost, withRow}
 use Rattle.worktable.specs.Tables.{Working, working, strikeRefusal, mergeRefusal, addRefusal}
 
@@ -173,6 +175,49 @@ UnchangedHold =
 abbrev UnaddedHold : Type 0
 UnaddedHold = (addAnswer (sized four 3 2 4 1) ∷ addAnswer (sized (full 16) 3 2 4 1) ∷ []) ≡ (unadded (because 3 0) ∷ unadded (because 17 0) ∷ [])
 
+-- ── Carrying a claim ──
+
+-- the yard with rows 2, 4 and 5 in use, packed: each byte is at its row's new position; bytes of struck rows are dropped
+abbrev CarriedHold : Type 0
+CarriedHold =
+    (
+    carriedClaim (numbersFrom (newNumber (these (2 ∷ 4 ∷ 5 ∷ []))) 0 5) (7 ∷ 1 ∷ 7 ∷ 0 ∷ 1 ∷ [])
+    ∷ carriedClaim (numbersFrom (newNumber (these (2 ∷ 4 ∷ 5 ∷ []))) 0 5) (1 ∷ 3 ∷ 1 ∷ 4 ∷ 5 ∷ [])
+    -- each row at its own position; no row in use; all
+    ∷ carriedClaim (numbersFrom (ownNumber (these (2 ∷ 5 ∷ []))) 0 5) (1 ∷ 3 ∷ 1 ∷ 4 ∷ 5 ∷ [])
+    ∷ carriedClaim (numbersFrom (newNumber empty) 0 5) (1 ∷ 3 ∷ 1 ∷ 4 ∷ 5 ∷ [])
+    ∷ carriedClaim (numbersFrom (newNumber (upTo 5)) 0 5) (1 ∷ 3 ∷ 1 ∷ 4 ∷ 5 ∷ [])
+    ∷ [])
+    ≡ (
+    (1 ∷ 0 ∷ 1 ∷ 0 ∷ 0 ∷ [])
+    ∷ (3 ∷ 4 ∷ 5 ∷ 0 ∷ 0 ∷ [])
+    ∷ (0 ∷ 3 ∷ 0 ∷ 0 ∷ 5 ∷ [])
+    ∷ (0 ∷ 0 ∷ 0 ∷ 0 ∷ 0 ∷ [])
+    ∷ (1 ∷ 3 ∷ 1 ∷ 4 ∷ 5 ∷ [])
+    ∷ [])
+
+-- a claim of 1,024 bytes, of which rows 2 and 1,024 are in use
+abbrev LongHolds : Type 0
+LongHolds =
+    carriedClaim (numbersFrom (newNumber (these (2 ∷ 1024 ∷ []))) 0 maxRows) ((9 ∷ 3 ∷ replicate 1021 9) ++ (4 ∷ []))
+    ≡ (3 ∷ 4 ∷ replicate 1022 0)
+
+-- refusals: one number short, one long, one byte short, one long; 1,024 of both are carried
+abbrev CarryRefusalsHold : Type 0
+CarryRefusalsHold =
+    (
+    carryRefusal (replicate 1023 1) (replicate 1024 1) ∷ carryRefusal (replicate 1025 1) (replicate 1024 1)
+    ∷ carryRefusal (replicate 1024 1) (replicate 1023 1) ∷ carryRefusal (replicate 1024 1) (replicate 1025 1) ∷ carryRefusal [] []
+    ∷ carryRefusal (replicate 1024 1) (replicate 1024 1)
+    ∷ [])
+    ≡ (no 3 ∷ no 3 ∷ no 3 ∷ no 3 ∷ no 3 ∷ none ∷ [])
+
+-- numbers that no MERGE gives: of two rows with one number the upper one's byte stays, and a number past the column names none
+abbrev AnyNumbersHold : Type 0
+AnyNumbersHold =
+    (carriedMarks (2 ∷ 2 ∷ 1 ∷ replicate 1021 0) (7 ∷ 8 ∷ 9 ∷ replicate 1021 1) ∷ carriedMarks (1025 ∷ 3 ∷ replicate 1022 0) (replicate 1024 5) ∷ carriedMarks (0 ∷ []) (7 ∷ []) ∷ [])
+    ≡ ((9 ∷ 7 ∷ replicate 1022 0) ∷ (0 ∷ 0 ∷ 5 ∷ replicate 1021 0) ∷ (7 ∷ []) ∷ [])
+
 -- ── The doors ──
 
 -- sevens in the lent answer
@@ -207,7 +252,21 @@ DoorTablesHold =
     ∷ added (yard (2 ∷ 5 ∷ [])) 2 4 7 ∷ yard (2 ∷ 5 ∷ [])
     ∷ [])
 
+-- a claim through the door: carried where the answer has sixteen bytes and the lengths are right, else as it was
+abbrev CarryDoorsHold : Type 0
+CarryDoorsHold =
+    (
+    carryDoor (0 ∷ 1 ∷ replicate 1022 0) (replicate 1024 5) (sevens 16) ∷ carryDoorMarks (0 ∷ 1 ∷ replicate 1022 0) (replicate 1024 5) (sevens 16)
+    ∷ carryDoor [] (replicate 1024 5) (sevens 16) ∷ carryDoorMarks [] (5 ∷ []) (sevens 16)
+    ∷ carryDoor (0 ∷ 1 ∷ replicate 1022 0) (replicate 1024 5) (sevens 15) ∷ carryDoorMarks (0 ∷ 1 ∷ replicate 1022 0) (replicate 1024 5) (sevens 15)
+    ∷ [])
+    ≡ (
+    (1 ∷ replicate 15 0) ∷ (5 ∷ replicate 1023 0)
+    ∷ (0 ∷ 3 ∷ replicate 14 0) ∷ (5 ∷ [])
+    ∷ sevens 15 ∷ replicate 1024 5
+    ∷ [])
+
 -- all trials of this crate
 abbrev pub TrialsHold : Type 0
 TrialsHold =
-    ColumnsHold × NumbersHold × MergeHolds × AddHolds × PackedAddHolds × FirstAddHolds × StrikesHold × StrikeRefusalsHold × UnstruckHold × SizesHold × UnchangedHold × UnaddedHold × DoorsHold × DoorTablesHold
+    ColumnsHold × NumbersHold × MergeHolds × AddHolds × PackedAddHolds × FirstAddHolds × StrikesHold × StrikeRefusalsHold × UnstruckHold × SizesHold × UnchangedHold × UnaddedHold × DoorsHold × DoorTablesHold × CarriedHold × LongHolds × CarryRefusalsHold × AnyNumbersHold × CarryDoorsHold

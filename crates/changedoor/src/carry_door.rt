@@ -1,0 +1,22 @@
+// Carrying a claim through the numbers of MERGE or of an add, for C.
+use answer::of_outcome;
+use answer::write_answer;
+ghost use mathlib.Core.Path.{_≡_};
+ghost use Rattle.star.specs.Door.{doorReturns};
+ghost use Rattle.worktable.specs.Door.{carryDoor, carryDoorMarks};
+
+// Carrying through the door: each byte goes to its row's new position, and 0 stands elsewhere, where nothing is refused.
+#[no_mangle]
+pub extern "C" fn star_carry(numbers: &[u32], mark: &mut [u8], answer: &mut [u8]) -> u32
+    ensures returned { λ r. ⌜ r ≡ doorReturns (now (answer .entry)) ⌝ }
+    ensures answered { λ r. ⌜ now (answer .exit) ≡ carryDoor (now (numbers .entry)) (now (mark .entry)) (now (answer .entry)) ⌝ }
+    ensures marks { λ r. ⌜ now (mark .exit) ≡ carryDoorMarks (now (numbers .entry)) (now (mark .entry)) (now (answer .entry)) ⌝ }
+{
+    if answer.len() != 16 {
+        return 0;
+    }
+    let o = working::carry::carry(numbers, mark);
+    let x = of_outcome(o);
+    write_answer(answer, x);
+    1
+}
