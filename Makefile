@@ -1,62 +1,94 @@
-# make           the library over the proved core, the console, and the programs readstp and diglist
-# make run       checks the yard
-# make test      the whole gate: proofs, must-fail edits, programs, tests from outside
+# make run       compiles the console without proving it, says whether the record of the gate (crates.sum) has it, and checks the yard
+# make           the same library and console, and the programs readstp and diglist
+# make console   the C anew over the archives that are there
+# make prove     proves every crate here, with how far it is, and builds all over the proved archives
+# make test      the whole gate: proofs, must-fail edits, programs, the record, tests from outside
+# make sums      writes crates.sum anew, from the proved archives
+# make manual    the sections of the manual page and of the documents that are made from the table of commands (console/pages.c)
 # make bench     times the doors against other libraries, where they are installed, and plots the times (target/c/bench.svg)
 # make counts    the instructions of each call of the bench, by callgrind
-# make manual    the sections of the manual page and of the documents that are made from the table of commands (console/pages.c)
-# make install PREFIX=DIR     the header, the library, the console, its manual page, the pkg-config file; needs no toolchain once all is built
+# make install PREFIX=DIR     the header, the library, the console, its manual page, the pkg-config file: if they are proved here or are of the record
 # make uninstall PREFIX=DIR   removes these files
 CC ?= cc
 CXX ?= c++
 CFLAGS ?= -O2 -g -Wall -Wextra -Wpedantic
 CXXFLAGS ?= -O2
 PREFIX ?= /usr/local
+PYTHON ?= python3 -B
+JOBS ?= $(shell nproc 2>/dev/null || echo 2)
 BUILD := target/c
 # The crates whose functions for C the library is made of.
 DOORS := door workdoor changedoor importdoor digsdoor quotedoor breakingdoor whichdoor districtsdoor menddoor outletsdoor
-STAMPS := $(DOORS:%=target/stamp/%) target/stamp/programs
-ARCHIVES := $(DOORS:%=target/staticlib/lib%.a)
-ARCHIVE := $(BUILD)/libproved.a
+# The archives over which the C is built: compiled without a proof, until make prove puts the proved ones there.
+OBJECTS := target/objects
+ARCHIVES := $(DOORS:%=$(OBJECTS)/lib%.a)
+ARCHIVE := $(BUILD)/libcore.a
 LIBRARY := $(BUILD)/libstar.a
 CONSOLE := $(sort $(wildcard console/*.c))
 # The programs that read an STP text on standard input, and the archive of their functions.
 READSTP := $(BUILD)/readstp
 DIGLIST := $(BUILD)/diglist
-RUNS := target/staticlib/libprograms.a
+RUNS := $(OBJECTS)/libprograms.a
 # The kit, for the C that its library os asks for: the words of an error.
-KIT = $(or $(RATTLE_HOME),$(patsubst %/bin/rt,%,$(realpath $(shell command -v rt))))
+KIT = $(shell sh tools/kit.sh)
 VERSION := $(shell sed -n 's/^\#define STAR_VERSION "\(.*\)"/\1/p' include/star.h)
 
-all: $(BUILD)/star $(READSTP) $(DIGLIST)
+all: $(BUILD)/star programs tell
 
-# rt proves the core, and does nothing where nothing has changed. On a fresh machine that takes minutes: a line a crate that is proved is
-# shown, and all that rt prints is kept in a log. The status stands in the log's last line.
-define PROVE
-@mkdir -p target; began=$$(date +%s); log=target/make-$(2).log; echo "proving what has changed; the log is $$log"; \
-{ rt $(1) 2>&1; echo "status $$?"; } | tee $$log | grep --line-buffered '^rt: ' | grep --line-buffered -v 'unchanged since'; \
-tail -n 1 $$log | grep -q '^status 0$$' || { tail -n 40 $$log; exit 1; }; \
-echo "proved ($$(($$(date +%s) - began)) s in all)"
+# Compiles the archives of some crates without a proof, several at once, and keeps the kit's identity beside them.
+define COMPILE
+@mkdir -p $(OBJECTS); sh tools/kit.sh --id >$(OBJECTS)/kit
+@echo "compiling $(words $(1)) archives, $(JOBS) at a time"
+@printf '%s\n' $(1) | xargs -P $(JOBS) -I CRATE sh tools/compile.sh CRATE $(OBJECTS)/libCRATE.a
 endef
 
-# What is installed is taken as it was built: make install alone asks rt for nothing that is there.
-ifneq ($(filter-out install uninstall manual,$(or $(MAKECMDGOALS),all)),)
-$(ARCHIVES) $(RUNS): target/staticlib/lib%.a: target/stamp/%
+# Where the archives are taken as they are, none is compiled that is there: no kit is needed then.
+TAKEN := console checked install uninstall manual
+ifneq ($(filter-out $(TAKEN),$(or $(MAKECMDGOALS),all)),)
+SOURCES := crates.txt tools/compile.sh $(sort $(shell find crates -path '*/src/*' -name '*.rt'))
 endif
 
-# The crates of the doors and of the programs. rt writes a crate's stamp where it has proved it anew, and leaves it as it is otherwise.
-proved:
-	$(call PROVE,check $(DOORS) programs,library)
-$(STAMPS): proved ;
-
-# rt proves a crate once more before it writes its archive: that is done only where its stamp is newer.
-$(ARCHIVES) $(RUNS): target/staticlib/lib%.a:
-	$(call PROVE,staticlib $*,$*)
+$(OBJECTS)/doors: $(SOURCES)
+	@mkdir -p $(OBJECTS) && touch $@.new
+	$(call COMPILE,$(DOORS))
+	@mv $@.new $@
+$(ARCHIVES): $(OBJECTS)/doors
+	@[ -e $@ ] || sh tools/compile.sh $(@:$(OBJECTS)/lib%.a=%) $@
+$(RUNS): $(SOURCES)
+	$(call COMPILE,programs)
 
 # One archive of all: each has one member, named after its crate, whose only global symbols are its functions for C.
 $(ARCHIVE): $(ARCHIVES) Makefile
 	@mkdir -p $(BUILD)
 	@rm -f $@
 	@{ echo "create $@"; printf 'addlib %s\n' $(ARCHIVES); echo save; echo end; } | $(AR) -M
+
+# Whether what is built is proved here, of the record, or not proved: one line.
+tell: $(ARCHIVES)
+	@$(PYTHON) tools/record.py tell $(OBJECTS) $(DOORS)
+
+# The same of the library that is to be installed; it fails where it is neither.
+checked: $(LIBRARY)
+	@$(PYTHON) tools/record.py library $(LIBRARY) $(OBJECTS) $(DOORS)
+
+# Proves every crate that has changed, once each, and builds all over the proved archives.
+prove:
+	$(PYTHON) tools/prove.py $(DOORS)
+	@$(MAKE) --no-print-directory all
+
+# The record anew: proves what has changed, then takes the sources and the code of the proved archives.
+sums:
+	$(PYTHON) tools/prove.py $(DOORS) programs
+	$(PYTHON) tools/record.py write target/staticlib crates.sum $(DOORS) programs
+
+# The gate, after every crate was proved from nothing: the archives from the proved code, and the record held against them.
+recorded:
+	$(PYTHON) tools/prove.py --archives $(DOORS) programs
+	$(PYTHON) tools/record.py check target/staticlib $(DOORS) programs
+
+console: $(BUILD)/star
+
+programs: $(READSTP) $(DIGLIST)
 
 # The proved functions of the two programs, and a few lines of C that end with the status that they give.
 $(READSTP) $(DIGLIST): $(BUILD)/%: programs/%.c $(RUNS)
@@ -148,7 +180,7 @@ $(BUILD)/manual: console/manual/manual.c console/pages.c console/pages.h
 manual: $(BUILD)/manual
 	for file in $(wildcard console/star.1 README.md docs/GUIDE.md); do $(BUILD)/manual <$$file >$(BUILD)/made && cp $(BUILD)/made $$file || exit 1; done
 
-run: $(BUILD)/star
+run: $(BUILD)/star tell
 	$(BUILD)/star check console/examples/yard.txt
 
 test:
@@ -170,7 +202,7 @@ LIBRARIES := $(DESTDIR)$(PREFIX)/lib
 PROGRAMS := $(DESTDIR)$(PREFIX)/bin
 MANUALS := $(DESTDIR)$(PREFIX)/share/man/man1
 
-install: $(BUILD)/star $(READSTP) $(DIGLIST)
+install: checked $(BUILD)/star
 	install -d $(INCLUDES) $(LIBRARIES)/pkgconfig $(PROGRAMS) $(MANUALS)
 	install -m 644 include/star.h $(INCLUDES)/star.h
 	install -m 644 $(LIBRARY) $(LIBRARIES)/libstar.a
@@ -185,7 +217,9 @@ clean:
 	rm -rf target
 
 # What else C and Python programmers get.
--include library.mk
 
-FORCE:
-.PHONY: all proved manual run test outside bench counts install uninstall clean FORCE
+# The shared library and the packages over it, and the interactive page. Nothing is installed that is not proved here or of the record.
+-include library.mk page.mk
+install-library: checked
+
+.PHONY: all tell checked prove sums recorded console programs manual run test outside bench counts install uninstall clean

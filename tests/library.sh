@@ -1,6 +1,6 @@
 #!/usr/bin/env bash
-# Tests of what C programmers get: what make installs, the pkg-config file, the manual page, the example program, the texts; and what make
-# prints while the core is proved. Needs all to be built.
+# Tests of what C programmers get: what make installs, the pkg-config file, the manual page, the example program, the texts.
+# Needs all to be built.
 # usage: library.sh   Ends in one line 'N passed, M failed'.
 set -u
 cd "$(dirname "$0")/.."
@@ -235,42 +235,6 @@ for word in "opens with 'struck'" '-o OUTPUT' '5 the output'; do holds "help $wo
 touch "$to/bin/other"
 holds uninstall make uninstall "PREFIX=$to"
 holds uninstalled [ "$(find "$to" -not -type d)" = "$to/bin/other" ]
-
-# While the core is proved make shows a line a crate, and keeps all in a log; where it is not proved make fails, and shows the log's end.
-cp -r Makefile include console "$work/no-rt"
-cat >"$work/no-rt/rt" <<'TEXT'
-#!/bin/sh
-echo "$*" >>asked
-echo "fn rowset::a: proved"; echo "library std: modules loaded=0"; echo "rt: rowset proved (12 s)"; echo "rt: slice proved (unchanged since it was last proved)"
-[ -e fault ] && { echo "door.rt:1: error: no proof"; exit 1; }
-mkdir -p target/staticlib target/stamp
-if [ "$1" = staticlib ]; then cp "$BUILT/staticlib/lib$2.a" target/staticlib; exit; fi
-shift
-for crate in "$@"; do [ -e "target/stamp/$crate" ] || cp "$BUILT/stamp/$crate" target/stamp; done
-TEXT
-export BUILT=$PWD/target
-(cd "$work/no-rt" && PATH="$work/no-rt:$PATH" make -s run) >"$work/run" 2>&1
-holds run-crates grep -qx 'rt: rowset proved (12 s)' "$work/run"
-holds run-short fails grep -q '^fn \|^library\|slice' "$work/run"
-holds run-log grep -qx 'fn rowset::a: proved' "$work/no-rt/target/make-library.log"
-holds run-named grep -q 'target/make-library.log' "$work/run"
-holds run-time grep -Eqx 'proved \([0-9]+ s in all\)' "$work/run"
-holds run-verdict grep -q 'Total 12' "$work/run"
-# Where nothing has changed no archive is made anew, and where one crate is proved anew only its own.
-archives() { grep -c '^staticlib' "$work/no-rt/asked"; }
-made=$(archives)
-(cd "$work/no-rt" && PATH="$work/no-rt:$PATH" make -s) >"$work/run" 2>&1
-holds run-again [ "$(archives)" = "$made" ]
-sleep 1
-touch "$work/no-rt/target/stamp/door"
-(cd "$work/no-rt" && PATH="$work/no-rt:$PATH" make -s) >"$work/run" 2>&1
-holds run-one [ "$(tail -n 1 "$work/no-rt/asked")" = 'staticlib door' ]
-holds run-one-alone [ "$(archives)" = "$((made + 1))" ]
-touch "$work/no-rt/fault"
-(cd "$work/no-rt" && PATH="$work/no-rt:$PATH" make -s run) >"$work/run" 2>&1
-holds run-fails [ $? != 0 ]
-holds run-error grep -q 'error: no proof' "$work/run"
-holds readme grep -q 'minutes' README.md
 
 echo "$passed passed, $failed failed"
 [ "$failed" = 0 ]

@@ -130,6 +130,8 @@ bash tests/library.sh | tee "$work/library"
 add "$work/library"
 bash tests/installed.sh "$build" | tee "$work/installed"
 add "$work/installed"
+bash tests/record.sh | tee "$work/record"
+add "$work/record"
 
 echo "$passed passed, $failed failed"
 [ "$failed" = 0 ]

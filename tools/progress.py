@@ -1,0 +1,93 @@
+#!/usr/bin/env python3
+"""How far a run of the prover is: '37 of 80 crates, some 4 minutes left'.
+
+usage: rt ci | progress.py gate          passes the lines on, and says after each crate and each
+                                         tenth edit how far the run is
+       progress.py seconds LOG           the seconds of each crate in a log of rt, for seconds.txt
+"""
+import glob
+import os
+import re
+import sys
+import time
+
+import crates
+
+SECONDS = os.path.join(os.path.dirname(os.path.abspath(__file__)), 'seconds.txt')
+UNKNOWN = 8  # seconds of a crate that seconds.txt does not have
+PROVED = re.compile(r'rt: (\w+) proved \((\d+) s\)$')
+UNCHANGED = re.compile(r'rt: (\w+) proved \(unchanged')
+EDIT = re.compile(r'rt: must-fail (\w+)/')
+
+
+def read_seconds():
+    with open(SECONDS, encoding='utf-8') as file:
+        return {name: max(1, int(value)) for name, value in map(str.split, file)}
+
+
+class Progress:
+    """Work in parts, each with the seconds that it is held to take on one processor."""
+
+    def __init__(self, parts, jobs):
+        self.parts, self.left = dict(parts), dict(parts)
+        self.jobs, self.began, self.done = jobs, time.monotonic(), 0
+
+    def end(self, part, worked=True):
+        """A part has ended; where it was there before, no time was spent on it."""
+        seconds = self.left.pop(part, 0)
+        self.done += seconds if worked else 0
+
+    def minutes_left(self):
+        ratio = 1 / self.jobs
+        if self.done >= 30:
+            ratio = (time.monotonic() - self.began) / self.done
+        return sum(self.left.values()) * ratio / 60
+
+    def sentence(self):
+        minutes = round(self.minutes_left())
+        if minutes < 1:
+            return 'less than a minute left'
+        return f"some {minutes} minute{'' if minutes == 1 else 's'} left"
+
+
+def processors():
+    """The jobs of rt: RT_JOBS, or the processors, at most 4."""
+    return int(os.environ.get('RT_JOBS') or min(4, len(os.sched_getaffinity(0))))
+
+
+def gate():
+    """Follows rt ci: the crates, then the edits that must be refused."""
+    seconds, names = read_seconds(), list(crates.listed())
+    parts = {name: seconds.get(name, UNKNOWN) for name in names}
+    edits = [path.split('/')[1] for path in glob.glob('crates/*/must-fail/*.edit')]
+    for number, name in enumerate(edits):
+        parts['edit', number] = seconds.get(name, UNKNOWN)
+    progress, proved, tried = Progress(parts, processors()), 0, 0
+    sys.stdin.reconfigure(errors='replace')
+    for line in sys.stdin:
+        print(line, end='', flush=True)
+        crate, edit = PROVED.match(line), EDIT.match(line)
+        if crate:
+            proved += 1
+            progress.end(crate[1])
+        elif edit:
+            tried += 1
+            progress.end(('edit', tried - 1))
+        if crate or edit and tried % 10 == 0:
+            print(f'gate: {proved} of {len(names)} crates, {tried} of {len(edits)} wrong programs, '
+                  f'{progress.sentence()}', flush=True)
+
+
+def main(words):
+    if words == ['gate']:
+        gate()
+    elif len(words) == 2 and words[0] == 'seconds':
+        with open(words[1], encoding='utf-8') as file:
+            found = [PROVED.match(line) for line in file]
+        print('\n'.join(sorted(f'{m[1]} {m[2]}' for m in found if m)))
+    else:
+        sys.exit(__doc__)
+
+
+if __name__ == '__main__':
+    main(sys.argv[1:])
