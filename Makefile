@@ -95,17 +95,23 @@ $(READSTP) $(DIGLIST): $(BUILD)/%: programs/%.c $(RUNS)
 	@mkdir -p $(BUILD)
 	$(CC) -std=c99 $(CFLAGS) -o $@ $< $(RUNS) $(KIT)/lib/libos_c.a
 
-# The part of the library that is written in C. It is position-independent on purpose, as the proved objects are: the static and the shared
-# library have the same objects.
-PARTS := $(patsubst include/%.c,$(BUILD)/parts/%.o,$(sort $(wildcard include/*.c)))
-$(PARTS): $(BUILD)/parts/%.o: include/%.c $(wildcard include/*.h)
+# The part of the library that is written in C, with the console's reader of tables: one object, whose global names are those of the header. It is
+# position-independent on purpose, as the proved objects are: the static and the shared library have the same objects.
+READER := console/table.c console/text.c console/price.c
+PARTS := $(patsubst %.c,$(BUILD)/parts/%.o,$(sort $(wildcard include/*.c)) $(READER))
+$(PARTS): $(BUILD)/parts/%.o: %.c $(wildcard include/*.h console/*.h)
 	@mkdir -p $(@D)
 	$(CC) -std=c99 $(CFLAGS) -fPIC -Iinclude -c -o $@ $<
 
+$(BUILD)/star.o: $(PARTS) include/names.sed
+	$(CC) -r -nostdlib -o $@ $(PARTS)
+	sed -n -f include/names.sed include/star.h >$(BUILD)/names
+	objcopy --keep-global-symbols=$(BUILD)/names $@
+
 # The proved procedures and this part.
-$(LIBRARY): $(ARCHIVE) $(PARTS)
+$(LIBRARY): $(ARCHIVE) $(BUILD)/star.o
 	cp $(ARCHIVE) $@
-	$(AR) rs $@ $(PARTS)
+	$(AR) rs $@ $(BUILD)/star.o
 
 $(BUILD)/star: $(LIBRARY) $(CONSOLE) $(wildcard console/*.h) include/star.h
 	$(CC) -std=c99 $(CFLAGS) -Iinclude -o $@ $(CONSOLE) $(LIBRARY) -lm

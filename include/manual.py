@@ -14,7 +14,8 @@ from collections import namedtuple
 Function = namedtuple("Function", "name prototype comment above")
 
 COMMENT = re.compile(r"/\*(.*?)\*/", re.S)
-TOP = re.compile(r"/\*.*?\*/|#[^\n]*(?:\\\n[^\n]*)*|extern \"C\" \{|\}(?=\n#endif)|[^;{/#]+?(?:;|\{)", re.S)
+TOP = re.compile(r"/\*.*?\*/|#[^\n]*(?:\\\n[^\n]*)*|extern \"C\" \{|\}(?=\n#endif)"
+                 r"|[^;{/#]+?(?:;|\{)", re.S)
 NAME = re.compile(r"\b(star_[a-z0-9_]+)\(")
 
 
@@ -114,7 +115,8 @@ def paragraphs(text):
 
 def refusal_names(types):
     """The enum's names and comments, by number."""
-    entries = re.findall(r"(STAR_\w+) = (\d+),?\s*(?:/\*(.*?)\*/)?", types["enum star_refusal"], re.S)
+    entry = re.compile(r"(STAR_\w+) = (\d+),?\s*(?:/\*(.*?)\*/)?", re.S)
+    entries = entry.findall(types["enum star_refusal"])
     return {int(number): (name, " ".join(re.sub(r"\n\s*\*?", " ", text).split()))
             for name, number, text in entries}
 
@@ -152,7 +154,9 @@ class Manual:
 
     def plain(self, f):
         """The door that a working door answers as, or None."""
-        return self.by_name.get(f.name.replace("star_work_", "star_", 1)) if "_work_" in f.name else None
+        if "_work_" not in f.name:
+            return None
+        return self.by_name.get(f.name.replace("star_work_", "star_", 1))
 
     def summary(self, f):
         plain = self.plain(f)
@@ -165,9 +169,11 @@ class Manual:
         if plain:
             general = next(g.above for g in self.functions if "_work_" in g.name)
             own = f.comment if f.comment != general else ""
-            return "\n\n".join(t for t in (general, own, "As star_X, " + plain.name + ": " + plain.comment) if t)
-        summary = self.summaries.get(f.name)
-        return (summary[:1].upper() + summary[1:] + "\n\n" if summary else "") + (f.comment or f.above)
+            answers = "As star_X, " + plain.name + ": " + plain.comment
+            return "\n\n".join(text for text in (general, own, answers) if text)
+        summary = self.summaries.get(f.name, "")
+        texts = (summary[:1].upper() + summary[1:], f.comment or f.above)
+        return "\n\n".join(text for text in texts if text)
 
     def head(self, name, summary):
         return '.TH %s 3 "" "star %s" "Library Functions"\n.SH NAME\n%s \\- %s\n' % (

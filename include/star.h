@@ -526,8 +526,12 @@ struct star_answer star_table_digs(const struct star_table *t, uint8_t *text);
 /* Fills the path matrix of the plan as star_paths does; matrix has 16 n words. */
 struct star_answer star_table_paths(const struct star_table *t, uint32_t from, uint64_t *matrix);
 
-/* Reads an STP text as star_import does: its rows are in use, and none is marked. A refusal leaves
- * the table as it was. The calling thread has 1,088 KiB of stack left. */
+/* Reads a table from a text: an STP text as star_import does, then no row is marked; or a planner's
+ * table as the console reads it, by the same C code, with marks and struck rows. One whose first word
+ * is 33D32945 is an STP text. A refusal leaves the table as it was. It is one of star_import; of a
+ * planner's table 12, with the first byte of the first line that cannot stand, or 2, and what else is
+ * wrong with its rows is told by the next call that looks at them. The calling thread has 1,184 KiB
+ * of stack left. */
 struct star_imported star_table_read(struct star_table *t, const char *text, size_t len);
 
 /* The room that the text of star_table_write needs at most. */

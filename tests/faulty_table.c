@@ -152,6 +152,8 @@ struct star_imported faulty_table_read(struct star_table *t, const char *text, s
     struct star_imported i;
     before = *t;
     i = star_table_read(t, text, len);
+    if (i.kind == STAR_REFUSED && fault("read-place-lacking")) i.place = 0;
+    if (i.kind == STAR_PASSED && fault("read-struck-in-use")) memset(t->in_use, 255, 3);
     if (i.kind == STAR_REFUSED && fault("read-refused-clears")) star_table_init(t, t->n);
     if (i.kind == STAR_PASSED && fault("read-keeps-marks")) memcpy(t->mark, before.mark, 1024);
     if (i.kind == STAR_PASSED && fault("read-keeps-n")) t->n = before.n;

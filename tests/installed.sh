@@ -96,10 +96,10 @@ holds plugin-run "$work/plugin_host" "$work/plugin.so" "$shared"
 # Eight threads; and the same under a race detector, which finds the race of a test that has one.
 holds threads-build "$compiler" -std=c99 -O2 -I"$to/include" -o "$work/threads" tests/threads_test.c -L"$to/lib" -lstar -pthread
 holds threads "$work/threads" 200
-race=("$compiler" -std=c99 -O1 -g -fsanitize=thread -Iinclude -pthread)
-if "${race[@]}" -o "$work/race" tests/threads_test.c include/*.c "$build"/lib*.a 2>"$work/said" && "$work/race" 1 >"$work/said" 2>&1; then
+race=("$compiler" -std=c99 -O1 -g -fsanitize=thread -Iinclude -pthread tests/threads_test.c include/*.c console/{table,text,price}.c)
+if "${race[@]}" -o "$work/race" "$build"/lib*.a 2>"$work/said" && "$work/race" 1 >"$work/said" 2>&1; then
     holds threads-detector "$work/race" 10
-    holds threads-control "${race[@]}" -DRACE -o "$work/raced" tests/threads_test.c include/*.c "$build"/lib*.a
+    holds threads-control "${race[@]}" -DRACE -o "$work/raced" "$build"/lib*.a
     holds threads-control-found fails "$work/raced" 10
 else
     echo "skipped: the race detector does not run here"

@@ -253,6 +253,51 @@ static void read(void) {
     tell(i.n == k.n && i.m == k.m && same_tables(), "the table that is read");
 }
 
+/* What is left of the test's own table where it is read from its text: struck rows have no mark,
+   and rows behind the last one are empty. */
+static void keep_written(void) {
+    static struct star_table kept;
+    size_t row, last = 0;
+    for (row = 1; row <= STAR_MAX_ROWS; row++)
+        if (used(row) || own.left[row - 1]) last = row;
+    memset(&kept, 0, sizeof kept);
+    kept.n = own.n;
+    memcpy(kept.in_use, own.in_use, sizeof kept.in_use);
+    memcpy(kept.left, own.left, last);
+    memcpy(kept.right, own.right, last);
+    memcpy(kept.weight, own.weight, 4 * last);
+    for (row = 1; row <= last; row++) kept.mark[row - 1] = used(row) ? own.mark[row - 1] : 0;
+    own = kept;
+}
+
+/* Puts a line that cannot stand before one of the lines of a text, and gives its place. */
+static size_t spoil(char *text, size_t *len) {
+    static const char *const lines[] = {"1 2\n", "1 2 x 1\n", "1 2 3 1 1\n", "struck 1 2\n",
+                                        "E 1 2 3\n"};
+    const char *line = lines[any(5)];
+    size_t at = any((uint32_t)*len);
+    while (at > 0 && text[at - 1] != '\n') at--;
+    memmove(text + at + strlen(line), text + at, *len - at);
+    memcpy(text + at, line, strlen(line));
+    *len += strlen(line);
+    return at;
+}
+
+static void read_planner(void) {
+    static char text[65536];
+    size_t marked = any(3) ? 0 : 3, len, place = 0;
+    int broken = any(3) == 0;
+    struct star_imported i;
+    memcpy(text, "\xef\xbb\xbf", 3);
+    len = print(text + marked);
+    if (broken) place = marked + spoil(text + marked, &len);
+    else keep_written();
+    i = star_table_read(&t, text, marked + len);
+    tell((i.kind == STAR_REFUSED) == broken && same_tables(), "read a planner's table");
+    if (broken) tell(i.number == STAR_BAD_TEXT && i.place == place, "the line that cannot stand");
+    else tell(i.n == own.n && !i.number && !i.place, "the planner's junctions");
+}
+
 /* A small table, mostly connected and often with a network marked. */
 static void start_small(uint32_t n) {
     size_t row, joined = any(8) ? n - 1 : any(n), more = any(6);
@@ -285,9 +330,9 @@ static void start(void) {
 }
 
 static void step(unsigned long k) {
-    static void (*const calls[])(void) = {add,     add,       mark,  strike, merge, judge, build,
-                                          mend,    outlets,   which, ask,    write, read,  judge,
-                                          mark,    districts, build, judge,  mark,  mark};
+    static void (*const calls[])(void) = {
+        add,   add,  mark, strike, merge, judge, build, mend,      outlets, which, ask,
+        write, read, mark, judge,  mark,  mark,  judge, districts, build,   read_planner};
     unsigned i;
     if (k % 20 == 0) start();
     if (any(200) == 0) t.mark[3] = own.mark[3] = 2;
@@ -317,6 +362,15 @@ static void *largest_read(void *with) {
     return with;
 }
 
+static void *largest_lines(void *with) {
+    static char text[65536];
+    size_t len;
+    own = t;
+    len = print(text);
+    tell(star_table_read(&t, text, len).kind == STAR_PASSED, "the largest table read");
+    return with;
+}
+
 static void known(void) {
     struct star_verdict v;
     size_t row;
@@ -338,7 +392,8 @@ static void known(void) {
     memset(t.in_use, 255, sizeof t.in_use);
     tell(on_small_stack(largest, &t, 136 << 10), "a thread of 136 KiB");
     tell(on_small_stack(largest_mend, &t, 352 << 10), "a thread of 352 KiB");
-    tell(on_small_stack(largest_read, &t, 1088 << 10), "a thread of 1,088 KiB");
+    tell(on_small_stack(largest_read, &t, 1184 << 10), "a thread of 1,184 KiB");
+    tell(on_small_stack(largest_lines, &t, 1184 << 10), "the same for a planner's table");
 }
 
 int main(int count, char **words) {
