@@ -1,5 +1,5 @@
-/* The commands that change a table file: strike, add and merge. The doors of working tables say where a trench goes and which numbers change; the
-   lines of the file follow. */
+/* The commands that change lines of a table file: strike, unstrike, mark, unmark, price, add and merge. The doors of working tables say which trench
+   is struck, where a new one goes and which numbers change; the lines of the file follow. */
 #include <string.h>
 
 #include "commands.h"
@@ -25,22 +25,131 @@ static int too_many(const struct table *t) {
     return refused(&words);
 }
 
-int command_strike(struct table *t, const struct options *with, struct output *o) {
-    struct message words = {{0}, 0};
+/* ---- Trenches that are named: strike, unstrike, mark, unmark, price ---- */
+
+/* Whether a number is that of a trench of the table, struck or not. */
+static int there(const struct table *t, uint32_t trench) { return trench >= 1 && trench <= t->m; }
+
+/* The trench that a word names; each is named once. */
+static int once_named(const struct table *t, const char *word, uint32_t *trench) {
+    int status = trench_named(word, trench);
+    if (status != 0 || !there(t, *trench) || edit.change[*trench - 1] == CHANGE_NONE) return status;
+    fprintf(stderr, "star: trench %u is named twice, and nothing is written\n", (unsigned)*trench);
+    return EXIT_USAGE;
+}
+
+/* Changes a trench in the table; the line follows. Refuses in words where it cannot be. */
+typedef int change_one(struct table *t, uint32_t trench, const char *word);
+
+static int change_each(struct table *t, const struct options *with, const char *command,
+                       enum change change, change_one *one) {
     int i, status = too_many(t);
-    if (status != 0) return status;
-    if (with->count == 0) return misused("the number of a trench follows the file of", "strike");
-    for (i = 0; i < with->count; i++) {
+    if (status == 0 && with->count == 0)
+        return misused("the number of a trench follows the file of", command);
+    for (i = 0; i < with->count && status == 0; i++) {
         uint32_t trench;
-        status = trench_named(with->words[i], &trench);
-        if (status != 0) return status;
-        if (table_strike(t, trench).kind != STAR_PASSED) {
-            refusal_of_strike(&words, t, trench, with->words[i]);
-            return refused(&words);
-        }
-        edit.strike[trench - 1] = 1;
+        status = once_named(t, with->words[i], &trench);
+        if (status == 0) status = one(t, trench, with->words[i]);
+        if (status == 0) edit.change[trench - 1] = (uint8_t)change;
     }
+    return status;
+}
+
+/* A trench that is not there, or is struck, has no mark and no price to be changed. */
+static int in_use(const struct table *t, uint32_t trench, const char *word) {
+    struct message words = {{0}, 0};
+    if (there(t, trench) && !t->struck[trench - 1]) return 0;
+    refusal_of_asked(&words, t, trench, word);
+    return refused(&words);
+}
+
+/* Tells that a line says already what it is to say. */
+static void tell_same(uint32_t trench, const char *what) {
+    fprintf(stderr, "trench %u %s already\n", (unsigned)trench, what);
+}
+
+static int strike(struct table *t, uint32_t trench, const char *word) {
+    struct message words = {{0}, 0};
+    if (table_strike(t, trench).kind == STAR_PASSED) return 0;
+    refusal_of_strike(&words, t, trench, word);
+    return refused(&words);
+}
+
+int command_strike(struct table *t, const struct options *with, struct output *o) {
+    int status = change_each(t, with, "strike", CHANGE_STRUCK, strike);
+    return status == 0 ? edit_write(o, t, &edit) : status;
+}
+
+static int mark(struct table *t, uint32_t trench, const char *word) {
+    int status = in_use(t, trench, word);
+    if (status != 0) return status;
+    if (t->mark[trench - 1] == 1) tell_same(trench, "is marked");
+    t->mark[trench - 1] = 1;
+    return 0;
+}
+
+int command_mark(struct table *t, const struct options *with, struct output *o) {
+    int status = change_each(t, with, "mark", CHANGE_MARK, mark);
+    return status == 0 ? edit_write(o, t, &edit) : status;
+}
+
+static int unmark(struct table *t, uint32_t trench, const char *word) {
+    int status = in_use(t, trench, word);
+    if (status != 0) return status;
+    if (t->mark[trench - 1] == 0) tell_same(trench, "is unmarked");
+    t->mark[trench - 1] = 0;
+    return 0;
+}
+
+int command_unmark(struct table *t, const struct options *with, struct output *o) {
+    int status = change_each(t, with, "unmark", CHANGE_MARK, unmark);
+    return status == 0 ? edit_write(o, t, &edit) : status;
+}
+
+int command_price(struct table *t, const struct options *with, struct output *o) {
+    uint8_t price[PRICE_BYTES], *own;
+    uint32_t trench;
+    int status;
+    if (with->count != 2) return misused("the number of a trench and its price follow the file of", "price");
+    status = trench_named(with->words[0], &trench);
+    if (status == 0) status = price_named(with->words[1], price);
+    if (status == 0) status = too_many(t);
+    if (status == 0) status = in_use(t, trench, with->words[0]);
+    if (status != 0) return status;
+    own = t->weight + PRICE_BYTES * (trench - 1);
+    if (memcmp(own, price, PRICE_BYTES) == 0) tell_same(trench, "has this price");
+    memcpy(own, price, PRICE_BYTES);
+    edit.change[trench - 1] = CHANGE_PRICE;
     return edit_write(o, t, &edit);
+}
+
+/* ---- Trenches that come in: unstrike, add ---- */
+
+/* Writes the changed file, unless its table would be refused: a trench that comes in may be wrong. */
+static int write_sound(struct output *o, const struct table *t, struct message *notes) {
+    struct message words = {{0}, 0};
+    if (!edit_refused(t, &edit, &words, notes)) return edit_write(o, t, &edit);
+    say(&words, "\nNothing is written: that would be said of the file with this change.");
+    return refused(&words);
+}
+
+static int unstrike(struct table *t, uint32_t trench, const char *word) {
+    struct message words = {{0}, 0};
+    if (!there(t, trench)) {
+        refusal_of_asked(&words, t, trench, word);
+        return refused(&words);
+    }
+    if (!t->struck[trench - 1]) fprintf(stderr, "trench %u is not struck\n", (unsigned)trench);
+    return 0;
+}
+
+int command_unstrike(struct table *t, const struct options *with, struct output *o) {
+    struct message notes = {{0}, 0};
+    size_t i;
+    int status = change_each(t, with, "unstrike", CHANGE_UNSTRUCK, unstrike);
+    if (status != 0) return status;
+    for (i = table_next(t, 0); i <= t->m; i = table_next(t, i)) edit.change[i - 1] = CHANGE_NONE;
+    return write_sound(o, t, &notes);
 }
 
 /* Tells the numbers of trenches that have new ones. */
@@ -70,7 +179,7 @@ static int new_trench(const struct options *with, struct trench *new, struct mes
 }
 
 int command_add(struct table *t, const struct options *with, struct output *o) {
-    struct message words = {{0}, 0}, line = {{0}, 0};
+    struct message words = {{0}, 0}, notes = {{0}, 0}, line = {{0}, 0};
     struct trench new;
     struct star_answer a;
     size_t at, last = t->m;
@@ -90,10 +199,11 @@ int command_add(struct table *t, const struct options *with, struct output *o) {
     edit.n = t->n;
     if (new.left > edit.n) edit.n = new.left;
     if (new.right > edit.n) edit.n = new.right;
-    status = edit_write(o, t, &edit);
+    status = write_sound(o, t, &notes);
     if (status != 0) return status;
     if (edit.merge) tell_numbers(t);
     fprintf(stderr, "trench %zu is new\n", at);
+    if (notes.len > 0) fprintf(stderr, "%s\n", notes.text);
     return EXIT_PASSED;
 }
 

@@ -30,6 +30,10 @@ int command_digs(struct table *t, const struct options *with, struct output *o);
 int command_strike(struct table *t, const struct options *with, struct output *o);  /* writes the file with trenches struck */
 int command_add(struct table *t, const struct options *with, struct output *o);     /* writes the file with a trench more */
 int command_merge(struct table *t, const struct options *with, struct output *o);   /* writes the file without its struck trenches */
+int command_unstrike(struct table *t, const struct options *with, struct output *o); /* writes the file with trenches no longer struck */
+int command_mark(struct table *t, const struct options *with, struct output *o);    /* writes the file with trenches marked */
+int command_unmark(struct table *t, const struct options *with, struct output *o);  /* writes the file with trenches no longer marked */
+int command_price(struct table *t, const struct options *with, struct output *o);   /* writes the file with another price of a trench */
 int command_districts(struct table *t, const struct options *with, struct output *o); /* lists the cheapest trenches of each district, and of the city */
 int command_mend(struct table *t, const struct options *with, struct output *o);    /* writes the file with its plan mended, and tells each step */
 int command_outlets(struct table *t, const struct options *with, struct output *o); /* lists the cheapest network with a number of trenches at a junction */

@@ -1,8 +1,13 @@
 /* Writes a changed table file. */
+#define _POSIX_C_SOURCE 200809L
+
 #include "edit.h"
 
 #include <inttypes.h>
+#include <stdlib.h>
+#include <string.h>
 
+#include "refusal.h"
 #include "status.h"
 
 static void copy(FILE *to, const char *from, const char *end) { fwrite(from, 1, (size_t)(end - from), to); }
@@ -20,6 +25,20 @@ static void marked(FILE *to, const struct table *t, size_t i, const char *from, 
     copy(to, from, mark.len > 0 ? mark.at : rest);
     fprintf(to, "%s%u", mark.len > 0 ? "" : " ", t->mark[i - 1]);
     copy(to, rest, end);
+}
+
+/* The line of trench i with the price that the table has; the line as it stands where it says the same. */
+static void priced(FILE *to, const struct table *t, size_t i, const char *from, const char *end) {
+    struct span price = text_nth(t->row[i - 1].text, 2);
+    uint8_t old[PRICE_BYTES];
+    char figures[FIGURES];
+    if (price_read(price, old) && memcmp(old, t->weight + PRICE_BYTES * (i - 1), PRICE_BYTES) == 0) {
+        copy(to, from, end);
+        return;
+    }
+    copy(to, from, price.at);
+    fputs(table_price(figures, t, i), to);
+    copy(to, price.at + price.len, end);
 }
 
 /* How the file's first line ends: new lines end so too. */
@@ -46,16 +65,35 @@ static void junctions(FILE *to, const struct table *t, uint32_t n) {
     new_line(to, t, "");
 }
 
+/* The line of trench i, with its end. */
+static void trench(FILE *to, const struct table *t, enum change change, size_t i, const char *from, const char *end) {
+    struct span own = t->row[i - 1].text;
+    switch (change) {
+    case CHANGE_STRUCK:
+        copy(to, from, own.at);
+        fputs("struck ", to);
+        copy(to, own.at, end);
+        break;
+    case CHANGE_UNSTRUCK:
+        copy(to, from, own.at);
+        copy(to, text_nth(own, 1).at, end);
+        break;
+    case CHANGE_MARK:
+        marked(to, t, i, from, end);
+        break;
+    case CHANGE_PRICE:
+        priced(to, t, i, from, end);
+        break;
+    default:
+        copy(to, from, end);
+    }
+}
+
 /* One line of the file, with its end: that of trench i, or another one where i is 0. */
 static void line(FILE *to, const struct table *t, const struct edit *e, size_t i, const char *from, const char *end) {
-    if (i > 0 && i == e->instead) new_line(to, t, e->line);
-    else if (i > 0 && e->merge && t->struck[i - 1]) return;
-    else if (i > 0 && e->strike[i - 1]) {
-        copy(to, from, t->row[i - 1].text.at);
-        fputs("struck ", to);
-        copy(to, t->row[i - 1].text.at, end);
-    } else if (i > 0 && e->marks && !t->struck[i - 1]) marked(to, t, i, from, end);
-    else copy(to, from, end);
+    if (i == 0) copy(to, from, end);
+    else if (i == e->instead) new_line(to, t, e->line);
+    else if (!e->merge || !t->struck[i - 1]) trench(to, t, e->change[i - 1], i, from, end);
 }
 
 static void lines(FILE *to, const struct table *t, const struct edit *e) {
@@ -75,10 +113,18 @@ static void lines(FILE *to, const struct table *t, const struct edit *e) {
     new_line(to, t, e->line);
 }
 
+int edit_write(struct output *o, const struct table *t, const struct edit *e) {
+    FILE *to = output_open(o);
+    if (!to) return EXIT_UNWRITTEN;
+    lines(to, t, e);
+    return output_close(o) ? EXIT_PASSED : EXIT_UNWRITTEN;
+}
+
 int edit_marks(struct output *o, const struct table *t) {
     static struct edit marks;
     FILE *to;
-    marks.marks = 1;
+    size_t i;
+    for (i = table_next(t, 0); i <= t->m; i = table_next(t, i)) marks.change[i - 1] = CHANGE_MARK;
     if (!t->stp) return edit_write(o, t, &marks);
     to = output_open(o);
     if (!to) return EXIT_UNWRITTEN;
@@ -86,9 +132,35 @@ int edit_marks(struct output *o, const struct table *t) {
     return EXIT_PASSED;
 }
 
-int edit_write(struct output *o, const struct table *t, const struct edit *e) {
-    FILE *to = output_open(o);
-    if (!to) return EXIT_UNWRITTEN;
-    lines(to, t, e);
-    return output_close(o) ? EXIT_PASSED : EXIT_UNWRITTEN;
+/* Reads the file as it is after the changes; NULL where there is no room, or where a line cannot stand. The bytes are to be freed. */
+static char *changed(const struct table *t, const struct edit *e, struct table *after, struct message *words) {
+    char *bytes = NULL;
+    size_t len = 0;
+    FILE *to = open_memstream(&bytes, &len);
+    int done;
+    if (to) lines(to, t, e);
+    done = to && !ferror(to);
+    if (to && fclose(to) != 0) done = 0;
+    if (!done) say(words, "there is no room to look at the changed file");
+    memset(after, 0, sizeof *after);
+    after->file = t->file;
+    if (done) {
+        after->text.at = bytes + t->order_mark;
+        after->text.len = len - t->order_mark;
+        if (table_read(after, after->text, words)) return bytes;
+    }
+    free(bytes);
+    return NULL;
+}
+
+int edit_refused(const struct table *t, const struct edit *e, struct message *words, struct message *notes) {
+    static struct table after;
+    struct star_answer a;
+    char *bytes = changed(t, e, &after, words);
+    if (!bytes) return 1;
+    a = table_cst(&after);
+    if (a.kind == STAR_REFUSED && !refusal_of_plan(a)) refusal_words(words, &after, a);
+    if (after.n > t->n) refusal_unnamed(notes, &after);
+    free(bytes);
+    return words->len > 0;
 }

@@ -1,17 +1,25 @@
-/* Changes to a table file: lines that are struck, left out, replaced, added or marked anew. All else stands as it did, comments, a byte order mark and
-   the ends of lines too. */
+/* Changes to a table file: lines that are struck, left out, replaced, added, or that get another mark or price. All else stands as it did, comments, a
+   byte order mark and the ends of lines too. */
 #ifndef CONSOLE_EDIT_H
 #define CONSOLE_EDIT_H
 
 #include "output.h"
 #include "table.h"
 
+/* What is changed in the line of a trench. */
+enum change {
+    CHANGE_NONE,
+    CHANGE_STRUCK,   /* 'struck' is put before it */
+    CHANGE_UNSTRUCK, /* 'struck' is taken away */
+    CHANGE_MARK,     /* it gets the mark that the table has now, unless it is struck */
+    CHANGE_PRICE     /* it gets the price that the table has now */
+};
+
 struct edit {
-    uint8_t strike[KEPT]; /* trench i at index i - 1: whether 'struck' is put before it */
+    uint8_t change[KEPT]; /* trench i at index i - 1 */
     int merge;            /* whether the lines of struck trenches are left out */
     size_t instead;       /* the trench whose line is replaced by the new one; 0 for none: then a new one stands at the end */
     const char *line;     /* the line of a new trench, NULL for none */
-    int marks;            /* whether each trench in use gets the mark that the table has now */
     uint32_t n;           /* the number of junctions that a line 'junctions N' says, where lines are left out or replaced and none does */
 };
 
@@ -21,5 +29,8 @@ int edit_write(struct output *o, const struct table *t, const struct edit *e);
 
 /* Writes the table with the marks that it has now: its file with these marks, or a new table where it was read from an STP file. */
 int edit_marks(struct output *o, const struct table *t);
+
+/* Whether the file after the changes would be refused, its plan apart; says so in words. What else is to be said of it is said to notes. */
+int edit_refused(const struct table *t, const struct edit *e, struct message *words, struct message *notes);
 
 #endif

@@ -89,11 +89,11 @@ static void no_network(struct message *to, const struct table *t) {
 /* The junctions that no trench names, as runs: '3', '5 to 8'. At most so many runs are told. */
 enum { RUNS = 10 };
 
-static void unnamed(struct message *to, const struct table *t) {
+void refusal_unnamed(struct message *to, const struct table *t) {
     uint32_t first = table_unnamed(t, 1), last;
     int runs = 0;
     if (first == 0) return;
-    say(to, " No trench%s names junction%s ", t->strikes > 0 ? " in use" : "", table_unnamed(t, first + 1) > 0 ? "s" : "");
+    say(to, "No trench%s names junction%s ", t->strikes > 0 ? " in use" : "", table_unnamed(t, first + 1) > 0 ? "s" : "");
     for (; first > 0 && runs < RUNS; first = table_unnamed(t, last + 1), runs++) {
         last = first;
         while (table_unnamed(t, last + 1) == last + 1) last++;
@@ -148,7 +148,10 @@ void refusal_words(struct message *to, const struct table *t, struct star_answer
     default:
         say(to, "%s (place %u).", star_refusal_text(a.number), a.out);
     }
-    if (refusal_of_plan(a) || a.number == STAR_NO_NETWORK) unnamed(to, t);
+    if ((refusal_of_plan(a) || a.number == STAR_NO_NETWORK) && table_unnamed(t, 1) > 0) {
+        say(to, " ");
+        refusal_unnamed(to, t);
+    }
     if (t->strikes > 0 && (refusal_of_plan(a) || a.number == STAR_NO_NETWORK)) {
         say(to, " ");
         say_count(to, t->strikes, "struck trench is left out.", "struck trenches are left out.");

@@ -19,6 +19,9 @@ int refusal_has_trench(const struct table *t, size_t trench);
 /* Whether a refusal is about the marked trenches together: then the table itself is sound, and can be drawn and written. */
 int refusal_of_plan(struct star_answer a);
 
+/* Says which junctions no trench in use names, if there are such. */
+void refusal_unnamed(struct message *to, const struct table *t);
+
 /* What the refusals of tables and of STP texts have in common. */
 void refusal_opens(struct message *to, unsigned number, const char *file, size_t line);
 void refusal_of_end(struct message *to, size_t trench, const struct span ends[2], uint32_t n);

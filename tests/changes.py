@@ -1,5 +1,5 @@
-"""Tests of strike, add and merge: on random files, what they write against a list of the trenches changed in the same way, what they tell of the
-numbers, and that every other command says of a file with struck trenches what it says of the file without them, the numbers apart.
+"""Tests of strike, unstrike, mark, unmark, price, add and merge: on random files, what they write against a list of the trenches changed in the same
+way, what they tell of the numbers, and that every other command says of a file with struck trenches what it says of the file without them, the numbers apart.
 usage: changes.py STAR"""
 import random, re, sys
 
@@ -49,6 +49,35 @@ def random_file():
     return "\n".join(lines) + random.choice(("\n", "\n", ""))
 
 
+def refusal(text, rows, left, right):
+    """The number of the refusal of a file with a new trench; 0 for none."""
+    if left == right or ("junctions" in text and max(left, right) > junctions(text)):
+        return 4
+    pairs = [set(row[:2]) for struck, row in rows if not struck]
+    return 15 if {str(left), str(right)} in pairs else 0
+
+
+def some(numbers):
+    return random.sample(numbers, random.randrange(1, len(numbers) + 1)) if numbers else []
+
+
+def lines_alone(text, rows, command, chosen, change, *after):
+    """Each chosen trench's line is changed in its words, and no other line nor a comment."""
+    if not chosen:
+        return
+    out, err, status = star(text, command, *map(str, chosen), *after)
+    number, lines = 0, []
+    for line in text.split("\n"):
+        words = line.split("#")[0].split()
+        trench = words and words[0] != "junctions"
+        number += bool(trench)
+        if trench and number in chosen and change(words) != words:
+            line = line.replace(line.split("#")[0].rstrip(), " ".join(change(words)))
+        lines.append(line)
+    if status or out != "\n".join(lines) or re.sub(r"trench \d+ (is marked|is unmarked|has this price) already\n", "", err):
+        fault(command, text, chosen, out, err)
+
+
 def without_places(said):
     """What was said, without lines of the file and without what is said of struck trenches."""
     said = re.sub(r" \(line \d+\)", "", said.replace("No trench in use", "No trench"))
@@ -77,14 +106,26 @@ for number in range(150):
     out, err, status = star(text, "merge")
     if status or read(out) != merged(rows) or re.findall(r"trench \d+ is now .*", err) != numbers(rows) or comments(out, False) != comments(text, False) or junctions(out) != junctions(text):
         fault("merge", text, out, err)
-    # add
+    # add: a loop, a pair that is there already and an end above the number of junctions are refused
     left, right, price = random.randrange(1, 12), random.randrange(1, 12), random.randrange(-50, 50)
     out2, err, status = star(text, "add", str(left), str(right), str(price))
     at = max(used, default=0)
-    if status or read(out2) != rows[:at] + [(False, (str(left), str(right), str(price), "0"))] + rows[at + 1:] or err != "trench %d is new\n" % (at + 1):
-        fault("add", text, out2, err)
-    if junctions(out2) != (junctions(text) if "junctions" in text else max(junctions(text), left, right)):
-        fault("the junctions after add", text, out2)
+    number = refusal(text, rows, left, right)
+    if number:
+        if status != 2 or out2 or not err.startswith("Refused (%d): " % number) or "Nothing is written" not in err:
+            fault("add that is refused", text, left, right, out2, err)
+    else:
+        if status or read(out2) != rows[:at] + [(False, (str(left), str(right), str(price), "0"))] + rows[at + 1:] or err.split("\n")[0] != "trench %d is new" % (at + 1):
+            fault("add", text, out2, err)
+        if junctions(out2) != (junctions(text) if "junctions" in text else max(junctions(text), left, right)):
+            fault("the junctions after add", text, out2)
+    # lines that are changed alone
+    struck_ones = [i for i in range(1, len(rows) + 1) if i not in used]
+    lines_alone(text, rows, "unstrike", some(struck_ones), lambda words: words[1:])
+    lines_alone(text, rows, "mark", some(used), lambda words: words[:3] + ["1"])
+    lines_alone(text, rows, "unmark", some(used), lambda words: words[:3] + ["0"])
+    if used:
+        lines_alone(text, rows, "price", [random.choice(used)], lambda words: words[:2] + [str(price)] + words[3:], str(price))
     # every other command
     for words in ["check"], ["build"], ["explain", "--all"], ["build", "--table"]:
         said, without = star(text, *words), star(out, *words)
