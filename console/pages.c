@@ -17,7 +17,7 @@ const struct option OPTIONS[] = {
     {"--certificate", "", "writes what shows the verdict, for another program to check"},
     {"--all", "", "tells of all trenches left out, rings, groups; not of a few"},
     {"--steps", "", "tells each step too"},
-    {"-o", "OUTPUT", "writes to the file OUTPUT in place of standard output"},
+    {"-o", "OUTPUT", "writes the file OUTPUT, as a whole or not at all"},
     {"--help", "", "writes the command's page; also -h"},
     {NULL, NULL, NULL},
 };
@@ -60,7 +60,9 @@ const struct page PAGES[] = {
         .line = "list a cheapest network",
         .does = "Lists the cheapest trenches that reach every junction, and their total, "
                 "which has - before it where it is below 0. Where trenches are marked, it "
-                "says what they cost and what is saved against them.",
+                "says what they cost and what is saved against them.\n\n"
+                "With --table it writes the file with these trenches marked: comments, blank "
+                "lines, the order and all else stand as they did.",
         .example = "build yard-dear.txt",
         .output = "trench 1: 1-2, price 5\n"
                   "trench 2: 2-3, price 3\n"
@@ -139,9 +141,8 @@ const struct page PAGES[] = {
         .words = "[FILE]",
         .options = "",
         .line = "write the trenches as a table",
-        .does = "Writes the table, one line a trench. The trenches of an STP file are not "
-                "marked. Struck trenches stand in it as they do in the file, so that no "
-                "number changes.",
+        .does = "Writes the trenches of an STP file as a table, one line a trench, none of "
+                "them marked. A table is written as it stands, unless it is refused.",
         .example = "table street.stp",
         .output = "junctions 8\n1 2 40 0\n2 3 35 0\n3 4 52 0\n1 5 61 0\n2 6 28 0\n3 7 44 0\n4 8 30 0\n5 6 33 0\n6 7 47 0\n7 8 39 0\n1 6 55 0\n3 8 58 0\n",
         .statuses = "0 written\n2 the table or the text was refused",
@@ -234,10 +235,67 @@ const struct page PAGES[] = {
         .line = "write the file with these trenches struck",
         .does = "Writes the file with 'struck' before the lines of the trenches named. All "
                 "else stands as it did, comments too. A trench that is struck already, or a "
-                "number that no trench has, is refused (18), and nothing is written.",
+                "number that no trench has, is refused (18), and nothing is written; so where "
+                "a trench is named twice.",
         .example = "strike yard.txt 3",
         .output = "# The yard: four junctions, five trenches. Junction, junction, price, mark.\n"
                   "1 2 5 0\n2 3 3 1\nstruck 3 4 5 1\n1 4 4 1\n1 3 6 0\n",
+        .statuses = "0 written\n2 the table or what was asked was refused, and nothing was written",
+    },
+    {
+        .name = "unstrike",
+        .words = "FILE TRENCH..",
+        .options = "",
+        .line = "write the file with these struck no longer",
+        .does = "Writes the file without 'struck' before the lines of the trenches named, "
+                "which have the prices and marks of their lines again. All else stands as it "
+                "did, comments too. A number that no trench has is refused (7); a trench that "
+                "is not struck is told, and stays.\n\n"
+                "Where the table would be refused with such a trench in use, nothing is "
+                "written, and the refusal that would follow is told.",
+        .example = "unstrike struck.txt 3",
+        .output = "# The yard with the street between junctions 3 and 4 blocked: its trench is struck. It keeps its number and is left out of everything.\n"
+                  "1 2 5 1\n2 3 3 1\n3 4 5 0  # blocked until spring\n1 4 4 1\n1 3 6 0\n",
+        .statuses = "0 written\n2 the table or what was asked was refused, and nothing was written",
+    },
+    {
+        .name = "mark",
+        .words = "FILE TRENCH..",
+        .options = "",
+        .line = "write the file with these trenches marked",
+        .does = "Writes the file with the mark 1 in the lines of the trenches named, which "
+                "are then trenches of the plan. All else stands as it did, comments too. A "
+                "trench that is struck, or a number that no trench has, is refused (7), and "
+                "nothing is written; a trench that is marked already is told.",
+        .example = "mark yard.txt 1",
+        .output = "# The yard: four junctions, five trenches. Junction, junction, price, mark.\n"
+                  "1 2 5 1\n2 3 3 1\n3 4 5 1\n1 4 4 1\n1 3 6 0\n",
+        .statuses = "0 written\n2 the table or what was asked was refused, and nothing was written",
+    },
+    {
+        .name = "unmark",
+        .words = "FILE TRENCH..",
+        .options = "",
+        .line = "write the file with these marked no longer",
+        .does = "Writes the file with the mark 0 in the lines of the trenches named. It takes "
+                "and refuses what mark does.",
+        .example = "unmark yard.txt 3",
+        .output = "# The yard: four junctions, five trenches. Junction, junction, price, mark.\n"
+                  "1 2 5 0\n2 3 3 1\n3 4 5 0\n1 4 4 1\n1 3 6 0\n",
+        .statuses = "0 written\n2 the table or what was asked was refused, and nothing was written",
+    },
+    {
+        .name = "price",
+        .words = "FILE TRENCH PRICE",
+        .options = "",
+        .line = "write the file with a trench's new price",
+        .does = "Writes the file with the price PRICE in the line of one trench. All else "
+                "stands as it did, comments too. A trench that is struck, or a number that no "
+                "trench has, is refused (7), and nothing is written. What the new price "
+                "changes is said by quote.",
+        .example = "price yard.txt 4 9",
+        .output = "# The yard: four junctions, five trenches. Junction, junction, price, mark.\n"
+                  "1 2 5 0\n2 3 3 1\n3 4 5 1\n1 4 9 1\n1 3 6 0\n",
         .statuses = "0 written\n2 the table or what was asked was refused, and nothing was written",
     },
     {
@@ -250,8 +308,9 @@ const struct page PAGES[] = {
                 "at the end. It tells the new trench's number on standard error. Where trench "
                 "1024 is in use and another one is struck, the file is merged first; where "
                 "all 1024 are in use, the trench is refused (17).\n\n"
-                "The trench itself is not looked at: what is wrong with it is told by the "
-                "other commands.",
+                "Where the table would be refused with the new trench, as for a loop, a pair "
+                "that is there already or an end above the number of junctions, nothing is "
+                "written, and the refusal that would follow is told.",
         .example = "add yard.txt 2 4 7",
         .output = "# The yard: four junctions, five trenches. Junction, junction, price, mark.\n"
                   "1 2 5 0\n2 3 3 1\n3 4 5 1\n1 4 4 1\n1 3 6 0\n2 4 7 0\n"
