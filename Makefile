@@ -5,6 +5,7 @@
 # make test      the whole gate: proofs, must-fail edits, programs, the record, tests from outside
 # make sums      writes crates.sum anew, from the proved archives
 # make manual    the sections of the manual page and of the documents that are made from the table of commands (console/pages.c)
+# make documents the same, what the documents' examples print, and their pictures
 # make bench     times the doors against other libraries, where they are installed, and plots the times (target/c/bench.svg)
 # make counts    the instructions of each call of the bench, by callgrind
 # make install PREFIX=DIR     the header, the library, the console, its manual page, the pkg-config file: if they are proved here or are of the record
@@ -186,6 +187,10 @@ $(BUILD)/manual: console/manual/manual.c console/pages.c console/pages.h
 manual: $(BUILD)/manual
 	for file in $(wildcard console/star.1 README.md docs/GUIDE.md); do $(BUILD)/manual <$$file >$(BUILD)/made && cp $(BUILD)/made $$file || exit 1; done
 
+# What the documents show, made anew: the sections of the table of commands, what examples print, the pictures.
+documents: manual $(BUILD)/star programs
+	$(PYTHON) tests/docs.py $(BUILD) --write
+
 run: $(BUILD)/star tell
 	$(BUILD)/star check console/examples/yard.txt
 
@@ -228,4 +233,4 @@ clean:
 -include library.mk page.mk
 install-library: checked
 
-.PHONY: all tell checked prove sums recorded console programs manual run test outside bench counts install uninstall clean
+.PHONY: all tell checked prove sums recorded console programs manual documents run test outside bench counts install uninstall clean

@@ -130,6 +130,8 @@ bash tests/library.sh | tee "$work/library"
 add "$work/library"
 bash tests/installed.sh "$build" | tee "$work/installed"
 add "$work/installed"
+python3 -B tests/docs.py "$build" | tee "$work/docs"
+add "$work/docs"
 bash tests/record.sh | tee "$work/record"
 add "$work/record"
 

@@ -13,7 +13,6 @@ usage: record.py write FOLDER OUT CRATE..  writes the record of the archives of 
                                            status 1 where it is neither
 FOLDER has an archive libCRATE.a for each, and the identity of the kit that wrote it in the file kit.
 """
-import glob
 import os
 import subprocess
 import sys
@@ -26,6 +25,8 @@ HEADER = '''\
 # What the gate has proved: the kit, the sources of each crate (src, specs, proofs and its line in
 # crates.txt), the code of each archive. Written by make sums, from the proved objects.
 '''
+# The member of the library that is written in C.
+PLAIN = 'star.o'
 
 
 class Record:
@@ -103,10 +104,9 @@ def codes_of(folder, names):
 
 
 def codes_in_library(path, names):
-    """The code of each member that is not of include/*.c; a crate without a member has none."""
+    """The code of each member but the C one; a crate without a member has none."""
     out = {}
-    plain = {os.path.basename(name)[:-2] + '.o' for name in glob.glob('include/*.c')}
-    for member, value in codehash.archive_codes(path, but=plain):
+    for member, value in codehash.archive_codes(path, but={PLAIN}):
         name = member[:-2] if member.endswith('.o') else member
         out[name] = value if name not in out else 'twice'
     for name in names:
