@@ -95,7 +95,8 @@ if command -v valgrind >/dev/null; then
         'quote console/examples/yard.txt 4 9' 'quote console/examples/struck.txt 3 9' 'breaking console/examples/struck.txt 1' 'breaking console/examples/bridge.txt 4' \
         'which console/examples/office-a.txt console/examples/office-b.txt' 'which console/examples/yard.txt console/examples/t1.txt' 'stretch console/examples/city.txt 1 255' \
         'digs console/examples/struck.txt' 'digs console/examples/street.stp' 'digs tests/console/build-stp-word.txt' \
-        'strike console/examples/struck.txt 1' 'merge console/examples/struck.txt' 'add console/examples/struck.txt 2 4 7' 'page console/examples/struck.txt' \
+        'strike console/examples/struck.txt 1' 'merge console/examples/struck.txt' 'add console/examples/struck.txt 2 4 7' 'unstrike console/examples/struck.txt 3' \
+        'mark console/examples/yard.txt 1' 'price console/examples/yard.txt 4 9' 'check tests/console/check-bad-lines.txt' 'page console/examples/struck.txt' \
         'districts console/examples/struck.txt 2 5' 'districts console/examples/yard.txt 1 2 3 4 5 6 7 8 9 10' 'mend console/examples/old.txt' 'mend console/examples/struck.txt' \
         'outlets console/examples/struck.txt 1 9' 'outlets console/examples/yard.txt 1 3'; do
         valgrind -q --error-exitcode=9 --leak-check=full --errors-for-leak-kinds=definite "$build/star" $words >"$work/valgrind" 2>&1
@@ -116,6 +117,13 @@ bash tests/changes.sh "$star" | tee "$work/changes"
 add "$work/changes"
 bash tests/files.sh "$star" | tee "$work/files"
 add "$work/files"
+# The same program with the compiler's checks of memory and arithmetic, where it has them.
+if "${CC:-cc}" -std=c99 -O1 -g -fsanitize=address,undefined -fno-sanitize-recover=all -Iinclude -o "$work/star" console/*.c "$build/libstar.a" -lm 2>/dev/null; then checked=$work/star; else
+    echo 'the compiler has no checks: random command lines are run without them'
+    checked=$star
+fi
+python3 -B tests/random_commands.py 1000 1 "$checked" | tee "$work/random"
+add "$work/random"
 bash tests/asked.sh "$star" | tee "$work/console-asked"
 add "$work/console-asked"
 bash tests/plans.sh "$star" | tee "$work/plans"
