@@ -49,25 +49,29 @@ struct star_answer star_table_merge(struct star_table *t) {
 
 struct star_quoted star_table_quote(const struct star_table *t, uint32_t row, int32_t price) {
     uint8_t answer[STAR_QUOTE_BYTES];
-    star_work_quote(ROWS(t), row, price, ANSWER(answer));
+    struct lent as = lent_as(t);
+    ASK(t, as, quote, row, price, ANSWER(answer));
     return star_read_quoted(answer);
 }
 
 struct star_answer star_table_breaking(const struct star_table *t, uint32_t row) {
     uint8_t answer[STAR_ANSWER_BYTES];
-    star_work_breaking(ROWS(t), row, ANSWER(answer));
+    struct lent as = lent_as(t);
+    ASK(t, as, breaking, row, ANSWER(answer));
     return star_read_answer(answer);
 }
 
 struct star_answer star_table_digs(const struct star_table *t, uint8_t *text) {
     uint8_t answer[STAR_ANSWER_BYTES];
-    star_work_digs(ROWS(t), text, STAR_MAX_LIST, ANSWER(answer));
+    struct lent as = lent_as(t);
+    ASK(t, as, digs, text, STAR_MAX_LIST, ANSWER(answer));
     return star_read_answer(answer);
 }
 
 struct star_answer star_table_paths(const struct star_table *t, uint32_t from, uint64_t *matrix) {
     uint8_t answer[STAR_ANSWER_BYTES];
-    star_work_paths(ROWS(t), MARK(t), from, matrix, (size_t)t->n * STAR_COLUMN_WORDS,
-                    ANSWER(answer));
+    struct lent as = lent_as(t);
+    size_t words = (size_t)t->n * STAR_COLUMN_WORDS;
+    ASK(t, as, paths, t->mark, as.len, from, matrix, words, ANSWER(answer));
     return star_read_answer(answer);
 }

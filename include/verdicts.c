@@ -5,16 +5,21 @@
 #include "lent.h"
 
 /* The total of marks that are a network: what star_which of them with themselves gives. */
-static int64_t total_of(const struct star_table *t, const uint8_t *mark) {
+static int64_t total_of(const struct star_table *t, struct lent as) {
     uint8_t answer[STAR_ANSWER_BYTES];
-    star_work_which(ROWS(t), mark, STAR_MAX_ROWS, mark, STAR_MAX_ROWS, ANSWER(answer));
+    ASK(t, as, which, t->mark, as.len, t->mark, as.len, ANSWER(answer));
     return star_read_answer(answer).amount;
 }
 
-static int64_t least_of(const struct star_table *t) {
+static int64_t least_of(const struct star_table *t, struct lent as) {
     uint8_t answer[STAR_ANSWER_BYTES], mark[STAR_MAX_ROWS];
-    star_work_mst1(ROWS(t), mark, sizeof mark, ANSWER(answer));
+    ASK(t, as, mst1, mark, as.len, ANSWER(answer));
     return star_read_answer(answer).amount;
+}
+
+/* The working doors that build write 0 at rows not in use, which the plain ones do not see. */
+static void clear_behind(struct star_table *t, struct lent as, const uint8_t *answer) {
+    if (answer[0] == STAR_PASSED) memset(t->mark + as.len, 0, STAR_MAX_ROWS - as.len);
 }
 
 /* What every verdict has. */
@@ -28,7 +33,8 @@ static struct star_verdict verdict_of(struct star_answer a) {
 }
 
 /* The verdict on the table's marks. */
-static struct star_verdict judged(const struct star_table *t, const uint8_t *answer) {
+static struct star_verdict judged(const struct star_table *t, struct lent as,
+                                  const uint8_t *answer) {
     struct star_answer a = star_read_answer(answer);
     struct star_verdict v = verdict_of(a);
     if (a.kind == STAR_REFUSED) return v;
@@ -37,8 +43,8 @@ static struct star_verdict judged(const struct star_table *t, const uint8_t *ans
     v.in = a.in;
     if (a.kind == STAR_LIGHTER) {
         v.saving = a.amount;
-        v.total = total_of(t, t->mark);
-        v.least = least_of(t);
+        v.total = total_of(t, as);
+        v.least = least_of(t, as);
     } else {
         v.total = v.least = a.amount;
     }
@@ -47,20 +53,24 @@ static struct star_verdict judged(const struct star_table *t, const uint8_t *ans
 
 struct star_verdict star_table_check(const struct star_table *t) {
     uint8_t answer[STAR_ANSWER_BYTES];
-    star_work_cst(ROWS(t), MARK(t), ANSWER(answer));
-    return judged(t, answer);
+    struct lent as = lent_as(t);
+    ASK(t, as, cst, t->mark, as.len, ANSWER(answer));
+    return judged(t, as, answer);
 }
 
 struct star_verdict star_table_other(const struct star_table *t) {
     uint8_t answer[STAR_ANSWER_BYTES];
-    star_work_other(ROWS(t), MARK(t), ANSWER(answer));
-    return judged(t, answer);
+    struct lent as = lent_as(t);
+    ASK(t, as, other, t->mark, as.len, ANSWER(answer));
+    return judged(t, as, answer);
 }
 
 struct star_verdict star_table_build(struct star_table *t) {
     uint8_t answer[STAR_ANSWER_BYTES];
-    star_work_mst1(ROWS(t), MARK(t), ANSWER(answer));
-    return judged(t, answer);
+    struct lent as = lent_as(t);
+    ASK(t, as, mst1, t->mark, as.len, ANSWER(answer));
+    clear_behind(t, as, answer);
+    return judged(t, as, answer);
 }
 
 struct star_verdict star_table_mend(struct star_table *t, struct star_record *records) {
@@ -68,13 +78,14 @@ struct star_verdict star_table_mend(struct star_table *t, struct star_record *re
     uint8_t answer[STAR_ANSWER_BYTES];
     struct star_answer a;
     struct star_verdict v;
+    struct lent as = lent_as(t);
     if (!records) records = unwanted;
-    star_work_mend(ROWS(t), MARK(t), records, STAR_MAX_STEPS, ANSWER(answer));
+    ASK(t, as, mend, t->mark, as.len, records, STAR_MAX_STEPS, ANSWER(answer));
     a = star_read_answer(answer);
     v = verdict_of(a);
     if (a.kind == STAR_REFUSED) return v;
     v.steps = (unsigned)a.amount;
-    v.total = v.least = total_of(t, t->mark);
+    v.total = v.least = total_of(t, as);
     return v;
 }
 
@@ -82,7 +93,9 @@ struct star_verdict star_table_outlets(struct star_table *t, uint32_t junction, 
     uint8_t answer[STAR_ANSWER_BYTES];
     struct star_answer a;
     struct star_verdict v;
-    star_work_outlets(ROWS(t), MARK(t), junction, count, ANSWER(answer));
+    struct lent as = lent_as(t);
+    ASK(t, as, outlets, t->mark, as.len, junction, count, ANSWER(answer));
+    clear_behind(t, as, answer);
     a = star_read_answer(answer);
     v = verdict_of(a);
     if (a.kind == STAR_PASSED) v.total = a.amount;
@@ -92,8 +105,9 @@ struct star_verdict star_table_outlets(struct star_table *t, uint32_t junction, 
 struct star_verdict star_table_districts(struct star_table *t, const uint32_t *ends, size_t count,
                                          uint8_t *forests) {
     uint8_t answer[STAR_ANSWER_BYTES];
-    star_work_districts(ROWS(t), ends, count, forests, STAR_MAX_ROWS, MARK(t), ANSWER(answer));
-    return judged(t, answer);
+    star_work_districts(ROWS(t), ends, count, forests, STAR_MAX_ROWS, LENT(t->mark),
+                        ANSWER(answer));
+    return judged(t, lent_as(t), answer);
 }
 
 struct star_verdict star_table_which(const struct star_table *t, const uint8_t *first,
@@ -101,8 +115,8 @@ struct star_verdict star_table_which(const struct star_table *t, const uint8_t *
     uint8_t answer[STAR_ANSWER_BYTES];
     struct star_answer a;
     struct star_verdict v;
-    uint32_t which =
-        star_work_which(ROWS(t), first, STAR_MAX_ROWS, second, STAR_MAX_ROWS, ANSWER(answer));
+    struct lent as = lent_as(t);
+    uint32_t which = ASK(t, as, which, first, as.len, second, as.len, ANSWER(answer));
     a = star_read_answer(answer);
     v = verdict_of(a);
     if (a.kind == STAR_REFUSED) return v;

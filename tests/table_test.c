@@ -77,7 +77,7 @@ static void carry(void) {
 
 static void enter(struct pair p) {
     uint32_t a = any(300) ? p.a : 256 + p.a;
-    int32_t price = any(4) ? (int32_t)any(9) : limit_price();
+    int32_t price = any(5) ? (int32_t)any(4) : limit_price();
     int full = used(STAR_MAX_ROWS);
     star_add(IN_USE, COLUMNS, own.numbers, 1024, (uint8_t)(a > 255 ? 0 : a), (uint8_t)p.b, price,
              answer, 16);
@@ -315,11 +315,13 @@ static void start_large(uint32_t n) {
         put_row(own.left, own.right, own.weight, row, p.a, p.b, (int32_t)any(1000));
         star_set_in_use(own.in_use, row, any(300) > 0 || row == STAR_MAX_ROWS);
     }
+    memset(own.mark, 1, n - 1);
     t = own;
+    add();
 }
 
 static void start(void) {
-    uint32_t n = any(40) ? 2 + any(7) : any(258);
+    uint32_t n = any(15) ? 2 + any(7) : any(258);
     no_pair_given();
     star_table_init(&t, n);
     memset(&own, 0, sizeof own);
