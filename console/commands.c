@@ -3,17 +3,20 @@
 
 #include "edit.h"
 #include "certificate.h"
+#include "faults.h"
+#include "json.h"
 #include "picture.h"
 #include "refusal.h"
 #include "ring.h"
 #include "status.h"
+#include "usage.h"
 #include "verdict.h"
 
 /* A refusal, where the result would be no place for it. */
 static int refused(const struct table *t, struct star_answer a) {
     struct message words = {{0}, 0};
     refusal_words(&words, t, a);
-    fprintf(stderr, "%s\n", words.text);
+    fault_tell(&words);
     return EXIT_REFUSED;
 }
 
@@ -22,13 +25,9 @@ static void told(FILE *to, const struct message *words) {
     if (words->len > 0) fprintf(to, "%s\n", words->text);
 }
 
-int command_check(struct table *t, const struct options *with, struct output *o) {
-    static const int status[] = {[STAR_PASSED] = EXIT_PASSED, [STAR_LIGHTER] = EXIT_LIGHTER, [STAR_REFUSED] = EXIT_REFUSED};
-    struct star_answer a = table_cst(t);
+/* What check says, in words. */
+static void check_words(FILE *to, const struct table *t, struct star_answer a) {
     struct message words = {{0}, 0}, gap = {{0}, 0}, next = {{0}, 0};
-    FILE *to = output_open(o);
-    if (!to) return EXIT_UNWRITTEN;
-    if (with->certificate && certificate_write(to, t, a)) return status[a.kind];
     verdict_words(&words, t, a);
     verdict_gap(&gap, t, a);
     verdict_next(&next, t, a);
@@ -36,6 +35,25 @@ int command_check(struct table *t, const struct options *with, struct output *o)
     told(to, &gap);
     if (refusal_of_plan(a) && table_marks(t) > 0) ring_tell(to, t, 0);
     told(to, &next);
+}
+
+static void check_json(FILE *to, const struct table *t, struct star_answer a, const struct options *with, int status) {
+    struct json j;
+    json_begin(&j, to, with, verdict_name(a), status);
+    verdict_json(&j, t, a);
+    json_end(&j);
+}
+
+int command_check(struct table *t, const struct options *with, struct output *o) {
+    static const int status[] = {[STAR_PASSED] = EXIT_PASSED, [STAR_LIGHTER] = EXIT_LIGHTER, [STAR_REFUSED] = EXIT_REFUSED};
+    struct star_answer a = table_cst(t);
+    FILE *to;
+    if (with->json && with->certificate) return misused("an object or a certificate is written, and not both, by", "check");
+    to = output_open(o);
+    if (!to) return EXIT_UNWRITTEN;
+    if (with->certificate && certificate_write(to, t, a)) return status[a.kind];
+    if (with->json) check_json(to, t, a, with, status[a.kind]);
+    else check_words(to, t, a);
     return status[a.kind];
 }
 
@@ -49,28 +67,58 @@ static void say_saving(struct message *to, struct star_answer before, int64_t ma
     say(to, ".");
 }
 
-int command_build(struct table *t, const struct options *with, struct output *o) {
-    struct star_answer before = table_cst(t), a;
-    int64_t marked = table_plan_total(t);
-    size_t marks = table_marks(t);
+/* The marks before: none, or what they cost, and whether they were a network. */
+struct marked {
+    struct star_answer answer;
+    size_t marks;
+    int64_t cost;
+};
+
+/* Whether something can be said of them: the table is sound, and some trench was marked. */
+static int had_marks(const struct marked *m) { return m->marks > 0 && (m->answer.kind != STAR_REFUSED || refusal_of_plan(m->answer)); }
+
+static void build_words(FILE *to, const struct table *t, struct star_answer a, const struct marked *m) {
     struct message words = {{0}, 0};
     char figures[FIGURES];
-    FILE *to;
-    a = table_mst1(t);
-    if (with->table) return a.kind == STAR_PASSED ? edit_marks(o, t) : refused(t, a);
-    to = output_open(o);
-    if (!to) return EXIT_UNWRITTEN;
-    if (a.kind != STAR_PASSED) {
-        refusal_words(&words, t, a);
-        fprintf(to, "%s\n", words.text);
-        return EXIT_REFUSED;
-    }
     table_list(to, t, t->mark, 1, t->m);
     fprintf(to, "Total %s\n", amount_figures(figures, a.amount));
-    if (marks > 0 && (before.kind != STAR_REFUSED || refusal_of_plan(before))) {
-        say_saving(&words, before, marked, a.amount);
-        fprintf(to, "%s\n", words.text);
+    if (had_marks(m)) say_saving(&words, m->answer, m->cost, a.amount);
+    told(to, &words);
+}
+
+static void build_json(FILE *to, const struct table *t, struct star_answer a, const struct marked *m, const struct options *with) {
+    struct json j;
+    json_begin(&j, to, with, "built", EXIT_PASSED);
+    json_number(&j, "total", a.amount);
+    json_rows(&j, "rows", t, t->mark, 1, t->m);
+    if (had_marks(m)) {
+        json_open(&j, "marked", '{');
+        json_number(&j, "cost", m->cost);
+        json_truth(&j, "network", m->answer.kind != STAR_REFUSED);
+        if (m->answer.kind != STAR_REFUSED) json_number(&j, "saving", m->cost - a.amount);
+        json_close(&j, '}');
     }
+    json_end(&j);
+}
+
+int command_build(struct table *t, const struct options *with, struct output *o) {
+    struct marked before;
+    struct message words = {{0}, 0};
+    struct star_answer a;
+    FILE *to;
+    before.answer = table_cst(t);
+    before.marks = table_marks(t);
+    before.cost = table_plan_total(t);
+    a = table_mst1(t);
+    if (a.kind != STAR_PASSED) {
+        refusal_words(&words, t, a);
+        return tell_refused(o, with, &words);
+    }
+    if (with->table) return edit_marks(o, t);
+    to = output_open(o);
+    if (!to) return EXIT_UNWRITTEN;
+    if (with->json) build_json(to, t, a, &before, with);
+    else build_words(to, t, a, &before);
     return EXIT_PASSED;
 }
 

@@ -11,8 +11,10 @@ struct options {
     int certificate; /* check: the certificate of the verdict in place of its words */
     int all;       /* explain: every trench that is left out */
     int steps;     /* mend: each step too */
+    int json;      /* an object in place of words */
     char **words;  /* what follows the file */
     int count;
+    const char *command, *file; /* their names, for the object */
 };
 
 int command_check(struct table *t, const struct options *with, struct output *o);   /* judges the marked trenches */

@@ -3,6 +3,7 @@
 #include <string.h>
 
 #include "commands.h"
+#include "json.h"
 #include "edit.h"
 #include "refusal.h"
 #include "status.h"
@@ -53,14 +54,11 @@ static void say_runs(struct message *to, const struct table *t, const uint32_t *
     }
 }
 
-/* A refusal is the result, unless that is to be a table. */
-static int refused(FILE *to, const struct table *t, struct star_answer a, const uint32_t *ends, const struct options *with) {
+static int refused(struct output *o, const struct table *t, struct star_answer a, const uint32_t *ends, const struct options *with) {
     struct message words = {{0}, 0};
-    if (!to) return EXIT_UNWRITTEN;
     if (a.number == STAR_BAD_RUNS) say_runs(&words, t, ends, with);
     else refusal_words(&words, t, a);
-    fprintf(to, "%s\n", words.text);
-    return EXIT_REFUSED;
+    return tell_refused(o, with, &words);
 }
 
 static void total(FILE *to, int64_t amount) {
@@ -68,27 +66,62 @@ static void total(FILE *to, int64_t amount) {
     fprintf(to, "Total %s\n", amount_figures(figures, amount));
 }
 
-int command_districts(struct table *t, const struct options *with, struct output *o) {
-    uint32_t ends[ENDS];
-    size_t count = (size_t)with->count, i;
-    struct star_answer a;
-    FILE *to;
-    int status = ends_read(with, ends);
-    if (status != 0) return status;
-    a = table_districts(t, ends, count, forests);
-    if (a.kind != STAR_PASSED) return refused(with->table ? stderr : output_open(o), t, a, ends, with);
-    if (with->table) return edit_marks(o, t);
-    to = output_open(o);
-    if (!to) return EXIT_UNWRITTEN;
+static size_t first_of(const uint32_t *ends, size_t i) { return i ? ends[i - 1] + (size_t)1 : 1; }
+
+static void districts_words(FILE *to, const struct table *t, const uint32_t *ends, size_t count, int64_t amount) {
+    size_t i;
     for (i = 0; i < count; i++) {
-        size_t first = i ? ends[i - 1] + (size_t)1 : 1;
+        size_t first = first_of(ends, i);
         if (first < ends[i]) fprintf(to, "District %zu, trenches %zu to %u:\n", i + 1, first, (unsigned)ends[i]);
         else fprintf(to, "District %zu, trench %zu:\n", i + 1, first);
         total(to, table_list(to, t, forests, first, ends[i]));
     }
     fprintf(to, "The city, from the districts' trenches:\n");
     table_list(to, t, t->mark, 1, t->m);
-    total(to, a.amount);
+    total(to, amount);
     fprintf(to, "No network of the whole table is cheaper.\n");
+}
+
+/* The sum of the prices of a district's chosen trenches. */
+static int64_t sum(const struct table *t, size_t first, size_t last) {
+    int64_t amount = 0;
+    size_t i;
+    for (i = table_next(t, first - 1); i <= last && i <= t->m; i = table_next(t, i))
+        if (forests[i - 1] == 1) amount += table_cost(t, i);
+    return amount;
+}
+
+static void districts_json(FILE *to, const struct table *t, const uint32_t *ends, int64_t amount, const struct options *with) {
+    struct json j;
+    size_t i;
+    json_begin(&j, to, with, "built", EXIT_PASSED);
+    json_open(&j, "districts", '[');
+    for (i = 0; i < (size_t)with->count; i++) {
+        json_open(&j, NULL, '{');
+        json_number(&j, "first", (int64_t)first_of(ends, i));
+        json_number(&j, "last", ends[i]);
+        json_rows(&j, "rows", t, forests, first_of(ends, i), ends[i]);
+        json_number(&j, "total", sum(t, first_of(ends, i), ends[i]));
+        json_close(&j, '}');
+    }
+    json_close(&j, ']');
+    json_rows(&j, "rows", t, t->mark, 1, t->m);
+    json_number(&j, "total", amount);
+    json_end(&j);
+}
+
+int command_districts(struct table *t, const struct options *with, struct output *o) {
+    uint32_t ends[ENDS];
+    struct star_answer a;
+    FILE *to;
+    int status = ends_read(with, ends);
+    if (status != 0) return status;
+    a = table_districts(t, ends, (size_t)with->count, forests);
+    if (a.kind != STAR_PASSED) return refused(o, t, a, ends, with);
+    if (with->table) return edit_marks(o, t);
+    to = output_open(o);
+    if (!to) return EXIT_UNWRITTEN;
+    if (with->json) districts_json(to, t, ends, a.amount, with);
+    else districts_words(to, t, ends, (size_t)with->count, a.amount);
     return EXIT_PASSED;
 }

@@ -1,14 +1,11 @@
 /* The command explain: why a plan is a network or none, and why each trench that is left out is held against one trench of its detour alone. */
-#include "commands.h"
-#include "detour.h"
+#include "explain.h"
+
 #include "refusal.h"
 #include "ring.h"
 #include "status.h"
 #include "usage.h"
 #include "verdict.h"
-
-/* Trenches that are explained where neither one nor all of them are asked for. */
-enum { FIRST = 10 };
 
 static void line(FILE *to, struct message *words) {
     if (words->len > 0) fprintf(to, "%s\n", words->text);
@@ -42,7 +39,7 @@ static void each_left_out(FILE *to, const struct table *t, struct paths *p, int 
     for (standing = CHEAPER; standing < STANDINGS; standing++)
         for (i = table_next(t, 0); i <= t->m; i = table_next(t, i)) {
             if (t->mark[i - 1] == 1 || !detour_of(&d, p, t, i) || (int)d.standing != standing) continue;
-            if (all || shown < FIRST) shown++, left_out(to, t, i, &d, total);
+            if (all || shown < EXPLAINED) shown++, left_out(to, t, i, &d, total);
             else count[standing]++, hidden++;
         }
     if (shown == 0) say(&words, "No trench is left out.");
@@ -52,20 +49,27 @@ static void each_left_out(FILE *to, const struct table *t, struct paths *p, int 
     line(to, &words);
 }
 
-/* A trench of the plan: what could come in for it, and the cheapest of that. */
-static void marked(FILE *to, const struct table *t, struct paths *p, size_t i) {
+size_t explain_instead(const struct table *t, struct paths *p, size_t i, unsigned instead[STAR_MAX_ROWS], unsigned *cheapest) {
     static struct detour d;
-    struct message words = {{0}, 0};
-    unsigned instead[STAR_MAX_ROWS], cheapest = 0;
     size_t count = 0, k, j;
-    char own[FIGURES], least[FIGURES];
+    *cheapest = 0;
     for (k = table_next(t, 0); k <= t->m; k = table_next(t, k)) {
         if (t->mark[k - 1] == 1 || !detour_of(&d, p, t, k)) continue;
         for (j = 0; j < d.count && d.row[j] != i; j++) continue;
         if (j == d.count) continue;
         instead[count++] = (unsigned)k;
-        if (!cheapest || table_cost(t, k) < table_cost(t, cheapest)) cheapest = (unsigned)k;
+        if (!*cheapest || table_cost(t, k) < table_cost(t, *cheapest)) *cheapest = (unsigned)k;
     }
+    return count;
+}
+
+/* A trench of the plan: what could come in for it, and the cheapest of that. */
+static void marked(FILE *to, const struct table *t, struct paths *p, size_t i) {
+    static unsigned instead[STAR_MAX_ROWS];
+    struct message words = {{0}, 0};
+    unsigned cheapest;
+    size_t count = explain_instead(t, p, i, instead, &cheapest);
+    char own[FIGURES], least[FIGURES];
     say_trench(&words, t, i);
     if (count == 0) {
         say(&words, " is of the plan, and on no detour: no other trench joins what it joins, so it is in every network.");
@@ -126,22 +130,10 @@ static int trench_asked(const struct options *with, uint32_t *trench) {
     return with->count == 1 ? trench_named(with->words[0], trench) : 0;
 }
 
-int command_explain(struct table *t, const struct options *with, struct output *o) {
-    struct star_answer a = table_cst(t);
+static void explain_words(FILE *to, const struct table *t, struct star_answer a, size_t trench, const struct options *with) {
     struct message words = {{0}, 0};
-    uint32_t trench;
-    int status = trench_asked(with, &trench), sound = a.kind != STAR_REFUSED || refusal_of_plan(a);
-    FILE *to;
-    if (status != 0) return status;
-    to = output_open(o);
-    if (!to) return EXIT_UNWRITTEN;
-    if (sound && with->count == 1 && !refusal_has_trench(t, trench)) {
-        refusal_of_asked(&words, t, trench, with->words[0]);
-        line(to, &words);
-        return EXIT_REFUSED;
-    }
     if (a.kind != STAR_REFUSED) network(to, t, trench, with->all);
-    else if (sound) no_network(to, t, with->all);
+    else if (refusal_of_plan(a)) no_network(to, t, with->all);
     else if (a.number == STAR_BAD_JUNCTION_COUNT) explain_limit(&words);
     line(to, &words);
     if (a.kind == STAR_REFUSED && with->count == 1) not_looked_at(to, trench, a);
@@ -149,5 +141,23 @@ int command_explain(struct table *t, const struct options *with, struct output *
     line(to, &words);
     verdict_gap(&words, t, a);
     line(to, &words);
-    return a.kind == STAR_REFUSED ? EXIT_REFUSED : EXIT_PASSED;
+}
+
+int command_explain(struct table *t, const struct options *with, struct output *o) {
+    struct star_answer a = table_cst(t);
+    struct message words = {{0}, 0};
+    uint32_t trench;
+    int status = trench_asked(with, &trench);
+    FILE *to;
+    if (status != 0) return status;
+    if ((a.kind != STAR_REFUSED || refusal_of_plan(a)) && with->count == 1 && !refusal_has_trench(t, trench)) {
+        refusal_of_asked(&words, t, trench, with->words[0]);
+        return tell_refused(o, with, &words);
+    }
+    status = a.kind == STAR_REFUSED ? EXIT_REFUSED : EXIT_PASSED;
+    to = output_open(o);
+    if (!to) return EXIT_UNWRITTEN;
+    if (with->json) explain_json(to, t, a, trench, with, status);
+    else explain_words(to, t, a, trench, with);
+    return status;
 }

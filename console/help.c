@@ -86,6 +86,14 @@ static void statuses(FILE *to, const struct page *p) {
     }
 }
 
+/* Lines 'NAME words', the words of a line that is too long below each other. */
+static void keys(FILE *to, const char *text) {
+    while (*text) {
+        fputs("    ", to);
+        text = paragraph(to, text, strlen(text), 6);
+    }
+}
+
 void help_of(FILE *to, const struct page *p) {
     const char *text = p->does;
     const struct option *o;
@@ -101,4 +109,7 @@ void help_of(FILE *to, const struct page *p) {
     fprintf(to, "\nExample:\n    $ star %s\n", p->example);
     lines(to, p->output);
     statuses(to, p);
+    if (!p->keys) return;
+    fputs("\nKeys of --json, beside command, file, verdict and status:\n", to);
+    keys(to, p->keys);
 }

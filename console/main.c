@@ -4,8 +4,10 @@
 #include <string.h>
 
 #include "commands.h"
+#include "faults.h"
 #include "help.h"
 #include "input.h"
+#include "json.h"
 #include "output.h"
 #include "status.h"
 #include "usage.h"
@@ -13,25 +15,25 @@
 struct command {
     const char *name;
     int (*run)(struct table *t, const struct options *with, struct output *o);
-    const char *takes; /* what it takes beside a file: c --certificate, t --table, a --all, s --steps, w words */
+    const char *takes; /* what it takes beside a file: c --certificate, t --table, a --all, s --steps, j --json, w words */
     enum needs { FILE_ALONE, PLAN, LINES, TEXT } needs; /* marks, or lines that can be changed, which an STP file has not; its text, refused or not */
     enum result { WORDS, WRITING, TABLE } result; /* words, of which a refusal is one too, or a file, or one that is a table */
     const char *plan;  /* what it does with a plan; NULL where it needs none */
 };
 
 static const struct command COMMANDS[] = {
-    {"check", command_check, "c", PLAN, WORDS, "check"},
-    {"build", command_build, "t", FILE_ALONE, WORDS, NULL},
-    {"explain", command_explain, "aw", PLAN, WORDS, "explain"},
+    {"check", command_check, "cj", PLAN, WORDS, "check"},
+    {"build", command_build, "tj", FILE_ALONE, WORDS, NULL},
+    {"explain", command_explain, "ajw", PLAN, WORDS, "explain"},
     {"draw", command_draw, "", FILE_ALONE, WRITING, NULL},
     {"dot", command_dot, "", FILE_ALONE, WRITING, NULL},
     {"page", command_page, "", FILE_ALONE, WRITING, NULL},
     {"table", command_table, "", FILE_ALONE, TABLE, NULL},
     {"digs", command_digs, "", TEXT, WRITING, NULL},
-    {"quote", command_quote, "w", FILE_ALONE, WORDS, NULL},
-    {"breaking", command_breaking, "w", FILE_ALONE, WORDS, NULL},
-    {"which", command_which, "w", PLAN, WORDS, "compare"},
-    {"stretch", command_stretch, "w", PLAN, WORDS, "follow"},
+    {"quote", command_quote, "jw", FILE_ALONE, WORDS, NULL},
+    {"breaking", command_breaking, "jw", FILE_ALONE, WORDS, NULL},
+    {"which", command_which, "jw", PLAN, WORDS, "compare"},
+    {"stretch", command_stretch, "jw", PLAN, WORDS, "follow"},
     {"strike", command_strike, "w", LINES, TABLE, NULL},
     {"add", command_add, "w", LINES, TABLE, NULL},
     {"merge", command_merge, "", LINES, TABLE, NULL},
@@ -39,9 +41,9 @@ static const struct command COMMANDS[] = {
     {"mark", command_mark, "w", LINES, TABLE, NULL},
     {"unmark", command_unmark, "w", LINES, TABLE, NULL},
     {"price", command_price, "w", LINES, TABLE, NULL},
-    {"districts", command_districts, "tw", FILE_ALONE, WORDS, NULL},
-    {"mend", command_mend, "s", LINES, TABLE, NULL},
-    {"outlets", command_outlets, "tw", FILE_ALONE, WORDS, NULL},
+    {"districts", command_districts, "tjw", FILE_ALONE, WORDS, NULL},
+    {"mend", command_mend, "sj", LINES, TABLE, NULL},
+    {"outlets", command_outlets, "tjw", FILE_ALONE, WORDS, NULL},
 };
 
 struct request {
@@ -95,11 +97,13 @@ static int options(struct request *r, char **words) {
         else if (strcmp(word, "--certificate") == 0 && takes(r, 'c')) r->with.certificate = 1;
         else if (strcmp(word, "--all") == 0 && takes(r, 'a')) r->with.all = 1;
         else if (strcmp(word, "--steps") == 0 && takes(r, 's')) r->with.steps = 1;
+        else if (strcmp(word, "--json") == 0 && takes(r, 'j')) r->with.json = 1;
         else if (strncmp(word, "-o", 2) == 0) {
             status = output_named(r, word[2] ? word + 2 : *++words);
             if (status != 0) return status;
         } else return misused("unknown option", word);
     }
+    if (r->with.json && r->with.table) return misused("an object or a table is written, and not both, by", r->command->name);
     if (r->out.file && !r->file && !r->help) return misused("no file is named to be read, which may be '-', and the output goes to", r->out.file);
     return 0;
 }
@@ -109,6 +113,7 @@ static int run(struct request *r) {
     struct input in;
     struct message fault = {{0}, 0};
     int status = input_open(&in, r->file, &fault), over;
+    r->with.file = in.file;
     over = status == 0 ? output_spares(&r->out, in.id, r->command->name, !in.stp && (r->command->result == TABLE || r->with.table)) : 0;
     if (over != 0) {
         input_close(&in);
@@ -125,12 +130,11 @@ static int run(struct request *r) {
     if (status == 0) {
         status = r->command->run(&t, &r->with, &r->out);
     } else if (status == EXIT_REFUSED && r->command->needs == TEXT) { /* the list of a text that is refused has one line, and the words stand beside it */
-        fprintf(stderr, "%s\n", fault.text);
+        fault_tell(&fault);
         status = r->command->run(&t, &r->with, &r->out);
     } else {
-        FILE *to = status == EXIT_REFUSED && r->command->result == WORDS && !r->with.table ? output_open(&r->out) : stderr;
-        if (to) fprintf(to, "%s\n", fault.text);
-        else status = EXIT_UNWRITTEN;
+        if (status == EXIT_REFUSED && r->command->result == WORDS) status = tell_refused(&r->out, &r->with, &fault);
+        else fault_tell(&fault);
     }
     input_close(&in);
     return status;
@@ -155,10 +159,27 @@ static int tell_version(struct request *r) {
     return EXIT_PASSED;
 }
 
+/* The object of a fault that ends the command before its result. */
+static int tell_fault(struct request *r, int status) {
+    FILE *to;
+    r->out.file = NULL;
+    to = output_open(&r->out);
+    if (!to) return EXIT_UNWRITTEN;
+    json_fault(to, &r->with, status, fault_last());
+    return output_close(&r->out) ? status : EXIT_UNWRITTEN;
+}
+
+/* Whether --json stands among the words, for faults that are found before it is reached. */
+static int asks_json(const struct request *r, char **words) {
+    for (; *words && strcmp(*words, "--") != 0; words++)
+        if (strcmp(*words, "--json") == 0) return takes(r, 'j');
+    return 0;
+}
+
 static int asks_help(const char *word) { return strcmp(word, "--help") == 0 || strcmp(word, "-h") == 0 || strcmp(word, "help") == 0; }
 
 int main(int count, char **words) {
-    struct request r = {NULL, NULL, {0, 0, 0, 0, NULL, 0}, {NULL, NULL, NULL, 0}, 0, 0};
+    struct request r = {NULL, NULL, {0, 0, 0, 0, 0, NULL, 0, NULL, NULL}, {NULL, NULL, NULL, 0}, 0, 0};
     int status;
     file_guard();
     if (count < 2) {
@@ -167,9 +188,11 @@ int main(int count, char **words) {
     }
     r.command = find(words[1]);
     if (r.command) {
+        r.with.command = r.command->name;
+        r.with.json = asks_json(&r, words + 2);
         status = options(&r, words + 2);
-        if (status != 0) return status;
-        status = r.help ? tell_help(&r) : run(&r);
+        r.with.file = r.file && strcmp(r.file, "-") != 0 ? r.file : "standard input";
+        if (status == 0) status = r.help ? tell_help(&r) : run(&r);
     } else if (asks_help(words[1])) {
         status = tell_help(&r);
     } else if (strcmp(words[1], "--version") == 0) {
@@ -178,5 +201,6 @@ int main(int count, char **words) {
         return misused(words[1][0] == '-' ? "unknown option" : "unknown command", words[1]);
     }
     if (status > EXIT_REFUSED) output_drop(&r.out);
+    if (r.with.json && (status == EXIT_UNREADABLE || status == EXIT_USAGE)) return tell_fault(&r, status);
     return output_close(&r.out) ? status : EXIT_UNWRITTEN;
 }

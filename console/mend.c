@@ -1,10 +1,14 @@
-/* The command mend: the file with its plan made a cheapest network, what changed in the end, and each step where it is asked for. The door decides on the steps; the lines of the file follow. */
+/* The command mend: the file with its plan made a cheapest network, what changed in the end, and each step where it is asked for. The door decides on
+   the steps; the lines of the file follow. */
 #include <string.h>
 
 #include "commands.h"
 #include "edit.h"
+#include "faults.h"
+#include "json.h"
 #include "refusal.h"
 #include "status.h"
+#include "usage.h"
 #include "verdict.h"
 
 static struct star_record records[RECORDS];
@@ -71,23 +75,75 @@ static void tell_steps(const struct table *t, size_t steps) {
     }
 }
 
+/* The trenches whose marks changed to one state, as a list. */
+static void json_changed(struct json *j, const char *key, const struct table *t, const uint8_t *before, int marked) {
+    static uint8_t changed[KEPT];
+    size_t i;
+    for (i = 1; i <= t->m; i++) changed[i - 1] = (uint8_t)(before[i - 1] != t->mark[i - 1] && t->mark[i - 1] == marked);
+    json_rows(j, key, t, changed, 1, t->m);
+}
+
+static void json_steps(struct json *j, const struct table *t, size_t steps) {
+    static const char *const names[] = {[STAR_DROPPED] = "dropped", [STAR_ADDED] = "added", [STAR_EXCHANGED] = "exchanged"};
+    size_t i;
+    json_open(j, "steps", '[');
+    for (i = 0; i < steps; i++) {
+        json_open(j, NULL, '{');
+        json_text(j, "step", names[records[i].kind]);
+        if (records[i].out > 0) json_trench(j, "out", t, records[i].out);
+        if (records[i].in > 0) json_trench(j, "in", t, records[i].in);
+        json_close(j, '}');
+    }
+    json_close(j, ']');
+}
+
+/* The object goes to standard output, and the file to the output that is named. */
+static int mend_json(const struct table *t, const struct past *past, size_t steps, const struct options *with) {
+    struct output own = {NULL, NULL, NULL, 0};
+    struct json j;
+    FILE *to = output_open(&own);
+    if (!to) return EXIT_UNWRITTEN;
+    json_begin(&j, to, with, "mended", EXIT_PASSED);
+    json_changed(&j, "out", t, past->mark, 0);
+    json_changed(&j, "in", t, past->mark, 1);
+    json_open(&j, "marked", '{');
+    json_number(&j, "cost", past->cost);
+    json_truth(&j, "network", past->network);
+    json_close(&j, '}');
+    json_number(&j, "total", table_plan_total(t));
+    if (with->steps) json_steps(&j, t, steps);
+    json_end(&j);
+    return output_close(&own) ? EXIT_PASSED : EXIT_UNWRITTEN;
+}
+
+/* A refusal, which leaves the file as it was. */
+static int refused(const struct table *t, struct star_answer a, const struct options *with) {
+    struct output own = {NULL, NULL, NULL, 0};
+    struct message words = {{0}, 0};
+    int status;
+    refusal_words(&words, t, a);
+    if (!with->json) {
+        fault_tell(&words);
+        return EXIT_REFUSED;
+    }
+    status = tell_refused(&own, with, &words);
+    return output_close(&own) ? status : EXIT_UNWRITTEN;
+}
+
 int command_mend(struct table *t, const struct options *with, struct output *o) {
     static struct past past;
     struct star_answer a;
     int status;
+    if (with->json && !o->file) return misused("the object of --json goes to standard output, and the file to '-o FILE', which is missing after", "mend");
     memcpy(past.mark, t->mark, sizeof past.mark);
     past.marks = table_marks(t);
     past.cost = table_plan_total(t);
     past.network = table_cst(t).kind != STAR_REFUSED;
     a = table_mend(t, records);
-    if (a.kind != STAR_PASSED) {
-        struct message words = {{0}, 0};
-        refusal_words(&words, t, a);
-        fprintf(stderr, "%s\n", words.text);
-        return EXIT_REFUSED;
-    }
+    if (a.kind != STAR_PASSED) return refused(t, a, with);
     status = edit_marks(o, t);
     if (status != 0) return status;
+    if (with->json) return mend_json(t, &past, (size_t)a.amount, with);
     tell(t, &past);
     if (with->steps) tell_steps(t, (size_t)a.amount);
     return EXIT_PASSED;

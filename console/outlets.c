@@ -2,6 +2,7 @@
 #include <string.h>
 
 #include "commands.h"
+#include "json.h"
 #include "edit.h"
 #include "refusal.h"
 #include "status.h"
@@ -25,9 +26,7 @@ static void counts(const struct table *t, uint32_t junction, uint32_t *least, ui
     }
 }
 
-static void say_no_outlets(struct message *to, const struct table *t, const uint32_t asked[2], char **words) {
-    uint32_t least = 0, largest = 0;
-    counts(t, asked[0], &least, &largest);
+static void say_no_outlets(struct message *to, const struct table *t, const uint32_t asked[2], char **words, uint32_t least, uint32_t largest) {
     refusal_opens(to, STAR_NO_OUTLETS, t->file, 0);
     say(to, "no network has exactly ");
     say_given(to, words[1]);
@@ -39,25 +38,62 @@ static void say_no_outlets(struct message *to, const struct table *t, const uint
     say_count(to, t->strikes, "struck trench is left out.", "struck trenches are left out.");
 }
 
-/* A refusal is the result, unless that is to be a table. Numbers are told as they were given. */
-static int refused(FILE *to, const struct table *t, struct star_answer a, const uint32_t asked[2], char **given) {
+/* No network has the number that is asked for: those that are possible are told. */
+static int none_has(struct output *o, const struct table *t, const uint32_t asked[2], const struct options *with) {
     struct message words = {{0}, 0};
+    uint32_t possible[2] = {0, 0};
+    struct json j;
+    FILE *to;
+    counts(t, asked[0], &possible[0], &possible[1]);
+    say_no_outlets(&words, t, asked, with->words, possible[0], possible[1]);
+    if (!with->json) return tell_refused(o, with, &words);
+    to = output_open(o);
     if (!to) return EXIT_UNWRITTEN;
-    if (a.number == STAR_NO_OUTLETS) say_no_outlets(&words, t, asked, given);
-    else if (a.number == STAR_BAD_SOURCE) refusal_of_asked_junction(&words, t, given[0]);
-    else refusal_words(&words, t, a);
-    fprintf(to, "%s\n", words.text);
+    json_begin(&j, to, with, "refused", EXIT_REFUSED);
+    json_refusal(&j, words.text);
+    json_numbers(&j, "possible", possible, 2);
+    json_end(&j);
     return EXIT_REFUSED;
 }
 
-/* The total against that of a cheapest network with any number there. */
-static void compare(FILE *to, const struct table *t, uint32_t junction, int64_t amount) {
-    char figures[2][FIGURES];
-    struct star_answer a;
+/* Numbers are told as they were given. */
+static int refused(struct output *o, const struct table *t, struct star_answer a, const uint32_t asked[2], const struct options *with) {
+    struct message words = {{0}, 0};
+    if (a.number == STAR_NO_OUTLETS) return none_has(o, t, asked, with);
+    if (a.number == STAR_BAD_SOURCE) refusal_of_asked_junction(&words, t, with->words[0]);
+    else refusal_words(&words, t, a);
+    return tell_refused(o, with, &words);
+}
+
+/* The total of a cheapest network with any number there. */
+static int64_t least_total(const struct table *t) {
     copy = *t;
-    a = table_mst1(&copy);
-    if (a.amount == amount) fprintf(to, "No network is cheaper, whatever it has at junction %u.\n", (unsigned)junction);
-    else fprintf(to, "With any number at junction %u the cheapest network costs %s: %s less.\n", (unsigned)junction, amount_figures(figures[0], a.amount), amount_figures(figures[1], amount - a.amount));
+    return table_mst1(&copy).amount;
+}
+
+static void outlets_words(FILE *to, const struct table *t, const uint32_t asked[2], int64_t amount) {
+    struct message words = {{0}, 0};
+    char figures[2][FIGURES];
+    int64_t least = least_total(t);
+    say_count(&words, asked[1], "trench", "trenches");
+    fprintf(to, "A cheapest network with exactly %s at junction %u:\n", words.text, (unsigned)asked[0]);
+    table_list(to, t, t->mark, 1, t->m);
+    fprintf(to, "Total %s\n", amount_figures(figures[0], amount));
+    if (least == amount) fprintf(to, "No network is cheaper, whatever it has at junction %u.\n", (unsigned)asked[0]);
+    else
+        fprintf(to, "With any number at junction %u the cheapest network costs %s: %s less.\n", (unsigned)asked[0], amount_figures(figures[0], least),
+                amount_figures(figures[1], amount - least));
+}
+
+static void outlets_json(FILE *to, const struct table *t, const uint32_t asked[2], int64_t amount, const struct options *with) {
+    struct json j;
+    json_begin(&j, to, with, "built", EXIT_PASSED);
+    json_number(&j, "junction", asked[0]);
+    json_number(&j, "count", asked[1]);
+    json_rows(&j, "rows", t, t->mark, 1, t->m);
+    json_number(&j, "total", amount);
+    json_number(&j, "least", least_total(t));
+    json_end(&j);
 }
 
 /* The words JUNCTION COUNT. */
@@ -73,22 +109,17 @@ static int question(const struct options *with, uint32_t asked[2]) {
 }
 
 int command_outlets(struct table *t, const struct options *with, struct output *o) {
-    struct message words = {{0}, 0};
     struct star_answer a;
     uint32_t asked[2];
-    char figures[FIGURES];
     FILE *to;
     int status = question(with, asked);
     if (status != 0) return status;
     a = table_outlets(t, asked[0], asked[1]);
-    if (a.kind != STAR_PASSED) return refused(with->table ? stderr : output_open(o), t, a, asked, with->words);
+    if (a.kind != STAR_PASSED) return refused(o, t, a, asked, with);
     if (with->table) return edit_marks(o, t);
     to = output_open(o);
     if (!to) return EXIT_UNWRITTEN;
-    say_count(&words, asked[1], "trench", "trenches");
-    fprintf(to, "A cheapest network with exactly %s at junction %u:\n", words.text, (unsigned)asked[0]);
-    table_list(to, t, t->mark, 1, t->m);
-    fprintf(to, "Total %s\n", amount_figures(figures, a.amount));
-    compare(to, t, asked[0], a.amount);
+    if (with->json) outlets_json(to, t, asked, a.amount, with);
+    else outlets_words(to, t, asked, a.amount);
     return EXIT_PASSED;
 }

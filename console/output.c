@@ -9,6 +9,7 @@
 #include <string.h>
 #include <unistd.h>
 
+#include "faults.h"
 #include "status.h"
 
 static void complain(const struct output *o, const char *what) {
@@ -79,12 +80,15 @@ void output_drop(struct output *o) {
 int output_spares(const struct output *o, struct file_id read, const char *command, int table) {
     struct file_id own = o->file ? file_named(o->file) : file_open(STDOUT_FILENO);
     const char *name = o->file ? o->file : "standard output";
+    struct message words = {{0}, 0};
     if (!file_same(own, read)) return 0;
     if (!o->file || !file_replaced(o->file)) {
-        fprintf(stderr, "star: %s is the file that is read, and is left as it is; '-o FILE' replaces a file as a whole\n", name);
+        say(&words, "star: %.200s is the file that is read, and is left as it is; '-o FILE' replaces a file as a whole", name);
+        fault_tell(&words);
         return EXIT_USAGE;
     }
     if (table) return 0;
-    fprintf(stderr, "star: %s is the file that is read, and is left as it is: what '%s' writes is no table that can take its place\n", name, command);
+    say(&words, "star: %.200s is the file that is read, and is left as it is: what '%s' writes is no table that can take its place", name, command);
+    fault_tell(&words);
     return EXIT_USAGE;
 }

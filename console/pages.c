@@ -3,6 +3,24 @@
 
 #include <string.h>
 
+/* The keys of a verdict. */
+#define VERDICT_KEYS \
+    "total: the plan's total\n" \
+    "only: whether a plan that passed is the only cheapest network\n" \
+    "out: the trench that an exchange takes out: one that saves, or, of a plan that " \
+    "passed and is not the only cheapest network, one that gives another of the " \
+    "same total\n" \
+    "in: the trench that it puts in\n" \
+    "saving: what an exchange saves\n" \
+    "after: the total after an exchange that saves\n" \
+    "least: the least total, beside it\n" \
+    "most: what is saved at most, beside it\n" \
+    "rings: where the marks are no network, and there are some: the rings, a list; " \
+    "each has trenches and junctions, two lists of numbers in order, the first " \
+    "junction once more at the end\n" \
+    "groups: beside rings, the groups of junctions that marked trenches join, a " \
+    "list of lists"
+
 const char *const STATUS_TEXT[STATUSES] = {
     "passed, built, told, drawn or written",
     "a cheaper set exists",
@@ -12,11 +30,33 @@ const char *const STATUS_TEXT[STATUSES] = {
     "the output could not be written",
 };
 
+const struct keys KEYS[] = {
+    {"Every object",
+     "command: the command\n"
+     "file: the file's name as it was given, or 'standard input'\n"
+     "verdict: passed, cheaper, built, told, mended, refused, unreadable or misused\n"
+     "status: the exit status"},
+    {"A refusal",
+     "refusal: its number\n"
+     "place: the trench or junction that it names, where it has one\n"
+     "line: the line of the file, where it has one\n"
+     "words: the message"},
+    {"Unreadable input and wrong usage", "words: the message, which stands on standard error too"},
+    {"A trench",
+     "trench: its number\n"
+     "left: its first junction\n"
+     "right: its second junction\n"
+     "price: its price\n"
+     "line: its line in a table file"},
+    {NULL, NULL},
+};
+
 const struct option OPTIONS[] = {
     {"--table", "", "writes a table with the chosen trenches marked"},
     {"--certificate", "", "writes what shows the verdict, for another program to check"},
     {"--all", "", "tells of all trenches left out, rings, groups; not of a few"},
     {"--steps", "", "tells each step too"},
+    {"--json", "", "writes one object (JSON) in place of words"},
     {"-o", "OUTPUT", "writes the file OUTPUT, as a whole or not at all"},
     {"--help", "", "writes the command's page; also -h"},
     {NULL, NULL, NULL},
@@ -26,7 +66,7 @@ const struct page PAGES[] = {
     {
         .name = "check",
         .words = "[FILE]",
-        .options = "--certificate",
+        .options = "--certificate --json",
         .line = "say whether the plan is a cheapest network",
         .does = "Says whether the marked trenches reach every junction at the least total "
                 "price.\n\n"
@@ -52,11 +92,12 @@ const struct page PAGES[] = {
                   "'star explain' says why.\n"
                   "'star mend' writes the file with its plan made a cheapest network.\n",
         .statuses = "0 passed\n1 a cheaper set exists\n2 the table or the plan was refused",
+        .keys = VERDICT_KEYS,
     },
     {
         .name = "build",
         .words = "[FILE]",
-        .options = "--table",
+        .options = "--table --json",
         .line = "list a cheapest network",
         .does = "Lists the cheapest trenches that reach every junction, and their total, "
                 "which has - before it where it is below 0. Where trenches are marked, it "
@@ -70,11 +111,15 @@ const struct page PAGES[] = {
                   "Total 12\n"
                   "The marked trenches cost 13: these save 1.\n",
         .statuses = "0 built\n2 the table or the text was refused",
+        .keys = "rows: the trenches of the network, a list\n"
+                "total: their total\n"
+                "marked: what was marked before, where something was and the table is sound; it "
+                "has cost, network (whether it was one) and saving (where it was)",
     },
     {
         .name = "explain",
         .words = "[FILE [TRENCH]]",
-        .options = "--all",
+        .options = "--all --json",
         .line = "say why, trench by trench",
         .does = "Says why. Of a plan that is a network: each trench that is left out, with "
                 "its detour, the way around over marked trenches; the sum of the detour, "
@@ -95,6 +140,14 @@ const struct page PAGES[] = {
                   "Passed: the marked trenches reach every junction, and no set that does is cheaper. Total 12.\n"
                   "Another network costs the same: take out trench 3 (3-4, price 5), put in trench 1 (1-2, price 5).\n",
         .statuses = "0 explained, and the plan was not refused\n2 the table, the plan or what was asked was refused, and why is told",
+        .keys = VERDICT_KEYS "\n"
+                "rows: the trenches that are explained, a list: each a trench with marked; one "
+                "left out has detour (its trenches in order), junctions, sum, dearest (a "
+                "trench), standing (cheaper, equal or dearer than that) and after (the total "
+                "after the exchange); one of the plan has instead (numbers) and cheapest (a "
+                "trench)\n"
+                "hidden: the trenches left out that are not told\n"
+                "looked_at: false where a trench is named, and the table or the plan is refused",
     },
     {
         .name = "page",
@@ -165,7 +218,7 @@ const struct page PAGES[] = {
     {
         .name = "quote",
         .words = "FILE TRENCH PRICE",
-        .options = "",
+        .options = "--json",
         .line = "say what a new price of a trench changes",
         .does = "Says what the cheapest network costs today, and what it costs when TRENCH "
                 "has the price PRICE and all else stays. The two totals differ by at most the "
@@ -176,11 +229,16 @@ const struct page PAGES[] = {
         .output = "trench 4 (1-4, price 4) at the new price 9:\n"
                   "The cheapest network costs 12 today and 13 at the new price: 1 more.\n",
         .statuses = "0 told\n2 the table, the text or what was asked was refused",
+        .keys = "trench: the trench\n"
+                "price: its new price\n"
+                "before: the least total today\n"
+                "after: the least total at the new price\n"
+                "more: after less before",
     },
     {
         .name = "breaking",
         .words = "FILE TRENCH",
-        .options = "",
+        .options = "--json",
         .line = "say up to which price a trench is worth it",
         .does = "Says up to which price a cheapest network has TRENCH, which trench takes its "
                 "place above, and what the cheapest network then costs. At this price, the "
@@ -192,11 +250,17 @@ const struct page PAGES[] = {
         .output = "trench 4 (1-4, price 4) is in a cheapest network up to 5; above, trench 1 (1-2, price 5) takes its place.\n"
                   "The cheapest network costs 12 today, and 13 at any price from 5 on.\n",
         .statuses = "0 told\n2 the table, the text or what was asked was refused",
+        .keys = "trench: the trench\n"
+                "always: whether it is in every network\n"
+                "before: the least total today\n"
+                "breaking: its breaking price, unless it is in every network\n"
+                "after: the least total at any price from that on\n"
+                "instead: the trench that takes its place",
     },
     {
         .name = "which",
         .words = "FILE FILE",
-        .options = "",
+        .options = "--json",
         .line = "say which of two plans costs less",
         .does = "Says which of two plans costs less, and by how much; the first where they "
                 "cost the same. The two files have the same trenches in the same order, and "
@@ -207,11 +271,14 @@ const struct page PAGES[] = {
         .example = "which office-a.txt office-b.txt",
         .output = "The second plan stands, office-b.txt: it costs 17 and the first 19, 2 more.\n",
         .statuses = "0 told\n2 a table or a plan was refused\n3 a file could not be read, or the two have not the same trenches",
+        .keys = "second: the name of the second file\n"
+                "stands: 1 or 2\n"
+                "totals: the totals of both plans, a list",
     },
     {
         .name = "stretch",
         .words = "FILE JUNCTION JUNCTION",
-        .options = "",
+        .options = "--json",
         .line = "list the plan's way between two junctions",
         .does = "Lists the trenches of the plan between two junctions, in order, what they "
                 "cost in all, the dearest of them, and which others are as dear. Where the "
@@ -227,6 +294,11 @@ const struct page PAGES[] = {
                   "The way costs 12 in all. Its dearest is trench 3, price 5; no other of its trenches is as dear.\n"
                   "No route between 1 and 2 over the table's trenches has a dearest trench cheaper than 5.\n",
         .statuses = "0 told\n1 a cheaper set exists\n2 the table, the plan or what was asked was refused",
+        .keys = "junctions: the junctions of the way, in order\n"
+                "rows: its trenches, in order\n"
+                "sum: what they cost in all\n"
+                "dearest: the dearest of them, the uppermost of equals\n"
+                "as_dear: the numbers of the others that are as dear",
     },
     {
         .name = "strike",
@@ -335,7 +407,7 @@ const struct page PAGES[] = {
     {
         .name = "districts",
         .words = "FILE END..",
-        .options = "--table",
+        .options = "--table --json",
         .line = "list a cheapest network by districts",
         .does = "Takes the trenches in at most eight districts, each a run of the file's "
                 "lines. END is the number of a district's last trench; the last END is the "
@@ -359,11 +431,15 @@ const struct page PAGES[] = {
                   "Total 12\n"
                   "No network of the whole table is cheaper.\n",
         .statuses = "0 listed\n2 the table, the text or the districts were refused",
+        .keys = "districts: a list; each has first and last (trenches of the file), rows and "
+                "total\n"
+                "rows: the trenches of the city's network, a list\n"
+                "total: their total",
     },
     {
         .name = "mend",
         .words = "[FILE]",
-        .options = "--steps",
+        .options = "--steps --json",
         .line = "write the file with a cheapest network marked",
         .does = "Writes the file with its plan made a cheapest network, whatever was marked. "
                 "Marks are changed, and all else stands as it did, comments too. On standard "
@@ -386,11 +462,17 @@ const struct page PAGES[] = {
                   "put in    trench 4 (1-4, price 4)\n"
                   "The marked trenches were no network, and cost 14 by the console's own sum. The plan's total is 12 now: no network is cheaper.\n",
         .statuses = "0 written\n2 the table was refused, and nothing was written",
+        .keys = "out: the trenches taken out, a list\n"
+                "in: the trenches put in, a list\n"
+                "marked: what was marked before; it has cost and network (whether it was one)\n"
+                "total: the total now\n"
+                "steps: with --steps, a list; each has step (dropped, added or exchanged), out "
+                "and in, those that it has",
     },
     {
         .name = "outlets",
         .words = "FILE JUNCTION COUNT",
-        .options = "--table",
+        .options = "--table --json",
         .line = "list one with COUNT trenches at JUNCTION",
         .does = "Lists a cheapest network among those with exactly COUNT trenches at "
                 "JUNCTION, such as a boiler house with a fixed number of outlets, its total, "
@@ -404,6 +486,13 @@ const struct page PAGES[] = {
                   "Total 15\n"
                   "With any number at junction 1 the cheapest network costs 12: 3 less.\n",
         .statuses = "0 listed\n2 the table, the text or what was asked was refused",
+        .keys = "junction: the junction\n"
+                "count: the trenches there\n"
+                "rows: the trenches of the network, a list\n"
+                "total: their total\n"
+                "least: the least total with any number there\n"
+                "possible: the least and the largest number that are possible, where no network "
+                "has this one",
     },
     {.name = NULL},
 };

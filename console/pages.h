@@ -14,6 +14,7 @@ struct page {
     const char *example;  /* what follows 'star', over the files of console/examples */
     const char *output;   /* what the example writes, both streams; "" for a picture or nothing */
     const char *statuses; /* a line a status: its number, a blank, what it says of this command */
+    const char *keys;     /* of the object that --json writes beside those of every object; NULL where it writes none */
 };
 
 /* An option, what follows it, and what it does. */
@@ -21,7 +22,13 @@ struct option {
     const char *name, *value, *does;
 };
 
+/* The keys of every object, of a fault, and of a trench, a line a key: its name, a colon, what it says. */
+struct keys {
+    const char *name, *lines;
+};
+
 /* Each table ends with an entry whose name is NULL. */
+extern const struct keys KEYS[];
 extern const struct page PAGES[];
 extern const struct option OPTIONS[];
 

@@ -1,6 +1,7 @@
 /* The commands about the price of one trench: quote and breaking. The doors give totals and breaking prices; here they are put in words. */
 #include "commands.h"
 #include "detour.h"
+#include "json.h"
 #include "refusal.h"
 #include "status.h"
 #include "usage.h"
@@ -15,11 +16,25 @@ static int told(struct output *o, const struct message *words, int status) {
 }
 
 /* A refusal, which is a question's result. */
-static int refused(struct output *o, const struct table *t, size_t trench, const char *word, struct star_answer a) {
+static int refused(struct output *o, const struct options *with, const struct table *t, size_t trench, struct star_answer a) {
     struct message words = {{0}, 0};
-    if (a.number == STAR_BAD_SOURCE) refusal_of_asked(&words, t, trench, word);
+    if (a.number == STAR_BAD_SOURCE) refusal_of_asked(&words, t, trench, with->words[0]);
     else refusal_words(&words, t, a);
-    return told(o, &words, EXIT_REFUSED);
+    return tell_refused(o, with, &words);
+}
+
+static int quote_json(struct output *o, const struct options *with, const struct table *t, size_t trench, const uint8_t price[PRICE_BYTES], struct star_quoted q) {
+    struct json j;
+    FILE *to = output_open(o);
+    if (!to) return EXIT_UNWRITTEN;
+    json_begin(&j, to, with, "told", EXIT_PASSED);
+    json_trench(&j, "trench", t, trench);
+    json_number(&j, "price", star_get_price(price, 0));
+    json_number(&j, "before", q.before);
+    json_number(&j, "after", q.after);
+    json_number(&j, "more", q.after - q.before);
+    json_end(&j);
+    return EXIT_PASSED;
 }
 
 int command_quote(struct table *t, const struct options *with, struct output *o) {
@@ -36,8 +51,9 @@ int command_quote(struct table *t, const struct options *with, struct output *o)
     q = table_quote(t, trench, price);
     if (q.kind != STAR_PASSED) {
         struct star_answer a = {STAR_REFUSED, q.number, q.place, 0, 0, 0};
-        return refused(o, t, trench, with->words[0], a);
+        return refused(o, with, t, trench, a);
     }
+    if (with->json) return quote_json(o, with, t, trench, price, q);
     say_trench(&words, t, trench);
     say(&words, " at the new price %s:\nThe cheapest network costs %s today and %s at the new price: ", price_figures(figures[0], price), amount_figures(figures[1], q.before),
         amount_figures(figures[2], q.after));
@@ -61,11 +77,16 @@ static size_t instead_of(const struct table *t, size_t i, int64_t *total) {
     return a.kind == STAR_PASSED && way_between(&d, &p, &without, t->left[i - 1], t->right[i - 1]) ? d.dearest : 0;
 }
 
-static void say_total(struct message *to, const struct table *t) {
+/* The least total of the table as it stands. */
+static int64_t least(const struct table *t) {
     static struct table copy;
-    char total[FIGURES];
     copy = *t;
-    say(to, "\nThe cheapest network costs %s today", amount_figures(total, table_mst1(&copy).amount));
+    return table_mst1(&copy).amount;
+}
+
+static void say_total(struct message *to, const struct table *t) {
+    char total[FIGURES];
+    say(to, "\nThe cheapest network costs %s today", amount_figures(total, least(t)));
 }
 
 /* A trench with a breaking price: up to it, a cheapest network has the trench; above, none has, and another takes its place. */
@@ -86,6 +107,25 @@ static void say_breaking(struct message *to, const struct table *t, size_t i, in
     say(to, breaking == STAR_MAX_PRICE ? "the price %s." : "any price from %s on.", figures[0]);
 }
 
+static int breaking_json(struct output *o, const struct options *with, const struct table *t, size_t trench, struct star_answer a) {
+    int64_t above = 0;
+    size_t instead = a.kind == STAR_PASSED ? instead_of(t, trench, &above) : 0;
+    struct json j;
+    FILE *to = output_open(o);
+    if (!to) return EXIT_UNWRITTEN;
+    json_begin(&j, to, with, "told", EXIT_PASSED);
+    json_trench(&j, "trench", t, trench);
+    json_truth(&j, "always", a.kind != STAR_PASSED);
+    json_number(&j, "before", least(t));
+    if (a.kind == STAR_PASSED) {
+        json_number(&j, "breaking", a.amount);
+        json_number(&j, "after", above);
+    }
+    if (instead > 0) json_trench(&j, "instead", t, instead);
+    json_end(&j);
+    return EXIT_PASSED;
+}
+
 int command_breaking(struct table *t, const struct options *with, struct output *o) {
     struct message words = {{0}, 0};
     struct star_answer a;
@@ -95,7 +135,8 @@ int command_breaking(struct table *t, const struct options *with, struct output 
     status = trench_named(with->words[0], &trench);
     if (status != 0) return status;
     a = table_breaking(t, trench);
-    if (a.kind == STAR_REFUSED) return refused(o, t, trench, with->words[0], a);
+    if (a.kind == STAR_REFUSED) return refused(o, with, t, trench, a);
+    if (with->json) return breaking_json(o, with, t, trench, a);
     say_trench(&words, t, trench);
     if (a.kind == STAR_PASSED) say_breaking(&words, t, trench, a.amount);
     else {

@@ -5,7 +5,14 @@
 
 #include "unreached.h"
 
+static struct refusal last;
+
+struct refusal refusal_last(void) { return last; }
+
 void refusal_opens(struct message *to, unsigned number, const char *file, size_t line) {
+    last.number = number;
+    last.place = 0;
+    last.line = line;
     say(to, "Refused (%u): ", number);
     say_place(to, file, line);
 }
@@ -113,6 +120,7 @@ void refusal_words(struct message *to, const struct table *t, struct star_answer
     struct span ends[2];
     if (a.number == STAR_TOO_MANY_ROWS && t->m >= KEPT) at = t->row[KEPT - 1];
     refusal_opens(to, a.number, t->file, a.number == STAR_BAD_JUNCTION_COUNT ? t->count.line : at.line);
+    last.place = a.out;
     switch (a.number) {
     case STAR_BAD_JUNCTION_COUNT:
         junction_count(to, t);

@@ -16,6 +16,13 @@ void refusal_of_asked_junction(struct message *to, const struct table *t, const 
 /* Whether the table has a trench in use of this number. */
 int refusal_has_trench(const struct table *t, size_t trench);
 
+/* The refusal that was put in words last: its number, and its place and line, 0 where it has none. */
+struct refusal {
+    unsigned number, place;
+    size_t line;
+};
+struct refusal refusal_last(void);
+
 /* Whether a refusal is about the marked trenches together: then the table itself is sound, and can be drawn and written. */
 int refusal_of_plan(struct star_answer a);
 

@@ -208,3 +208,26 @@ void ring_tell(FILE *to, const struct table *t, int all) {
     }
     if (groups < r.groups) fprintf(to, "%zu more groups: 'star explain --all' names each.\n", r.groups - groups);
 }
+
+void ring_json(struct json *j, const struct table *t) {
+    static struct ring r;
+    size_t k;
+    unsigned v;
+    if (!ring_of(&r, t)) return;
+    json_open(j, "rings", '[');
+    for (k = 0; k < r.rings && ring_nth(&r, t, k); k++) {
+        json_open(j, NULL, '{');
+        json_numbers(j, "trenches", r.row, r.count);
+        json_numbers(j, "junctions", r.stop, r.count + 1);
+        json_close(j, '}');
+    }
+    json_close(j, ']');
+    json_open(j, "groups", '[');
+    for (k = 1; k <= r.groups; k++) {
+        json_open(j, NULL, '[');
+        for (v = 1; v <= t->n; v++)
+            if (r.group[v] == k) json_number(j, NULL, v);
+        json_close(j, ']');
+    }
+    json_close(j, ']');
+}

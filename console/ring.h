@@ -3,9 +3,7 @@
 #ifndef CONSOLE_RING_H
 #define CONSOLE_RING_H
 
-#include <stdio.h>
-
-#include "table.h"
+#include "json.h"
 
 struct ring {
     unsigned row[STAR_MAX_JUNCTIONS + 1];   /* the trenches of one ring, in order */
@@ -38,5 +36,8 @@ void ring_groups(struct message *to, const struct ring *r, const struct table *t
 
 /* Rings and groups, a line each; of many the first twenty unless all are asked for. */
 void ring_tell(FILE *to, const struct table *t, int all);
+
+/* All rings and groups, as lists of numbers. */
+void ring_json(struct json *j, const struct table *t);
 
 #endif

@@ -25,12 +25,17 @@ static const char *not_there(const struct table *t, const uint32_t end[2], char 
     return NULL;
 }
 
-/* The other trenches of the way that cost as much as its dearest. */
-static void say_as_dear(struct message *to, const struct table *t, const struct detour *d) {
-    unsigned row[STAR_MAX_JUNCTIONS];
+/* The other trenches of the way that cost as much as its dearest; gives their number. */
+static size_t as_dear(const struct table *t, const struct detour *d, unsigned row[STAR_MAX_JUNCTIONS]) {
     size_t count = 0, k;
     for (k = 0; k < d->count; k++)
         if (d->row[k] != d->dearest && table_cost(t, d->row[k]) == table_cost(t, d->dearest)) row[count++] = d->row[k];
+    return count;
+}
+
+static void say_as_dear(struct message *to, const struct table *t, const struct detour *d) {
+    unsigned row[STAR_MAX_JUNCTIONS];
+    size_t count = as_dear(t, d, row);
     if (count > 0) {
         say(to, "; ");
         detour_rows(to, row, count);
@@ -55,29 +60,53 @@ static void list(FILE *to, const struct table *t, const struct detour *d) {
 }
 
 /* Why nothing is listed: the table, a junction that is not there, or the plan. */
-static int refused(FILE *to, const struct table *t, struct star_answer a, const char *not_there) {
+static int refused(struct output *o, const struct options *with, const struct table *t, struct star_answer a, const char *not_there) {
     struct message words = {{0}, 0};
     if (not_there && (a.kind != STAR_REFUSED || refusal_of_plan(a))) refusal_of_asked_junction(&words, t, not_there);
     else refusal_words(&words, t, a);
-    fprintf(to, "%s\n", words.text);
-    return EXIT_REFUSED;
+    return tell_refused(o, with, &words);
+}
+
+static void stretch_words(FILE *to, const struct table *t, const struct detour *d, struct star_answer a) {
+    char price[FIGURES];
+    list(to, t, d);
+    if (a.kind == STAR_PASSED)
+        fprintf(to, "No route between %u and %u over the table's trenches has a dearest trench cheaper than %s.\n", d->stop[0], d->stop[d->count],
+                table_price(price, t, d->dearest));
+    else fprintf(to, "The plan is no cheapest network, so nothing is promised of other routes: 'star check' names an exchange.\n");
+}
+
+static void stretch_json(FILE *to, const struct table *t, const struct detour *d, struct star_answer a, const struct options *with, int status) {
+    unsigned row[STAR_MAX_JUNCTIONS];
+    struct json j;
+    size_t k;
+    json_begin(&j, to, with, verdict_name(a), status);
+    json_numbers(&j, "junctions", d->stop, d->count + 1);
+    json_open(&j, "rows", '[');
+    for (k = 0; k < d->count; k++) json_trench(&j, NULL, t, d->row[k]);
+    json_close(&j, ']');
+    json_number(&j, "sum", d->sum);
+    json_trench(&j, "dearest", t, d->dearest);
+    json_numbers(&j, "as_dear", row, as_dear(t, d, row));
+    json_end(&j);
 }
 
 int command_stretch(struct table *t, const struct options *with, struct output *o) {
     static struct paths p;
     static struct detour d;
     struct star_answer a;
+    const char *absent;
     uint32_t end[2];
-    char price[FIGURES];
     int status = ends_named(with, end);
     FILE *to;
     if (status != 0) return status;
     a = table_cst(t);
+    absent = not_there(t, end, with->words);
+    if (a.kind == STAR_REFUSED || absent || !way_between(&d, &p, t, end[0], end[1])) return refused(o, with, t, a, absent);
+    status = a.kind == STAR_PASSED ? EXIT_PASSED : EXIT_LIGHTER;
     to = output_open(o);
     if (!to) return EXIT_UNWRITTEN;
-    if (a.kind == STAR_REFUSED || not_there(t, end, with->words) || !way_between(&d, &p, t, end[0], end[1])) return refused(to, t, a, not_there(t, end, with->words));
-    list(to, t, &d);
-    if (a.kind == STAR_PASSED) fprintf(to, "No route between %u and %u over the table's trenches has a dearest trench cheaper than %s.\n", (unsigned)end[0], (unsigned)end[1], table_price(price, t, d.dearest));
-    else fprintf(to, "The plan is no cheapest network, so nothing is promised of other routes: 'star check' names an exchange.\n");
-    return a.kind == STAR_PASSED ? EXIT_PASSED : EXIT_LIGHTER;
+    if (with->json) stretch_json(to, t, &d, a, with, status);
+    else stretch_words(to, t, &d, a);
+    return status;
 }

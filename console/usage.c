@@ -1,13 +1,15 @@
 /* Words of the command line, and what is wrong with them. */
 #include "usage.h"
 
-#include <stdio.h>
 #include <string.h>
 
+#include "faults.h"
 #include "status.h"
 
 int misused(const char *what, const char *word) {
-    fprintf(stderr, "star: %s '%s'; 'star --help' says how it is used\n", what, word);
+    struct message words = {{0}, 0};
+    say(&words, "star: %s '%.200s'; 'star --help' says how it is used", what, word);
+    fault_tell(&words);
     return EXIT_USAGE;
 }
 

@@ -2,6 +2,7 @@
 #include "verdict.h"
 
 #include "refusal.h"
+#include "ring.h"
 
 void say_trench(struct message *to, const struct table *t, size_t i) {
     char price[FIGURES];
@@ -72,4 +73,41 @@ void verdict_next(struct message *to, const struct table *t, struct star_answer 
     say(to, "'star explain' says why.\n");
     if (table_mst1(&copy).kind == STAR_PASSED) say(to, "'star mend' writes the file with its plan made a cheapest network.");
     else say(to, "No marks would do: 'star build' names a junction that the table's trenches do not reach.");
+}
+
+const char *verdict_name(struct star_answer a) {
+    if (a.kind == STAR_PASSED) return "passed";
+    return a.kind == STAR_LIGHTER ? "cheaper" : "refused";
+}
+
+static void json_passed(struct json *j, const struct table *t, struct star_answer a) {
+    struct star_answer other;
+    json_number(j, "total", a.amount);
+    json_truth(j, "only", a.only == 1);
+    if (a.only) return;
+    other = table_other(t);
+    json_trench(j, "out", t, other.out);
+    json_trench(j, "in", t, other.in);
+}
+
+static void json_lighter(struct json *j, const struct table *t, struct star_answer a) {
+    struct totals totals = verdict_totals(t, a);
+    json_number(j, "saving", a.amount);
+    json_trench(j, "out", t, a.out);
+    json_trench(j, "in", t, a.in);
+    json_number(j, "total", totals.plan);
+    json_number(j, "after", totals.after);
+    json_number(j, "least", totals.least);
+    json_number(j, "most", totals.plan - totals.least);
+}
+
+void verdict_json(struct json *j, const struct table *t, struct star_answer a) {
+    struct message words = {{0}, 0};
+    if (a.kind == STAR_PASSED) json_passed(j, t, a);
+    else if (a.kind == STAR_LIGHTER) json_lighter(j, t, a);
+    else {
+        refusal_words(&words, t, a);
+        json_refusal(j, words.text);
+        if (refusal_of_plan(a) && table_marks(t) > 0) ring_json(j, t);
+    }
 }

@@ -2,7 +2,7 @@
 #ifndef CONSOLE_VERDICT_H
 #define CONSOLE_VERDICT_H
 
-#include "table.h"
+#include "json.h"
 
 /* 'trench 1 (1-2, price 5)'. */
 void say_trench(struct message *to, const struct table *t, size_t i);
@@ -23,5 +23,9 @@ void verdict_gap(struct message *to, const struct table *t, struct star_answer a
 
 /* Which commands go on from here, a line each; nothing of a plan that passed or of a table that is refused. */
 void verdict_next(struct message *to, const struct table *t, struct star_answer a);
+
+/* 'passed', 'cheaper' or 'refused'; and the same as verdict_words and verdict_gap as keys of an object, with rings and groups of a plan that is refused. */
+const char *verdict_name(struct star_answer a);
+void verdict_json(struct json *j, const struct table *t, struct star_answer a);
 
 #endif

@@ -2,7 +2,9 @@
 #include <string.h>
 
 #include "commands.h"
+#include "faults.h"
 #include "input.h"
+#include "json.h"
 #include "refusal.h"
 #include "status.h"
 #include "usage.h"
@@ -68,7 +70,7 @@ static int read_second(struct input *in, struct table *second, const char *file,
         status = EXIT_UNREADABLE;
     }
     if (status == 0) status = input_table(in, second, &fault);
-    if (status != 0) fprintf(stderr, "%s\n", fault.text);
+    if (status != 0) fault_tell(&fault);
     return status;
 }
 
@@ -81,22 +83,41 @@ static void say_standing(struct message *to, const struct table *first, const st
     else say(to, "it costs %s and the %s %s, %s more.", amount_figures(figures[0], total), which == 1 ? "second" : "first", amount_figures(figures[1], other), amount_figures(figures[2], other - total));
 }
 
-static int compare(const struct table *first, const struct table *second, struct output *o) {
+static void which_json(FILE *to, const struct table *first, const struct table *second, uint32_t which, const struct options *with) {
+    struct json j;
+    json_begin(&j, to, with, "told", EXIT_PASSED);
+    json_text(&j, "second", second->file);
+    json_number(&j, "stands", which);
+    json_open(&j, "totals", '[');
+    json_number(&j, NULL, table_plan_total(first));
+    json_number(&j, NULL, table_plan_total(second));
+    json_close(&j, ']');
+    json_end(&j);
+}
+
+static int compare(const struct table *first, const struct table *second, const struct options *with, struct output *o) {
     struct message words = {{0}, 0};
     struct star_answer a;
     uint32_t which;
     FILE *to;
     if (differ(&words, first, second)) {
-        fprintf(stderr, "%s\n", words.text);
+        fault_tell(&words);
         return EXIT_UNREADABLE;
     }
     which = table_which(first, second, &a);
+    if (which == 0) {
+        refusal_words(&words, table_cst(first).kind == STAR_REFUSED ? first : second, a);
+        return tell_refused(o, with, &words);
+    }
     to = output_open(o);
     if (!to) return EXIT_UNWRITTEN;
-    if (which > 0) say_standing(&words, first, second, which, a.amount);
-    else refusal_words(&words, table_cst(first).kind == STAR_REFUSED ? first : second, a);
+    if (with->json) {
+        which_json(to, first, second, which, with);
+        return EXIT_PASSED;
+    }
+    say_standing(&words, first, second, which, a.amount);
     fprintf(to, "%s\n", words.text);
-    return which > 0 ? EXIT_PASSED : EXIT_REFUSED;
+    return EXIT_PASSED;
 }
 
 int command_which(struct table *t, const struct options *with, struct output *o) {
@@ -106,7 +127,7 @@ int command_which(struct table *t, const struct options *with, struct output *o)
     if (with->count != 1) return misused("a second file with marks follows the file of", "which");
     if (strcmp(t->file, "standard input") == 0 && strcmp(with->words[0], "-") == 0) return misused("one of the two files alone is standard input, and both are", "-");
     status = read_second(&in, &second, with->words[0], o);
-    if (status == 0) status = compare(t, &second, o);
+    if (status == 0) status = compare(t, &second, with, o);
     input_close(&in);
     return status;
 }

@@ -144,6 +144,28 @@ static void roff_statuses(void) {
     for (status = 0; status < STATUSES; status++) roff_status(status);
 }
 
+/* Lines of keys, each key bold. */
+static void roff_keys(const char *name, const char *lines) {
+    printf(".TP\n.B %s\n", name);
+    while (*lines) {
+        size_t len = strcspn(lines, "\n"), key = strcspn(lines, ":");
+        fputs("\\fB", stdout);
+        roff_letters(lines, key);
+        fputs("\\fP", stdout);
+        roff_letters(lines + key, len - key);
+        puts("\n.br");
+        lines += len + (lines[len] == '\n');
+    }
+}
+
+static void roff_objects(void) {
+    const struct keys *k;
+    const struct page *p;
+    for (k = KEYS; k->name; k++) roff_keys(k->name, k->lines);
+    for (p = PAGES; p->name; p++)
+        if (p->keys) roff_keys(p->name, p->keys);
+}
+
 static void roff_examples(void) {
     const struct page *p;
     puts(".nf");
@@ -176,7 +198,7 @@ static const struct section {
     const char *name;
     void (*write)(void);
 } SECTIONS[] = {
-    {"synopsis", roff_synopsis}, {"commands", roff_commands}, {"options", roff_options}, {"statuses", roff_statuses}, {"examples", roff_examples},
+    {"synopsis", roff_synopsis}, {"commands", roff_commands}, {"options", roff_options}, {"statuses", roff_statuses}, {"examples", roff_examples}, {"objects", roff_objects},
     {"list of commands", markdown_list}, {"table of statuses", markdown_statuses},
 };
 
