@@ -29,7 +29,7 @@ chmod +x "$work/no-rt/rt"
 # A copy of the repository with the archives of this one. restore puts back what a trial has changed.
 at=$work/copy
 mkdir -p "$at/target"
-cp -a Makefile *.mk crates crates.txt crates.sum tools include console programs "$at"
+cp -a .ci Makefile *.mk crates crates.txt crates.sum tools include console programs "$at"
 restore() {
     rm -rf "$at/target" "$work/usr"
     mkdir "$at/target"
@@ -172,6 +172,50 @@ prove
 holds 'prove: fails' [ $? != 0 ]
 holds 'prove: the error' says 'error: no proof'
 refused 'not proved here' 'the sources of slice differ'
+
+# The gate: how far it is, all its counts in the last line; a stale record is told before anything is proved, and one that does not have the
+# proved code fails it.
+rm -f "$at/fault" "$at/asked"
+restore
+mkdir "$work/gate"
+cat >"$work/gate/rt" <<'TEXT'
+#!/bin/sh
+echo "$1" >>"$PROVING/asked"
+case $1 in
+version) sed -n 's/^kit //p' crates.sum ;;
+ci)
+    echo "rt: rowset proved (1 s)"
+    for i in 1 2 3 4 5 6 7 8 9 10; do echo "rt: must-fail slice/edit$i: refused, as it must be (1 s)"; done
+    echo "11 passed, 0 failed" ;;
+esac
+TEXT
+cat >"$work/gate/make" <<'TEXT'
+#!/bin/sh
+echo "$2" >>"$PROVING/asked"
+if [ "$2" = recorded ] && [ -e fault ]; then echo "record: the code of libdoor.a differs"; echo "92 passed, 1 failed"; exit 1; fi
+echo "100 passed, 0 failed"
+TEXT
+chmod +x "$work/gate/rt" "$work/gate/make"
+gate() { (cd "$at" && PATH="$work/gate:$PATH" bash .ci/run) >"$work/said" 2>&1; }
+edits=$(ls crates/*/must-fail/*.edit | wc -l)
+gate
+holds 'gate: passes' [ $? = 0 ]
+holds 'gate: counts all' [ "$(tail -n 1 "$work/said")" = "$((crates + 1 + 11 + 100 + 100)) passed, 0 failed" ]
+holds 'gate: how far' says "^gate: 1 of $crates crates, 10 of $edits wrong programs, some [0-9]* minutes left$"
+holds 'gate: its parts' [ "$(grep -v version "$at/asked" | paste -sd ' ')" = 'ci recorded outside' ]
+: >"$at/asked"
+touch "$at/fault"
+gate
+holds 'gate: another code' [ $? != 0 ]
+holds 'gate: no tests over another code' fails grep -q outside "$at/asked"
+rm "$at/fault"
+: >"$at/asked"
+printf ' ' >>"$at/crates/slice/src/lib.rt"
+gate
+holds 'gate: a stale record' [ $? != 0 ]
+holds 'gate: told' says 'record: the sources of slice differ; make sums writes it anew'
+holds 'gate: told at once' fails grep -q 'ci\|recorded' "$at/asked"
+holds 'gate: the last line' [ "$(tail -n 1 "$work/said")" = "$crates passed, 1 failed" ]
 
 # On a fresh machine: compiled without a proof in seconds, and of the record. A source changed by a blank is told.
 if command -v rt >/dev/null; then
