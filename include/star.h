@@ -45,6 +45,13 @@
  * stack left, 1 MiB for star_import and star_digs_text, 320 KiB for star_mend and star_work_mend, and 128 KiB for each of the
  * others, whatever is lent. Nothing else is asked.
  *
+ * Planners and definitions have a word each for the same thing:
+ *   junction      vertex
+ *   trench        row
+ *   price         weight
+ *   plan          claim, the marked rows
+ *   network       spanning tree
+ *
  * This header is C99, and C++98 with the stdint.h of C99.
  */
 #ifndef STAR_H
