@@ -1,18 +1,20 @@
 # The planner's page: one HTML file, with the doors inside it as WebAssembly.
 # make page        target/c/star.html
 # make page-test   the module held to the native library, and the page in a browser
+PAGE := $(BUILD)/star.html
 PAGE_MODULE := $(BUILD)/star.wasm
-PAGE_CRATES := $(shell find crates -name '*.rt')
+PAGE_SOURCES := page/build.mjs page/page.html $(wildcard page/*.css page/src/*.js)
 
-$(PAGE_MODULE): page/module.sh $(PAGE_CRATES) $(wildcard page/freestanding/*.h) include/star.c include/star.h
+$(PAGE_MODULE): page/module.sh $(SOURCES) $(wildcard page/freestanding/*.h) include/star.c include/star.h
 	@mkdir -p $(BUILD)
 	sh page/module.sh $@ $(DOORS)
 
-# The native library as one that Python can load.
-$(BUILD)/libstar.so: $(ARCHIVE)
-	$(CC) -shared -o $@ -Wl,--whole-archive $(ARCHIVE) -Wl,--no-whole-archive
+$(PAGE): $(PAGE_MODULE) $(PAGE_SOURCES)
+	node page/build.mjs $(PAGE_MODULE) $@
 
-page-test: $(PAGE_MODULE) $(BUILD)/libstar.so $(BUILD)/star
+page: $(PAGE)
+
+page-test: $(SHARED) $(BUILD)/star
 	bash tests/page/run.sh $(BUILD)
 
 .PHONY: page page-test

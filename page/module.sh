@@ -8,51 +8,24 @@
 set -eu
 out=$1
 shift
-kit=${RATTLE_HOME:-$(dirname "$(dirname "$(readlink -f "$(command -v rt)")")")}
-own=$kit/on/$(uname -m)
-clang=$own/toolchain/bin/clang
+kit=$(sh tools/kit.sh)
+arch=$(uname -m)
+clang=$kit/on/$arch/toolchain/bin/clang
 work=$(mktemp -d)
 trap 'rm -rf "$work"' EXIT
 
-# A toolchain whose clang keeps the module.
-mkdir -p "$work/tools/bin"
-ln -s "$own/toolchain/lib" "$work/tools/lib"
-ln -s "$clang" "$work/tools/bin/ld.lld"
-ln -s "$clang" "$work/tools/bin/llvm-ar"
-ln -s "$clang" "$work/wasm-ld"
+# The kit with a toolchain whose clang keeps the module.
+own=$work/kit/on/$arch
+mkdir -p "$own/toolchain/bin"
+ln -s "$kit/libs" "$work/kit/libs"
+ln -s "$kit/on/$arch/bin" "$own/bin"
+ln -s "$kit/on/$arch/toolchain/lib" "$own/toolchain/lib"
+for tool in "$own/toolchain/bin/ld.lld" "$own/toolchain/bin/llvm-ar" "$work/wasm-ld"; do
+    ln -s "$clang" "$tool"
+done
 printf '#!/bin/sh\ncp module.bc "%s/module.bc"\nexec "%s" "$@"\n' "$work" "$clang" \
-    >"$work/tools/bin/clang"
-chmod +x "$work/tools/bin/clang"
-
-# The crates that a crate names, parted by commas.
-deps() {
-    { cat crates.txt; [ ! -f "$kit/libs/libs.txt" ] || cat "$kit/libs/libs.txt"; } |
-        sed -n "s/#.*//; s/^$1: *//p" | tr -s ' ' ','
-}
-
-# Adds to `reached` the crates that are named, and those that they name.
-reach() {
-    for d in $(echo "$1" | tr ',' ' '); do
-        case $reached in
-        *,$d,*) ;;
-        *) reached=$reached$d, && reach "$(deps "$d")" ;;
-        esac
-    done
-}
-
-# Leaves the LLVM code of a crate in $work/module.bc.
-lower() { # CRATE
-    reached=,
-    reach "$(deps "$1")"
-    crate=$1
-    set -- "crates/$crate/src/lib.rt" --crate-name "$crate" \
-        --lib "std:=$kit/libs/std/src/lib.rt"
-    for d in $(echo "$reached" | tr ',' ' '); do
-        if [ -d "crates/$d" ]; then at=crates/$d; else at=$kit/libs/$d; fi
-        set -- "$@" --lib "$d:std,$(deps "$d")=$at/src/lib.rt"
-    done
-    "$own/bin/rattle-cases" --toolchain "$work/tools" --staticlib "$work/$crate.a" "$@"
-}
+    >"$own/toolchain/bin/clang"
+chmod +x "$own/toolchain/bin/clang"
 
 wasm="--target=wasm32-unknown-unknown"
 layout=$(echo | "$clang" $wasm -x c -S -emit-llvm -o - - | grep '^target datalayout')
@@ -70,7 +43,7 @@ objects=$work/star.o
 "$clang" $wasm -O2 -ffreestanding -isystem page/freestanding -Iinclude -c include/star.c \
     -o "$work/star.o"
 for crate; do
-    lower "$crate"
+    RATTLE_HOME=$work/kit sh tools/compile.sh "$crate" "$work/$crate.a"
     retarget "$work/module.bc" >"$work/$crate.ll"
     "$clang" $wasm -O3 -Werror -x ir -c "$work/$crate.ll" -o "$work/$crate.o"
     objects="$objects $work/$crate.o"

@@ -5,8 +5,6 @@ import { callsCompare, callsReader } from './calls.js';
 
 const [, , module, path] = process.argv;
 const bytes = new Uint8Array(fs.readFileSync(path));
-const { instance } = await WebAssembly.instantiate(fs.readFileSync(module), {});
-const doors = instance.exports;
 let passed = 0;
 let failed = 0;
 
@@ -17,24 +15,29 @@ function check(what, holds) {
   if (!holds) console.log('doors:', what, 'failed');
 }
 
-const { calls, different } = callsCompare(doors, bytes);
-for (const [name] of callsReader(bytes).doors) {
-  check(`${name}, ${different[name]} calls differ`, !different[name]);
-}
-console.log(`${calls} calls in WebAssembly as in the native library`);
+/** @param {any} doors the module's exports */
+function run(doors) {
+  const { calls, different } = callsCompare(doors, bytes);
+  for (const [name] of callsReader(bytes).doors) {
+    check(`${name}, ${different[name]} calls differ`, !different[name]);
+  }
+  console.log(`${calls} calls in WebAssembly as in the native library`);
 
-// A door that gives another answer now and then is found.
-for (const wrong of ['star_cst', 'star_work_mend', 'star_import', 'star_work_digs']) {
-  let turn = 0;
-  /** @param {any[]} given */
-  const door = (...given) => {
-    const result = /** @type {any} */ (doors)[wrong](...given);
-    const memory = new Uint8Array(/** @type {any} */ (doors).memory.buffer);
-    if (++turn % 50 === 0) memory[given[given.length - 2]] ^= 1;
-    return result;
-  };
-  const found = callsCompare({ ...doors, [wrong]: door }, bytes).different;
-  check(`the control for ${wrong}`, Object.keys(found).join() === wrong);
+  // A door that gives another answer now and then is found.
+  for (const wrong of ['star_cst', 'star_work_mend', 'star_import', 'star_work_digs']) {
+    let turn = 0;
+    /** @param {any[]} given */
+    const door = (...given) => {
+      const result = doors[wrong](...given);
+      const memory = new Uint8Array(doors.memory.buffer);
+      if (++turn % 50 === 0) memory[given[given.length - 2]] ^= 1;
+      return result;
+    };
+    const found = callsCompare({ ...doors, [wrong]: door }, bytes).different;
+    check(`the control for ${wrong}`, Object.keys(found).join() === wrong);
+  }
+  console.log(`${passed} passed, ${failed} failed`);
+  process.exit(failed ? 1 : 0);
 }
-console.log(`${passed} passed, ${failed} failed`);
-process.exit(failed ? 1 : 0);
+
+WebAssembly.instantiate(fs.readFileSync(module), {}).then(({ instance }) => run(instance.exports));

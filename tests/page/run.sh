@@ -1,14 +1,16 @@
 #!/usr/bin/env bash
-# Tests of the planner's page: the module against the native library.
+# Tests of the planner's page: its sources, the module against the native library, its files against
+# the console's, and the page in a browser, where these programs are installed.
 # usage: run.sh BUILD   Ends in one line 'N passed, M failed'.
 set -u
 cd "$(dirname "$0")/../.."
 build=$1 passed=0 failed=0 work=$(mktemp -d)
 trap 'rm -rf "$work"' EXIT
+export NODE_PATH=${NODE_PATH:-/usr/share/nodejs}
 
 # Runs a test, shows what it says, and adds the counts of its last line.
 part() { # COMMAND..
-    "$@" 2>&1 | tee "$work/said"
+    "$@" 2>&1 | tee "$work/said" | grep -v ' passed, [0-9]* failed$'
     local line
     line=$(tail -n 1 "$work/said")
     if [[ $line =~ ^([0-9]+)\ passed,\ ([0-9]+)\ failed$ ]]; then
@@ -19,12 +21,60 @@ part() { # COMMAND..
     fi
 }
 
-if ! command -v node >/dev/null; then
-    echo "skipped: the tests of the page, for want of node"
-    echo "0 passed, 0 failed"
-    exit 0
+# Runs a command that has to end with 0.
+clean() { # COMMAND..
+    if "$@"; then passed=$((passed + 1)); else
+        echo "page: $1 finds something"
+        failed=$((failed + 1))
+    fi
+}
+
+# Installs what is not there, where that is allowed; says what cannot be had.
+want() { # PROGRAM PACKAGE
+    command -v "$1" >/dev/null && return 0
+    echo "page: installing $2 for the tests"
+    apt-get install -qq -y --no-install-recommends "$2" >"$work/apt" 2>&1
+    command -v "$1" >/dev/null && return 0
+    echo "skipped: what needs $1 ($2), which is not installed"
+    return 1
+}
+
+# A page with a fault in it has to fail the tests in the browser.
+control() { # NAME FILE EXPRESSION GROUP
+    rm -rf "$work/page"
+    cp -r page "$work/page"
+    sed -i "$3" "$work/page/src/$2"
+    if cmp -s "page/src/$2" "$work/page/src/$2" ||
+        ! node "$work/page/build.mjs" "$build/star.wasm" "$work/wrong.html"; then
+        echo "page: no page with the fault $1"
+        failed=$((failed + 1))
+    elif TABLES=town node tests/page/page.mjs chromium "$build/star" "$work/wrong.html" "$4" \
+        >"$work/said" 2>&1; then
+        echo "page: the fault $1 is not found"
+        failed=$((failed + 1))
+    else passed=$((passed + 1)); fi
+}
+
+want node nodejs || { echo "0 passed, 0 failed"; exit 0; }
+clean make -s page BUILD="$build"
+if want tsc node-typescript; then clean tsc -p page/tsconfig.json; fi
+if want eslint eslint; then
+    clean eslint -f unix --ext .js,.mjs page/src page/build.mjs tests/page
 fi
-python3 tests/page/calls.py include/star.h "$build/libstar.so" 500 "$work/calls" || failed=1
+python3 -B tests/page/calls.py include/star.h "$build/libstar.so" 500 "$work/calls" >"$work/kinds" ||
+    failed=$((failed + 1))
 part node tests/page/doors.mjs "$build/star.wasm" "$work/calls"
+part node tests/page/files.mjs "$build/star" "$build/star.wasm" 2000
+if want chromium chromium; then
+    CALLS=$work/calls part node tests/page/page.mjs chromium "$build/star" "$build/star.html"
+    control "a stale verdict" main.js 's/^      verdictShow(app);$/      if (told === "open") &/' marks
+    control "the sum in place of the dearest" why.js 's/p.price\[detour.dearest\]/detour.sum/' card
+    control "out and in exchanged" verdict.js \
+        's/bold(trench(app.plan, exchange.out)/bold(trench(app.plan, exchange.in)/' marks
+    control "a label left off" picture.js 's/size: 13, look: .tag., at: .*true)/size: 13, look: "tag", at: []/' labels
+    control "labels anywhere" labels.js 's/if (!taken.free(box)) continue;//' labels
+    control "a picture that moves" picture.js 's/^    this.plan = p;$/& if (this.at.x[0]) this.view.x += 9;/' marks
+    control "a mark that is not shown" list.js 's/box.checked = on;//' marks
+fi
 echo "$passed passed, $failed failed"
 [ "$failed" = 0 ]

@@ -1,0 +1,270 @@
+// What a planner does with a plan: open, mark, exchange, strike, add, price, mend, undo, save. It
+// knows no document; what is to be shown is told to those who listen.
+import { PASSED } from './core.js';
+import { FileFault, fileAdd, fileBody, fileBytes, fileIsStp } from './file.js';
+import { fileOfRows, fileRead, fileText, fileWrite } from './file.js';
+import { History } from './history.js';
+import { judge, judgeExchanged } from './judge.js';
+import { planCopy } from './plan.js';
+import { stpCoordinates } from './stp.js';
+
+/** @typedef {import('./plan.js').Plan} Plan */
+/** @typedef {import('./core.js').Step} Step */
+/** @typedef {{file: import('./file.js').File, plan: Plan}} State */
+/** @typedef {'open' | 'change' | 'show'} Told */
+
+export class App {
+  /** @param {import('./core.js').Core} core */
+  constructor(core) {
+    this.core = core;
+    this.name = '';
+    this.selected = -1;
+    this.hot = -1;
+    this.saved = true;
+    /** @type {{steps: Step[], at: number} | null} */
+    this.mending = null;
+    /** @type {number[][] | null} */
+    this.coordinates = null;
+    /** @type {((told: Told) => void)[]} */
+    this.listeners = [];
+    const { file, plan } = fileRead('junctions 1\n');
+    /** @type {History<State>} */
+    this.history = new History({ file, plan });
+    this.judgement = judge(core, plan);
+  }
+
+  get plan() {
+    return this.history.now.plan;
+  }
+
+  /** The plan as it is shown: while it is mended, with the marks of the step. */
+  get shown() {
+    const { plan, mending } = this;
+    if (!mending) return plan;
+    const shown = planCopy(plan);
+    for (const step of mending.steps.slice(0, mending.at)) {
+      if (step.out > 0) shown.mark[step.out - 1] = 0;
+      if (step.in > 0) shown.mark[step.in - 1] = 1;
+    }
+    return shown;
+  }
+
+  /** @param {Told} told */
+  tell(told) {
+    for (const listener of this.listeners) listener(told);
+  }
+
+  /** Opens a table file or an STP text.
+   * @param {Uint8Array} bytes @param {string} name
+   * @returns {string} what is wrong with it, or nothing */
+  open(bytes, name) {
+    let text = fileText(bytes);
+    let coordinates = null;
+    try {
+      if (fileIsStp(text)) {
+        const body = fileBody(text);
+        const read = this.core.stp(fileBytes(body));
+        if (read.kind !== PASSED) return `${name}: ${this.refused(read.number, read.place)}`;
+        coordinates = stpCoordinates(body, read.n);
+        text = fileOfRows(read.n, read.rows);
+      }
+      const { file, plan } = fileRead(text);
+      this.history = new History({ file, plan });
+    } catch (fault) {
+      if (fault instanceof FileFault) return fault.message.replace(/^/gm, `${name}:`);
+      throw fault;
+    }
+    this.name = name;
+    this.coordinates = coordinates;
+    this.saved = true;
+    this.mending = null;
+    this.selected = -1;
+    this.hot = -1;
+    this.judgement = judge(this.core, this.plan);
+    this.tell('open');
+    return '';
+  }
+
+  /** A refusal in the library's words.
+   * @param {number} number @param {number} place */
+  refused(number, place) {
+    const at = place > 0 ? ` (place ${place})` : '';
+    return `Refused (${number}): ${this.core.refusal(number)}${at}.`;
+  }
+
+  /** @param {string} label @param {(plan: Plan) => void} edit */
+  change(label, edit) {
+    const plan = planCopy(this.plan);
+    edit(plan);
+    this.keep(label, { file: this.history.now.file, plan });
+  }
+
+  /** @param {string} label @param {State} state */
+  keep(label, state) {
+    const rows = this.plan.m;
+    this.history.change(label, state);
+    this.moved(rows);
+  }
+
+  /** After the state has moved.
+   * @param {number} rows how many there were */
+  moved(rows) {
+    this.saved = false;
+    this.judgement = judge(this.core, this.plan);
+    if (this.selected >= this.plan.m) this.selected = -1;
+    this.tell(rows === this.plan.m ? 'change' : 'open');
+  }
+
+  undo() {
+    const rows = this.plan.m;
+    if (!this.mending && this.history.undo() !== '') this.moved(rows);
+  }
+
+  redo() {
+    const rows = this.plan.m;
+    if (!this.mending && this.history.redo() !== '') this.moved(rows);
+  }
+
+  /** Turns the mark of a row.
+   * @param {number} i */
+  toggle(i) {
+    const { plan } = this;
+    if (this.mending || plan.struck[i] || !this.judgement.drawn) return;
+    const marked = plan.mark[i] === 1;
+    this.selected = i;
+    this.change(`${marked ? 'unmark' : 'mark'} trench ${i + 1}`, (p) => {
+      p.mark[i] = marked ? 0 : 1;
+    });
+  }
+
+  /** @param {number} i */
+  select(i) {
+    if (this.selected === i) return;
+    this.selected = i;
+    this.tell('show');
+  }
+
+  /** @param {number} i */
+  hover(i) {
+    if (this.hot === i) return;
+    this.hot = i;
+    this.tell('show');
+  }
+
+  /** @param {number} out @param {number} into @param {string} [label] */
+  exchange(out, into, label = `exchange ${out + 1} for ${into + 1}`) {
+    this.change(label, (p) => {
+      p.mark = judgeExchanged(p, out, into);
+    });
+  }
+
+  /** The marks of the least network that the core builds. */
+  build() {
+    const { least } = this.judgement;
+    if (!least || least.kind !== PASSED) return;
+    this.selected = -1;
+    this.change('build cheapest', (p) => {
+      p.mark = least.mark.slice();
+    });
+  }
+
+  /** Strikes a row, or takes it into use again.
+   * @param {number} i
+   * @returns {string} what is wrong with it, or nothing */
+  strike(i) {
+    const struck = this.plan.struck[i] === 1;
+    const plan = planCopy(this.plan);
+    plan.struck[i] = struck ? 0 : 1;
+    const { kind, number } = struck ? this.sound(plan) : this.core.strike(this.plan, i + 1);
+    if (kind !== PASSED) return this.refused(number, i + 1);
+    const label = `${struck ? 'restore' : 'strike'} trench ${i + 1}`;
+    this.keep(label, { file: this.history.now.file, plan });
+    return '';
+  }
+
+  /** Whether a plan with a row that came in is still a table that is taken.
+   * @param {Plan} plan */
+  sound(plan) {
+    const { drawn, verdict } = judge(this.core, plan);
+    return drawn ? { kind: PASSED, number: 0, out: 0 } : verdict;
+  }
+
+  /** A price as it is moved.
+   * @param {number} i @param {number} price */
+  previewPrice(i, price) {
+    const plan = planCopy(this.plan);
+    plan.price[i] = price;
+    this.history.preview({ file: this.history.now.file, plan });
+    this.moved(plan.m);
+  }
+
+  /** @param {number} i */
+  settlePrice(i) {
+    this.history.settle(`price of trench ${i + 1}`);
+    this.tell('change');
+  }
+
+  /** Adds a trench.
+   * @param {number} a @param {number} b @param {number} price
+   * @returns {string} what is wrong with it, or nothing */
+  add(a, b, price) {
+    const { file, plan } = this.history.now;
+    const answer = this.core.add(plan, a, b, price);
+    if (answer.kind !== PASSED) return this.refused(answer.number, answer.out);
+    const text = fileAdd(file, plan, answer.amount, a, b, price);
+    const state = fileRead(text);
+    const { kind, number, out } = this.sound(state.plan);
+    if (kind !== PASSED) return this.refused(number, out);
+    this.selected = answer.amount - 1;
+    this.keep(`add trench ${answer.amount}`, state);
+    return '';
+  }
+
+  mendStart() {
+    const { kind, steps } = this.core.mend(this.plan);
+    if (kind !== PASSED) return;
+    this.selected = -1;
+    this.hot = -1;
+    this.mending = { steps, at: 0 };
+    this.tell('change');
+  }
+
+  /** @param {number} at */
+  mendTo(at) {
+    if (!this.mending) return;
+    this.mending.at = Math.max(0, Math.min(this.mending.steps.length, at));
+    this.tell('change');
+  }
+
+  /** @param {number} by */
+  mendBy(by) {
+    if (this.mending) this.mendTo(this.mending.at + by);
+  }
+
+  /** @param {boolean} keep whether the marks of the step stay */
+  mendEnd(keep) {
+    if (!this.mending) return;
+    const { mark } = this.shown;
+    const { at } = this.mending;
+    this.mending = null;
+    if (keep && at > 0) {
+      this.change(`mend, ${at} steps`, (p) => {
+        p.mark = mark;
+      });
+    } else this.tell('change');
+  }
+
+  /** The dig list of the plan, by the core: the least network of the marked rows alone is the plan
+   * itself. */
+  digs() {
+    const plan = planCopy(this.plan);
+    plan.struck = plan.struck.map((struck, i) => (plan.mark[i] === 1 ? struck : 1));
+    return this.core.digs(plan);
+  }
+
+  /** The table file as it stands. */
+  text() {
+    const { file, plan } = this.history.now;
+    return fileWrite(file, plan);
+  }
+}

@@ -1,0 +1,255 @@
+// The proved core: one WebAssembly module, whose doors are asked about one working table that
+// stays at one place in its memory. Sizes are BigInt at the doors, pointers are numbers; the memory
+// never grows, so that the views of it stay valid.
+
+/** @typedef {import('./plan.js').Plan} Plan */
+/** An answer's sixteen bytes, as include/star.h has them.
+ * @typedef {{kind: number, number: number, out: number, in: number, only: boolean,
+ * amount: number}} Answer */
+/** @typedef {{kind: number, out: number, in: number}} Step */
+
+export const MAX_JUNCTIONS = 255;
+export const MAX_ROWS = 1024;
+export const MAX_TEXT = 65536;
+export const MIN_PRICE = -2147483648;
+export const MAX_PRICE = 2147483647;
+export const REFUSED = 0;
+export const PASSED = 1;
+export const LIGHTER = 2;
+export const NEVER = 2;
+export const DROPPED = 1;
+export const ADDED = 2;
+export const MARK_COUNT = 9;
+export const NOT_JOINED = 10;
+const MAX_LIST = 6370;
+const USE_BYTES = 128;
+
+/** Rooms in the module's memory, one after the other.
+ * @param {number} from @param {number} end */
+function coreRooms(from, end) {
+  let at = from;
+  /** @param {number} bytes */
+  return (bytes) => {
+    const room = at;
+    at = (at + bytes + 15) & ~15;
+    if (at > end) throw Error("the core's memory is too small");
+    return room;
+  };
+}
+
+export class Core {
+  /** @param {any} doors the module's exports */
+  constructor(doors) {
+    this.doors = doors;
+    const buffer = doors.memory.buffer;
+    this.memory = new Uint8Array(buffer);
+    this.view = new DataView(buffer);
+    const room = coreRooms(doors.__heap_base.value, buffer.byteLength);
+    this.use = room(USE_BYTES);
+    this.left = room(MAX_ROWS + 1);
+    this.right = room(MAX_ROWS + 1);
+    this.weight = room(4 * MAX_ROWS + 4);
+    this.mark = room(MAX_ROWS + 1);
+    this.second = room(MAX_ROWS);
+    this.answer = room(24);
+    this.matrix = room(USE_BYTES * MAX_JUNCTIONS);
+    this.records = room(12 * 2 * MAX_ROWS);
+    this.numbers = room(4 * MAX_ROWS);
+    this.text = room(MAX_TEXT + 1);
+    this.list = room(MAX_LIST);
+  }
+
+  /** The words that the library has for a refusal.
+   * @param {number} number */
+  refusal(number) {
+    return this.words(this.doors.star_refusal_text(number));
+  }
+
+  version() {
+    return this.words(this.doors.star_version());
+  }
+
+  /** A text that ends with a zero byte.
+   * @param {number} at */
+  words(at) {
+    const end = this.memory.indexOf(0, at >>> 0);
+    return new TextDecoder().decode(this.memory.subarray(at >>> 0, end));
+  }
+
+  /** Puts a plan's columns into the module's memory.
+   * @param {Plan} p */
+  put(p) {
+    const { memory, view } = this;
+    memory.fill(0, this.use, this.use + USE_BYTES);
+    for (let i = 0; i < p.m; i++) {
+      memory[this.left + i] = p.left[i];
+      memory[this.right + i] = p.right[i];
+      memory[this.mark + i] = p.mark[i];
+      view.setInt32(this.weight + 4 * i, p.price[i], true);
+      if (!p.struck[i]) memory[this.use + (i >> 3)] |= 1 << (i & 7);
+    }
+  }
+
+  /** The table as doors over working tables take it, without marks. */
+  table() {
+    const rows = BigInt(MAX_ROWS);
+    return [this.use, 16n, this.left, rows, this.right, rows, this.weight, 4n * rows];
+  }
+
+  marks() {
+    return [this.mark, BigInt(MAX_ROWS)];
+  }
+
+  /** Asks a door and reads its answer.
+   * @param {string} door @param {(number|bigint)[]} given
+   * @returns {Answer} */
+  ask(door, ...given) {
+    const bytes = door.endsWith('quote') ? 24n : 16n;
+    const taken = this.doors[door](...given, this.answer, bytes);
+    const { memory, view, answer } = this;
+    if (taken === 0 && memory[answer] !== REFUSED) throw Error(`${door} took nothing`);
+    return {
+      kind: memory[answer],
+      number: memory[answer + 1],
+      out: view.getUint16(answer + 2, true),
+      in: view.getUint16(answer + 4, true),
+      only: memory[answer + 6] === 1,
+      amount: Number(view.getBigInt64(answer + 8, true)),
+    };
+  }
+
+  /** @param {Plan} p the marks that a door left in the module's memory, struck rows as they were */
+  newMarks(p) {
+    const mark = p.mark.slice();
+    for (let i = 0; i < p.m; i++) if (!p.struck[i]) mark[i] = this.memory[this.mark + i];
+    return mark;
+  }
+
+  /** Judges the marks. A table of more rows than are taken is refused as a plain one.
+   * @param {Plan} p */
+  cst(p) {
+    if (p.m > MAX_ROWS) return this.tooMany(p.n);
+    this.put(p);
+    return this.ask('star_work_cst', p.n, ...this.table(), ...this.marks());
+  }
+
+  /** @param {number} n */
+  tooMany(n) {
+    const rows = BigInt(MAX_ROWS + 1);
+    const columns = [this.left, rows, this.right, rows, this.weight, 4n * rows, this.mark, rows];
+    return this.ask('star_cst', n, ...columns);
+  }
+
+  /** @param {Plan} p */
+  other(p) {
+    this.put(p);
+    return this.ask('star_work_other', p.n, ...this.table(), ...this.marks());
+  }
+
+  /** A least network, as marks.
+   * @param {Plan} p */
+  mst1(p) {
+    this.put(p);
+    const answer = this.ask('star_work_mst1', p.n, ...this.table(), ...this.marks());
+    return { ...answer, mark: this.newMarks(p) };
+  }
+
+  /** The total of marks that are a network: that of the cheaper of two claims that are the same.
+   * @param {Plan} p @param {Uint8Array} mark */
+  total(p, mark) {
+    this.put(p);
+    for (const at of [this.mark, this.second]) this.memory.set(mark.subarray(0, MAX_ROWS), at);
+    const second = [this.second, BigInt(MAX_ROWS)];
+    return this.ask('star_work_which', p.n, ...this.table(), ...this.marks(), ...second);
+  }
+
+  /** The rows between junction 1 and each other one: 32 words of 32 bits for each junction; null
+   * where the marks are no network.
+   * @param {Plan} p */
+  paths(p) {
+    this.put(p);
+    const matrix = [this.matrix, BigInt(16 * MAX_JUNCTIONS)];
+    const answer = this.ask(
+      'star_work_paths', p.n, ...this.table(), ...this.marks(), 1, ...matrix);
+    if (answer.kind !== PASSED) return null;
+    const end = this.matrix + USE_BYTES * p.n;
+    return new Uint32Array(this.memory.slice(this.matrix, end).buffer);
+  }
+
+  /** The least totals before and after a row, counted from 1, has another price.
+   * @param {Plan} p @param {number} row @param {number} price */
+  quote(p, row, price) {
+    this.put(p);
+    const answer = this.ask('star_work_quote', p.n, ...this.table(), row, price);
+    const after = Number(this.view.getBigInt64(this.answer + 16, true));
+    return { kind: answer.kind, number: answer.number, before: answer.amount, after };
+  }
+
+  /** The price above which a row, counted from 1, is in no least network.
+   * @param {Plan} p @param {number} row */
+  breaking(p, row) {
+    this.put(p);
+    return this.ask('star_work_breaking', p.n, ...this.table(), row);
+  }
+
+  /** The dig list of the least network of the rows in use, as a text.
+   * @param {Plan} p */
+  digs(p) {
+    this.put(p);
+    const answer = this.ask(
+      'star_work_digs', p.n, ...this.table(), this.list, BigInt(MAX_LIST));
+    const end = this.list + (answer.kind === PASSED ? answer.amount : 0);
+    return { ...answer, text: new TextDecoder().decode(this.memory.slice(this.list, end)) };
+  }
+
+  /** Turns any marks into a least network, and lists each step.
+   * @param {Plan} p */
+  mend(p) {
+    this.put(p);
+    const records = [this.records, BigInt(2 * MAX_ROWS)];
+    const answer = this.ask('star_work_mend', p.n, ...this.table(), ...this.marks(), ...records);
+    /** @type {Step[]} */
+    const steps = [];
+    for (let k = 0; answer.kind === PASSED && k < answer.amount; k++) {
+      const at = this.records + 12 * k;
+      const [kind, out, into] = [0, 4, 8].map((by) => this.view.getUint32(at + by, true));
+      steps.push({ kind, out, in: into });
+    }
+    return { ...answer, mark: this.newMarks(p), steps };
+  }
+
+  /** Where a new row goes, and how the others are numbered then.
+   * @param {Plan} p @param {number} a @param {number} b @param {number} price */
+  add(p, a, b, price) {
+    this.put(p);
+    const numbers = [this.numbers, BigInt(MAX_ROWS)];
+    return this.ask('star_add', ...this.table(), ...numbers, a, b, price);
+  }
+
+  /** @param {Plan} p @param {number} row counted from 1 */
+  strike(p, row) {
+    this.put(p);
+    return this.ask('star_strike', this.use, 16n, row);
+  }
+
+  /** Reads an STP text. A longer one is refused by its length alone.
+   * @param {Uint8Array} bytes */
+  stp(bytes) {
+    const length = Math.min(bytes.length, MAX_TEXT + 1);
+    this.memory.set(bytes.subarray(0, length), this.text);
+    const columns = this.table().slice(2);
+    const a = this.ask('star_import', this.text, BigInt(length), ...columns);
+    const rows = [];
+    for (let i = 0; a.kind === PASSED && i < a.in; i++) {
+      const price = this.view.getInt32(this.weight + 4 * i, true);
+      rows.push([this.memory[this.left + i], this.memory[this.right + i], price]);
+    }
+    return { kind: a.kind, number: a.number, n: a.out, rows, place: a.amount };
+  }
+}
+
+/** @param {BufferSource} bytes */
+export async function coreOpen(bytes) {
+  const { instance } = await WebAssembly.instantiate(bytes, {});
+  return new Core(instance.exports);
+}

@@ -1,0 +1,91 @@
+// Detours and cuts of a plan that is a network, by the path matrix that the core fills: the rows
+// between two junctions are those on exactly one of their paths from junction 1.
+import { planEnd, planHas, planLeaves } from './plan.js';
+
+/** @typedef {import('./plan.js').Plan} Plan */
+/** The rows of a way in order, the junctions on it, its dearest row (the uppermost of them) and
+ * the sum of its prices.
+ * @typedef {{rows: number[], stops: number[], dearest: number, sum: number}} Detour */
+
+const WORDS = 32;
+
+/** Whether a row is on the path from junction 1 to a junction.
+ * @param {Uint32Array} matrix @param {number} v @param {number} i */
+const detourOnPath = (matrix, v, i) => (matrix[WORDS * (v - 1) + (i >> 5)] >>> (i & 31)) & 1;
+
+/** The rows between the ends of row i, in the table's order.
+ * @param {Uint32Array} matrix @param {Plan} p @param {number} i */
+export function detourRows(matrix, p, i) {
+  const rows = [];
+  const [a, b] = [WORDS * (p.left[i] - 1), WORDS * (p.right[i] - 1)];
+  for (let w = 0; w < WORDS; w++) {
+    for (let bits = matrix[a + w] ^ matrix[b + w]; bits !== 0; bits &= bits - 1) {
+      rows.push(WORDS * w + 31 - Math.clz32(bits & -bits));
+    }
+  }
+  return rows;
+}
+
+/** @param {Plan} p @param {number[]} rows in the table's order */
+export function detourDearest(p, rows) {
+  return rows.reduce((best, r) => (best < 0 || p.price[r] > p.price[best] ? r : best), -1);
+}
+
+/** The detour of row i from its left end.
+ * @param {Uint32Array} matrix @param {Plan} p @param {number} i @returns {Detour} */
+export function detourOf(matrix, p, i) {
+  const set = detourRows(matrix, p, i);
+  const left = new Set(set);
+  const rows = [];
+  const stops = [p.left[i]];
+  for (let at = p.left[i]; left.size > 0; ) {
+    const next = [...left].find((r) => p.left[r] === at || p.right[r] === at);
+    if (next === undefined) break;
+    left.delete(next);
+    at = planEnd(p, next, at);
+    rows.push(next);
+    stops.push(at);
+  }
+  const sum = set.reduce((all, r) => all + p.price[r], 0);
+  return { rows, stops, dearest: detourDearest(p, set), sum };
+}
+
+/** For each row that is left out, the dearest of its detour; -1 for the others.
+ * @param {Uint32Array} matrix @param {Plan} p */
+export function detourAllDearest(matrix, p) {
+  const dearest = new Int32Array(p.m).fill(-1);
+  for (let i = 0; i < p.m; i++) {
+    if (planLeaves(p, i)) dearest[i] = detourDearest(p, detourRows(matrix, p, i));
+  }
+  return dearest;
+}
+
+/** The exchange that saves most, the uppermost row of those that save as much; null where none
+ * saves.
+ * @param {Plan} p @param {Int32Array} dearest */
+export function detourBest(p, dearest) {
+  let best = null;
+  for (let i = 0; i < p.m; i++) {
+    const out = dearest[i];
+    const saves = out < 0 ? 0 : p.price[out] - p.price[i];
+    if (saves > (best ? best.saves : 0)) best = { out, in: i, saves };
+  }
+  return best;
+}
+
+/** What a row of the plan holds together: the junctions beyond it, the rows left out that join
+ * both sides again, and the cheapest of these, -1 for none.
+ * @param {Uint32Array} matrix @param {Plan} p @param {number} i */
+export function detourCut(matrix, p, i) {
+  /** @type {Set<number>} */
+  const far = new Set();
+  for (let v = 1; v <= p.n; v++) if (detourOnPath(matrix, v, i)) far.add(v);
+  const across = [];
+  for (let k = 0; k < p.m; k++) {
+    if (planLeaves(p, k) && !planHas(p, k) && far.has(p.left[k]) !== far.has(p.right[k])) {
+      across.push(k);
+    }
+  }
+  const best = across.reduce((b, k) => (b < 0 || p.price[k] < p.price[b] ? k : b), -1);
+  return { far, across, best };
+}

@@ -1,0 +1,32 @@
+// The dig list of the plan that is shown, by the core, to look at and to print.
+import { PASSED } from './core.js';
+import { byId, html } from './dom.js';
+
+/** @typedef {import('./app.js').App} App */
+
+/** A line of the list: number, ends, price; or the total.
+ * @param {string} line */
+function digsRow(line) {
+  const words = line.split(' ');
+  if (words[0] === 'Total') {
+    const total = html('td', { class: 'figure' }, words[1]);
+    return html('tr', { class: 'sum' }, html('td', { colspan: 3 }, 'Total'), total, html('td'));
+  }
+  const cells = words.map((word, k) => html('td', k === 3 ? { class: 'figure' } : {}, word));
+  return html('tr', {}, ...cells, html('td', { class: 'tick' }, '\u2610'));
+}
+
+/** @param {App} app */
+export function digsShow(app) {
+  const answer = app.digs();
+  const listed = answer.kind === PASSED && app.judgement.network;
+  byId('digs-note').textContent = listed
+    ? 'The trenches of the plan, listed by the proved core.'
+    : `No list: ${app.core.refusal(app.judgement.verdict.number)}.`;
+  const lines = listed ? answer.text.trim().split('\n') : [];
+  byId('digs-rows').replaceChildren(...lines.map(digsRow));
+  const copy = byId('digs-table').cloneNode(true);
+  for (const part of [copy, ...copy.querySelectorAll('[id]')]) part.removeAttribute('id');
+  byId('paper').replaceChildren(html('h2', {}, `Dig list: ${app.name}`), copy);
+  byId('digs').showModal();
+}

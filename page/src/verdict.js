@@ -1,0 +1,151 @@
+// The verdict in words: what the core says of the plan, and what the page adds to it.
+import { LIGHTER, PASSED } from './core.js';
+import { bold, button, byId, coreSays, html, pageSays } from './dom.js';
+import { capital, count, money, rowNumbers, runs, trench } from './words.js';
+
+/** @typedef {import('./app.js').App} App */
+/** @typedef {{look: string, head: string, words: any[], acts: any[]}} Said */
+
+const VERDICT_SHOWN = 9;
+const GROUPS_SHOWN = 6;
+
+/** @param {App} app @returns {Said} */
+function verdictPassed(app) {
+  const { verdict, other } = app.judgement;
+  const words = [coreSays(`No network is cheaper than ${money(verdict.amount)}.`)];
+  if (!other) words.push(coreSays('It is the only cheapest network.'));
+  else {
+    words.push(
+      coreSays(
+        bold('Another network costs the same'),
+        `: take out ${trench(app.plan, other.out - 1)}, put in ${trench(app.plan, other.in - 1)}.`,
+      ),
+      pageSays('Two right answers, no contradiction.'),
+    );
+  }
+  const acts = other ? [button('other', 'Show the other network', true)] : [];
+  return { look: 'ok', head: '\u2713 Cheapest network', words, acts };
+}
+
+/** @param {App} app @returns {Said} */
+function verdictLighter(app) {
+  const { exchange, after, total, least } = app.judgement;
+  const acts = [button('swap', 'Make this exchange', true)];
+  const all = total - (least ? least.amount : total);
+  const words = [];
+  if (exchange) {
+    words.push(
+      coreSays(
+        'Take out ',
+        bold(trench(app.plan, exchange.out), 'out'),
+        ', put in ',
+        bold(trench(app.plan, exchange.in), 'in'),
+        `: the total is then ${money(after)}.`,
+      ),
+      pageSays(verdictSavings(exchange.saves, all)),
+    );
+  }
+  return { look: 'less', head: `\u21c4 ${money(all)} can be saved`, words, acts };
+}
+
+/** @param {number} one @param {number} all */
+function verdictSavings(one, all) {
+  if (one === all) return `This exchange saves ${money(one)}, all that can be saved.`;
+  return `Of single exchanges this one saves most, ${money(one)} of ${money(all)} in all.`;
+}
+
+/** Marks that are no network.
+ * @param {App} app @returns {Said} */
+function verdictNone(app) {
+  const { verdict, marks, rings } = app.judgement;
+  const need = app.plan.n - 1;
+  const words = [coreSays(`${capital(app.core.refusal(verdict.number))}.`)];
+  if (marks === need) words.push(pageSays(bold('The count is right, and that is not enough.')));
+  else words.push(pageSays(`${count(marks, 'mark', 'marks')}; a network has exactly ${need}.`));
+  if (rings && marks > 0) words.push(...verdictRings(rings));
+  return {
+    look: marks > 0 ? 'no' : 'less',
+    head: marks > 0 ? '\u2717 No network' : '\u25cb Nothing is marked yet',
+    words,
+    acts: [],
+  };
+}
+
+/** @param {import('./rings.js').Rings} rings */
+function verdictRings(rings) {
+  const words = [];
+  if (rings.rings.length > 0) {
+    const more = rings.extra.length - 1;
+    const also = more > 0 ? ` ${count(more, 'more mark closes', 'more marks close')} a ring.` : '';
+    const rows = rowNumbers(rings.rings[0], VERDICT_SHOWN);
+    words.push(pageSays(bold('A ring', 'ring'), `: trenches ${rows}.${also}`));
+  }
+  if (rings.apart.length > 0) {
+    const groups = rings.groups.slice(0, GROUPS_SHOWN).map((g) => runs(g));
+    const more = rings.groups.length - groups.length;
+    const rest = more > 0 ? `; and ${more} more` : '';
+    const said = `: ${groups.join('; ')}${rest}.`;
+    words.push(pageSays(bold('Groups that stand apart', 'cut'), said));
+  }
+  return words;
+}
+
+/** A table that is refused.
+ * @param {App} app @returns {Said} */
+function verdictRefused(app) {
+  const { verdict } = app.judgement;
+  const { file } = app.history.now;
+  const words = [coreSays(`${capital(app.core.refusal(verdict.number))}.`)];
+  const row = file.rowLine[verdict.out - 1];
+  if (verdict.out > 0 && row !== undefined) {
+    words.push(pageSays(`Trench ${verdict.out}, line ${row + 1} of the file.`));
+  } else if (verdict.number === 1 && file.countLine > 0) {
+    words.push(pageSays(`Line ${file.countLine} of the file says ${file.count.slice(0, 40)}.`));
+  }
+  return { look: 'no', head: `\u2717 Refused (${verdict.number})`, words, acts: [] };
+}
+
+/** @param {App} app */
+export function verdictSaid(app) {
+  const { verdict, drawn } = app.judgement;
+  if (verdict.kind === PASSED) return verdictPassed(app);
+  if (verdict.kind === LIGHTER) return verdictLighter(app);
+  return drawn ? verdictNone(app) : verdictRefused(app);
+}
+
+/** Mend and build, where there is a network to come to.
+ * @param {App} app */
+function verdictActs(app) {
+  const { verdict, least, marks } = app.judgement;
+  if (!least) return [];
+  if (least.kind !== PASSED) return [];
+  if (verdict.kind === PASSED) return [];
+  const mend = marks > 0 ? [button('mend', 'Mend step by step')] : [];
+  return [...mend, button('build', 'Build cheapest', marks === 0)];
+}
+
+/** @param {App} app */
+function verdictTotals(app) {
+  const { network, drawn, total, marks, least } = app.judgement;
+  if (!drawn) return [];
+  const parts = [[money(total), network ? 'total' : 'marked so far']];
+  parts.push([String(marks), `of ${app.plan.n - 1} marks`]);
+  if (least && least.kind === PASSED) parts.push([money(least.amount), 'least total']);
+  return parts.map(([figure, what]) => html('span', {}, bold(figure), ` ${what}`));
+}
+
+/** @param {App} app */
+export function verdictShow(app) {
+  const said = verdictSaid(app);
+  const { least, drawn } = app.judgement;
+  if (drawn && least && least.kind !== PASSED) {
+    said.words.push(coreSays(`${capital(app.core.refusal(least.number))}.`));
+  }
+  byId('verdict').className = `card ${said.look}`;
+  byId('head').textContent = said.head;
+  byId('totals').replaceChildren(...verdictTotals(app));
+  byId('why').replaceChildren(...said.words);
+  byId('acts').replaceChildren(...said.acts, ...verdictActs(app));
+  const words = [said.head, ...said.words.map((w) => w.textContent.replace('\u25c6 ', ''))];
+  byId('live').textContent = `${words.join(' ')} ${byId('totals').innerText}`;
+}

@@ -1,0 +1,374 @@
+// The page in a real browser, held to the console on the same files.
+// usage: node page.mjs CHROMIUM STAR STAR.html [GROUP..]   Ends in one line 'N passed, M failed'.
+// CALLS in the environment names the file of calls.py for the group doors, and TABLES the table of
+// the group labels, where not all are wanted.
+import { spawnSync } from 'node:child_process';
+import fs from 'node:fs';
+import os from 'node:os';
+import path from 'node:path';
+import { fileURLToPath } from 'node:url';
+import { browserMake } from './browser.mjs';
+import { overlaps } from './overlaps.mjs';
+import { tablesFor } from './tables.mjs';
+
+const [, , program, console_, html, ...asked] = process.argv;
+const here = path.dirname(fileURLToPath(import.meta.url));
+const examples = path.join(here, '../../console/examples');
+const folder = fs.mkdtempSync(path.join(os.tmpdir(), 'star-page-test-'));
+const b = browserMake(program);
+let [passed, failed] = [0, 0];
+
+/** @param {string} what @param {boolean} holds */
+function check(what, holds) {
+  if (holds) passed++;
+  else failed++;
+  if (!holds) console.log('page:', what, 'failed');
+}
+
+/** @param {string[]} words */
+function star(...words) {
+  return spawnSync(console_, words, { encoding: 'latin1' }).stdout;
+}
+
+/** @param {string} id */
+const textOf = (id) => b.value(`document.getElementById(${JSON.stringify(id)}).innerText`);
+/** @param {string} name */
+const example = (name) => path.join(examples, name);
+
+/** @param {string} file */
+const bytesOf = (file) => fs.readFileSync(file, 'latin1');
+
+/** Chooses a file, as the button Open does.
+ * @param {string} file */
+async function choose(file) {
+  const { root } = await b.send('DOM.getDocument');
+  const found = await b.send('DOM.querySelector', { nodeId: root.nodeId, selector: '#file' });
+  await b.send('DOM.setFileInputFiles', { files: [file], nodeId: found.nodeId });
+  const name = JSON.stringify(path.basename(file));
+  const opened = `star.app.name === ${name} || !document.getElementById('fault').hidden`;
+  for (let k = 0; k < 200 && !(await b.value(opened)); k++) await b.frame();
+  await b.frame();
+}
+
+/** Clicks a button by what it does.
+ * @param {string} act */
+async function press(act) {
+  const box = await b.value(`(() => {
+    const all = [...document.querySelectorAll('[data-act="${act}"]')];
+    const button = all.find((x) => x.offsetParent);
+    button.scrollIntoView({ block: 'nearest' });
+    const r = button.getBoundingClientRect();
+    return { x: r.left + r.width / 2, y: r.top + r.height / 2 };
+  })()`);
+  await b.click(box.x, box.y);
+  await b.frame();
+}
+
+/** The pixels of the middle of a trench, counted from 1.
+ * @param {number} row */
+const middle = (row) => b.value(`(() => {
+  const q = star.picture.middle(${row - 1});
+  const r = star.picture.root.getBoundingClientRect();
+  return { x: r.left + q.x, y: r.top + q.y };
+})()`);
+
+/** The lines and junctions as they are drawn, and the view. */
+const drawn = () => b.value(`JSON.stringify([
+  star.picture.lines.map((line) => line.getAttribute('d')),
+  star.picture.discs.map((disc) => disc.firstChild.getAttribute('d')),
+  star.picture.world.getAttribute('transform')])`);
+
+/** The file that the button Save writes. */
+async function saved() {
+  fs.rmSync(folder, { recursive: true });
+  fs.mkdirSync(folder);
+  await press('save');
+  for (let k = 0; k < 100; k++) {
+    const names = fs.readdirSync(folder).filter((name) => name.endsWith('.txt'));
+    if (names.length > 0) return fs.readFileSync(path.join(folder, names[0]), 'latin1');
+    await b.frame();
+  }
+  return '';
+}
+
+/** Whether the list's checkboxes and the picture have the plan's marks. */
+const shows = () => b.value(`(() => {
+  const { plan } = star.app;
+  return star.list.rows.every((row, i) => {
+    const on = plan.mark[i] === 1 && !plan.struck[i];
+    const line = star.picture.lines[i].parentNode.getAttribute('class') === 'plan';
+    return row.cells[0].firstChild.checked === on && line === on;
+  });
+})()`);
+
+/** @type {Record<string, () => Promise<void>>} */
+const GROUPS = {
+  async quiet() {
+    check('a page that starts', (await textOf('head')).includes('1 can be saved'));
+    check('no fault', await b.value("document.getElementById('fault').hidden"));
+    check('the version', (await textOf('version')) === star('--version').trim().split(' ').pop());
+  },
+
+  async marks() {
+    await choose(example('yard.txt'));
+    const before = await drawn();
+    check('the yard passes', (await textOf('verdict')).includes('No network is cheaper than 12.'));
+    const other = 'Another network costs the same';
+    check('the other network', (await textOf('verdict')).includes(other));
+    const one = await middle(1);
+    await b.click(one.x, one.y);
+    await b.frame();
+    check('a click marks', await b.value('star.app.plan.mark[0] === 1'));
+    check('the verdict follows', (await textOf('head')).includes('No network'));
+    const words = await textOf('verdict');
+    check('the total follows', /^17 marked/m.test(words) && words.includes('4 of 3 marks'));
+    check('the least total stays', words.includes('12 least total'));
+    check('the ring is told', /A ring: trenches/.test(words));
+    check('list and picture follow', await shows());
+    const four = await middle(4);
+    await b.click(four.x, four.y);
+    await b.frame();
+    const now = await textOf('verdict');
+    check('a saving', now.includes('1 can be saved') && now.includes('13 total'));
+    check('what goes and what comes',
+      /Take out trench 1 \(1–2, 5\), put in trench 4 \(1–4, 4\): the total is then 12\./.test(now));
+    check('a standing', (await textOf('list-rows')).includes('saves 1 for 1'));
+    check('nothing moves', before === (await drawn()));
+    await press('swap');
+    check('the exchange', (await textOf('head')).includes('Cheapest network'));
+    check('the file is as it was', (await saved()) === bytesOf(example('yard.txt')));
+  },
+
+  async keys() {
+    await choose(example('yard-dear.txt'));
+    await b.value("document.querySelector('#list-rows input').focus()");
+    for (const key of ['ArrowDown', 'ArrowDown', 'ArrowDown', ' ']) await b.key(key);
+    await b.frame();
+    check('space marks', await b.value('star.app.plan.mark[3] === 1'));
+    check('the line is chosen', await b.value('star.app.selected === 3'));
+    await b.key('z', 2);
+    await b.frame();
+    check('undo by key', await b.value('star.app.plan.mark[3] === 0'));
+    check('undo is shown', (await textOf('head')).includes('1 can be saved') && (await shows()));
+    await b.key('y', 2);
+    await b.frame();
+    check('redo by key', await b.value('star.app.plan.mark[3] === 1'));
+    await b.key('Escape');
+    await b.frame();
+    check('escape closes the card', await b.value("document.getElementById('card').hidden"));
+  },
+
+  async card() {
+    await choose(example('yard.txt'));
+    await b.value('star.app.select(4)');
+    await b.frame();
+    const words = await textOf('card');
+    check('the dearest decides', words.includes('6 > 5') && words.includes('stays out'));
+    check('the sum does not count', /Its sum, 9, does not count/.test(words));
+    check('bars', (await b.value("document.querySelectorAll('#card .bars rect').length")) === 2);
+    check('breaking price', words.includes('Its breaking price is 5'));
+    const core = await b.value(
+      "[...document.querySelectorAll('#card .core')].map((x) => x.innerText).join('|')");
+    check('the exchange by the core', core.includes('With trench 5 for trench 3 the total is 13.'));
+    await b.value('star.app.select(2)');
+    await b.frame();
+    const own = await textOf('card');
+    check('a trench of the plan', own.includes('In the plan. 5 = 5') && own.includes('cut off'));
+  },
+
+  async changes() {
+    const file = example('city.txt');
+    await choose(file);
+    await b.value('star.app.select(4)');
+    await b.frame();
+    await press('strike');
+    check('strike', (await saved()) === star('strike', file, '5'));
+    check('struck in the list', (await textOf('list-rows')).includes('struck'));
+    await press('mend');
+    await press('mend-last');
+    await press('mend-keep');
+    const struck = path.join(folder, 'struck.txt');
+    fs.writeFileSync(struck, star('strike', file, '5'));
+    const mended = star('mend', struck);
+    check('mend', (await saved()) === mended && mended !== '');
+    check('mended is cheapest', (await textOf('head')).includes('Cheapest network'));
+    await press('undo');
+    await press('undo');
+    check('undo of both', (await saved()) === bytesOf(file));
+    await press('redo');
+    await press('redo');
+    check('redo of both', (await saved()) === mended);
+    await press('undo');
+    await press('undo');
+    await b.value('star.app.select(4)');
+    await b.frame();
+    await press('strike');
+    await press('strike');
+    check('restore', (await saved()) === bytesOf(file));
+  },
+
+  async adds() {
+    const file = example('yard.txt');
+    await choose(file);
+    await press('add');
+    await b.value(`for (const [id, v] of [['add-a', 2], ['add-b', 4], ['add-price', 1]])
+      document.getElementById(id).value = v;
+      document.querySelector('#add button.go').click()`);
+    await b.frame();
+    check('add', (await saved()) === star('add', file, '2', '4', '1'));
+    check('its saving', (await textOf('head')).includes('4 can be saved'));
+    await press('add');
+    await b.value(`for (const [id, v] of [['add-a', 2], ['add-b', 4], ['add-price', 1]])
+      document.getElementById(id).value = v;
+      document.querySelector('#add button.go').click()`);
+    await b.frame();
+    const wrong = await textOf('add-wrong');
+    check('a repeat is refused', wrong.includes('a row joins the same two junctions'));
+    await b.value("document.getElementById('add').close()");
+    await press('undo');
+    check('undo of add', (await saved()) === bytesOf(file));
+  },
+
+  async prices() {
+    await choose(example('yard.txt'));
+    await b.value(`star.app.select(4);
+      const box = document.getElementById('price-number');
+      box.value = '2'; box.dispatchEvent(new Event('change'))`);
+    await b.frame();
+    const quoted = star('quote', example('yard.txt'), '5', '2');
+    const least = await b.value('star.app.judgement.least.amount');
+    check('the quote', quoted.includes(`and ${least} at the new price`));
+    check('what it saves', (await textOf('head')).includes('3 can be saved'));
+    check('the price in the file', (await saved()).includes('1 3 2 0'));
+    await press('undo');
+    check('undo of a price', (await saved()) === bytesOf(example('yard.txt')));
+  },
+
+  async lists() {
+    await choose(example('yard.txt'));
+    await press('digs');
+    const rows = await b.value(`[...document.querySelectorAll('#digs-rows tr')].map((row) =>
+      [...row.cells].slice(0, 4).map((cell) => cell.innerText).join(' ').trim()).join('\\n')`);
+    const others = path.join(folder, 'others.txt');
+    fs.writeFileSync(others, star('strike', example('yard.txt'), '1', '5'));
+    check('the dig list of the plan', rows === star('digs', others).trim());
+    await b.value("document.getElementById('digs').close()");
+    await choose(example('street.stp'));
+    check('an STP text', (await b.value('star.app.plan.m')) > 0);
+    check('as a table', (await saved()) === star('table', example('street.stp')));
+    const bad = path.join(folder, 'bad.txt');
+    fs.writeFileSync(bad, '1 2 x 1\n');
+    await choose(bad);
+    check('a fault', (await textOf('fault')).includes("bad.txt:1: 'x' is not a price"));
+    await choose(example('old.txt'));
+    check('groups', (await textOf('verdict')).includes('Groups that stand apart: 1, 2, 3; 4'));
+    await b.value("document.getElementById('fault').hidden = true");
+  },
+
+  async labels() {
+    const only = process.env.TABLES;
+    for (const [name, text] of Object.entries(tablesFor(examples))) {
+      if (only && only !== name) continue;
+      const bytes = JSON.stringify([...Buffer.from(text)]);
+      await b.value(`star.open(Uint8Array.from(${bytes}), 'table')`);
+      await b.frame();
+      for (const zoom of [1, 1.8, 1.8]) {
+        await b.value(`star.picture.zoom(${zoom}); star.app.select(${zoom} > 1
+          ? star.picture.nearest(star.picture.view.w / 2, star.picture.view.h / 2, 300) : -1)`);
+        await b.frame();
+        const { bad, shown, tag } = await b.value(`(${overlaps})()`);
+        check(`labels of ${name}: ${bad.slice(0, 3).join(', ')}`, bad.length === 0 && shown > 0);
+        check(`the price of the chosen trench of ${name}`, zoom === 1 || tag);
+      }
+    }
+  },
+
+  async phone() {
+    await b.size(390, 844, true);
+    await choose(example('city.txt'));
+    check('no sideways scrolling', (await b.value('document.documentElement.scrollWidth')) <= 390);
+    await choose(example('yard.txt'));
+    const one = await middle(1);
+    await b.tap(one.x, one.y);
+    await b.frame();
+    const looked = 'star.app.plan.mark[0] === 0 && star.app.selected === 0';
+    check('a first tap looks', await b.value(looked));
+    const again = await middle(1);
+    await b.tap(again.x, again.y);
+    await b.frame();
+    check('a second tap marks', await b.value('star.app.plan.mark[0] === 1'));
+    check('still no scrolling', (await b.value('document.documentElement.scrollWidth')) <= 390);
+    await b.size(1280, 800);
+  },
+
+  async names() {
+    await choose(example('city.txt'));
+    await b.value('star.app.select(0)');
+    await b.frame();
+    const { nodes } = await b.send('Accessibility.getFullAXTree');
+    const seen = nodes.filter((/** @type {any} */ node) => !node.ignored);
+    const roles = ['button', 'checkbox', 'combobox', 'textbox', 'spinbutton', 'slider', 'image'];
+    const bare = seen.filter((/** @type {any} */ node) =>
+      roles.includes(node.role.value) && !(node.name && node.name.value));
+    check('every control has a name', bare.length === 0);
+    /** @param {string} role */
+    const number = (role) => seen.filter((/** @type {any} */ n) => n.role.value === role).length;
+    check('every row is there', number('checkbox') === 1024 && number('row') >= 1025);
+    check('headings of columns', number('columnheader') === 5);
+    const live = "document.getElementById('live').textContent.length > 20";
+    check('a live region', await b.value(live));
+  },
+
+  async doors() {
+    const calls = process.env.CALLS;
+    if (!calls) return;
+    const source = fs.readFileSync(path.join(here, 'calls.js'), 'utf8').replace(/^export /gm, '');
+    await b.value(`star.openFile = async (file) => {
+      star.calls = new Uint8Array(await file.arrayBuffer());
+    }`);
+    const { root } = await b.send('DOM.getDocument');
+    const found = await b.send('DOM.querySelector', { nodeId: root.nodeId, selector: '#file' });
+    await b.send('DOM.setFileInputFiles', { files: [calls], nodeId: found.nodeId });
+    for (let k = 0; k < 500 && !(await b.value('Boolean(star.calls)')); k++) await b.frame();
+    const told = await b.value(`(() => { ${source}
+      return callsCompare(star.app.core.doors, star.calls); })()`);
+    console.log(`${told.calls} calls in the browser as in the native library`);
+    const same = Object.keys(told.different).length === 0;
+    check('the doors in the browser', told.calls > 10000 && same);
+    await b.value('delete star.openFile; delete star.calls');
+  },
+
+  async clicks() {
+    await choose(example('city.txt'));
+    const time = await b.value(`(() => {
+      const times = [];
+      for (let k = 0; k < 21; k++) {
+        const before = performance.now();
+        star.app.toggle(k);
+        times.push(performance.now() - before);
+      }
+      return times.sort((x, y) => x - y)[10];
+    })()`);
+    console.log(`a click at 255 junctions and 1,024 trenches: ${time.toFixed(1)} ms of script`);
+    check('the script of a click', time < 60);
+  },
+};
+
+async function run() {
+  await b.start();
+  await b.size(1280, 800);
+  await b.send('Browser.setDownloadBehavior', { behavior: 'allow', downloadPath: folder });
+  await b.go(path.resolve(html));
+  for (const name of asked.length > 0 ? asked : Object.keys(GROUPS)) await GROUPS[name]();
+  check(`no request, no word on the console (${b.log.slice(0, 3)})`, b.log.length === 0);
+  await b.close();
+  fs.rmSync(folder, { recursive: true, force: true });
+  console.log(`${passed} passed, ${failed} failed`);
+  process.exit(failed ? 1 : 0);
+}
+
+run().catch((fault) => {
+  console.log(fault);
+  console.log('0 passed, 1 failed');
+  process.exit(1);
+});
