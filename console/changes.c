@@ -1,5 +1,6 @@
-/* The commands that change lines of a table file: strike, unstrike, mark, unmark, price, add and merge. The doors of working tables say which trench
-   is struck, where a new one goes and which numbers change; the lines of the file follow. */
+/* The commands that change lines of a table file: strike, unstrike, mark, unmark, price, add and
+   merge. The doors of working tables say which trench is struck, where a new one goes and which
+   numbers change; the lines of the file follow. */
 #include <string.h>
 
 #include "commands.h"
@@ -110,7 +111,8 @@ int command_price(struct table *t, const struct options *with, struct output *o)
     uint8_t price[PRICE_BYTES], *own;
     uint32_t trench;
     int status;
-    if (with->count != 2) return misused("the number of a trench and its price follow the file of", "price");
+    if (with->count != 2)
+        return misused("the number of a trench and its price follow the file of", "price");
     status = trench_named(with->words[0], &trench);
     if (status == 0) status = price_named(with->words[1], price);
     if (status == 0) status = too_many(t);
@@ -125,7 +127,8 @@ int command_price(struct table *t, const struct options *with, struct output *o)
 
 /* ---- Trenches that come in: unstrike, add ---- */
 
-/* Writes the changed file, unless its table would be refused: a trench that comes in may be wrong. */
+/* Writes the changed file, unless its table would be refused: a trench that comes in may be
+   wrong. */
 static int write_sound(struct output *o, const struct table *t, struct message *notes) {
     struct message words = {{0}, 0};
     if (!edit_refused(t, &edit, &words, notes)) return edit_write(o, t, &edit);
@@ -160,7 +163,8 @@ static void tell_numbers(const struct table *t) {
     else say_count(&words, t->strikes, "struck trench is gone.", "struck trenches are gone.");
     fprintf(stderr, "%s\n", words.text);
     for (i = table_next(t, 0); i <= t->m; i = table_next(t, i))
-        if (numbers[i - 1] != i) fprintf(stderr, "trench %zu is now trench %u\n", i, (unsigned)numbers[i - 1]);
+        if (numbers[i - 1] != i)
+            fprintf(stderr, "trench %zu is now trench %u\n", i, (unsigned)numbers[i - 1]);
 }
 
 /* The words LEFT RIGHT PRICE as a trench and as the line of it. */
@@ -174,7 +178,8 @@ static int new_trench(const struct options *with, struct trench *new, struct mes
     if (status != 0) return status;
     new->left = (uint8_t)end[0];
     new->right = (uint8_t)end[1];
-    say(as, "%u %u %s 0", (unsigned)end[0], (unsigned)end[1], price_figures(price, new->price)); /* the word itself may be of any length */
+    price_figures(price, new->price); /* the word itself may be of any length */
+    say(as, "%u %u %s 0", (unsigned)end[0], (unsigned)end[1], price);
     return 0;
 }
 

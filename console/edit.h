@@ -1,5 +1,6 @@
-/* Changes to a table file: lines that are struck, left out, replaced, added, or that get another mark or price. All else stands as it did, comments, a
-   byte order mark and the ends of lines too. */
+/* Changes to a table file: lines that are struck, left out, replaced, added, or that get another
+   mark or price. All else stands as it did, comments, a byte order mark and the ends of lines
+   too. */
 #ifndef CONSOLE_EDIT_H
 #define CONSOLE_EDIT_H
 
@@ -18,19 +19,22 @@ enum change {
 struct edit {
     uint8_t change[KEPT]; /* trench i at index i - 1 */
     int merge;            /* whether the lines of struck trenches are left out */
-    size_t instead;       /* the trench whose line is replaced by the new one; 0 for none: then a new one stands at the end */
+    size_t instead;       /* the trench whose line is replaced by the new one; 0: it is added */
     const char *line;     /* the line of a new trench, NULL for none */
-    uint32_t n;           /* the number of junctions that a line 'junctions N' says, where lines are left out or replaced and none does */
+    uint32_t n;           /* what a line 'junctions N' says, where lines go and none says it yet */
 };
 
-/* Writes the table's file as it is after the changes, and closes the output: what is told of the changes after that is told of a file that was
-   written. Gives a status of status.h. */
+/* Writes the table's file as it is after the changes, and closes the output: what is told of the
+   changes after that is told of a file that was written. Gives a status of status.h. */
 int edit_write(struct output *o, const struct table *t, const struct edit *e);
 
-/* Writes the table with the marks that it has now: its file with these marks, or a new table where it was read from an STP file. */
+/* Writes the table with the marks that it has now: its file with these marks, or a new table where
+   it was read from an STP file. */
 int edit_marks(struct output *o, const struct table *t);
 
-/* Whether the file after the changes would be refused, its plan apart; says so in words. What else is to be said of it is said to notes. */
-int edit_refused(const struct table *t, const struct edit *e, struct message *words, struct message *notes);
+/* Whether the file after the changes would be refused, its plan apart; says so in words. What else
+   is to be said of it is said to notes. */
+int edit_refused(const struct table *t, const struct edit *e, struct message *words,
+                 struct message *notes);
 
 #endif

@@ -19,30 +19,38 @@ enum { LINKS = 40 };
 
 /* ---- Identity ---- */
 
+static const struct file_id NONE = {0, 0, 0, 0, 0, 0, 0};
+
 static struct file_id id_of(const struct stat *s) {
-    struct file_id id = {0, 0, 0, 0};
+    struct file_id id;
     id.regular = S_ISREG(s->st_mode);
     id.device = (uintmax_t)s->st_dev;
     id.inode = (uintmax_t)s->st_ino;
     id.names = (uintmax_t)s->st_nlink;
+    id.size = (intmax_t)s->st_size;
+    id.seconds = (intmax_t)s->st_mtim.tv_sec;
+    id.nanoseconds = (intmax_t)s->st_mtim.tv_nsec;
     return id;
 }
 
 struct file_id file_named(const char *name) {
-    struct file_id none = {0, 0, 0, 0};
     struct stat s;
-    return stat(name, &s) == 0 ? id_of(&s) : none;
+    return stat(name, &s) == 0 ? id_of(&s) : NONE;
 }
 
 struct file_id file_open(int descriptor) {
-    struct file_id none = {0, 0, 0, 0};
     struct stat s;
-    return fstat(descriptor, &s) == 0 ? id_of(&s) : none;
+    return fstat(descriptor, &s) == 0 ? id_of(&s) : NONE;
 }
 
 int file_same(struct file_id one, struct file_id other) {
     if (!one.regular || !other.regular) return 0;
     return one.device == other.device && one.inode == other.inode;
+}
+
+int file_unchanged(struct file_id one, struct file_id other) {
+    if (!file_same(one, other) || one.size != other.size) return 0;
+    return one.seconds == other.seconds && one.nanoseconds == other.nanoseconds;
 }
 
 /* ---- Names ---- */
@@ -196,35 +204,46 @@ static int fill(int to, const struct stat *old, const char *bytes, size_t len) {
     return done;
 }
 
+/* What is to stand in a file, and what it replaces. */
+struct written {
+    const char *bytes;
+    size_t len;
+    const struct stat *old;     /* NULL where the file is new */
+    const struct file_id *read; /* what it was when it was read, or NULL */
+};
+
+/* The last look before the rename: whether a signal has come, and whether the file is as it was. */
+static enum file_written looked(const char *path, const struct written *w, const sigset_t *held) {
+    errno = EINTR;
+    if (waits(held)) return FILE_UNWRITTEN;
+    if (w->read && !file_unchanged(file_named(path), *w->read)) return FILE_CHANGED;
+    return FILE_WRITTEN;
+}
+
 /* Writes a file beside another, and renames it into its place, with signals held back. */
-static int renamed(const char *path, char *beside, const struct stat *old, const char *bytes,
-                   size_t len) {
+static enum file_written renamed(const char *path, char *beside, const struct written *w) {
+    enum file_written said = FILE_UNWRITTEN;
     sigset_t held, before;
-    int to, done, why;
+    int to, why;
     ends(&held);
     sigprocmask(SIG_BLOCK, &held, &before);
     to = mkstemp(beside);
-    done = to >= 0 && fill(to, old, bytes, len);
-    if (done && waits(&held)) {
-        errno = EINTR;
-        done = 0;
-    }
-    done = done && rename(beside, path) == 0;
+    if (to >= 0 && fill(to, w->old, w->bytes, w->len)) said = looked(path, w, &held);
+    if (said == FILE_WRITTEN && rename(beside, path) != 0) said = FILE_UNWRITTEN;
     why = errno;
-    if (!done && to >= 0) unlink(beside);
+    if (said != FILE_WRITTEN && to >= 0) unlink(beside);
     sigprocmask(SIG_SETMASK, &before, NULL);
     errno = why;
-    return done;
+    return said;
 }
 
-static enum file_written replace(const char *path, const struct stat *old, const char *bytes,
-                                 size_t len) {
+static enum file_written replace(const char *path, const struct written *w) {
     char *folder = folder_of(path), *beside = NULL;
     enum file_written said = FILE_UNWRITTEN;
     int why;
     if (folder) beside = joined(folder, strlen(folder), BESIDE);
-    if (beside && renamed(path, beside, old, bytes, len))
-        said = flush_folder(folder) ? FILE_WRITTEN : FILE_UNSURE;
+    if (beside) said = renamed(path, beside, w);
+    if (said == FILE_WRITTEN && !flush_folder(folder)) said = FILE_UNSURE;
     why = errno;
     free(folder);
     free(beside);
@@ -241,26 +260,27 @@ static enum file_written write_to(int to, const char *bytes, size_t len) {
 }
 
 /* A regular file has to be one that may be written: a file that is protected is not replaced. */
-static enum file_written write_at(const char *path, const char *bytes, size_t len) {
+static enum file_written write_at(const char *path, struct written *w) {
     struct stat old;
     int at;
-    if (stat(path, &old) != 0) {
-        return errno == ENOENT ? replace(path, NULL, bytes, len) : FILE_UNWRITTEN;
-    }
-    if (!S_ISREG(old.st_mode)) return write_to(open(path, O_WRONLY | O_NOCTTY), bytes, len);
+    if (stat(path, &old) != 0) return errno == ENOENT ? replace(path, w) : FILE_UNWRITTEN;
+    if (!S_ISREG(old.st_mode)) return write_to(open(path, O_WRONLY | O_NOCTTY), w->bytes, w->len);
     at = open(path, O_WRONLY | O_NONBLOCK | O_NOCTTY);
     if (at < 0) return FILE_UNWRITTEN;
     close(at);
-    return replace(path, &old, bytes, len);
+    w->old = &old;
+    return replace(path, w);
 }
 
-enum file_written file_write(const char *name, const char *bytes, size_t len) {
+enum file_written file_write(const char *name, const char *bytes, size_t len,
+                             const struct file_id *read) {
+    struct written w = {bytes, len, NULL, read};
     int descriptor, why;
     char *path = followed(name, &descriptor);
     enum file_written said;
     if (!path) return FILE_UNWRITTEN;
     if (descriptor >= 0) said = write_to(dup(descriptor), bytes, len);
-    else said = write_at(path, bytes, len);
+    else said = write_at(path, &w);
     why = errno;
     free(path);
     errno = why;

@@ -164,7 +164,7 @@ static int tell_fault(struct request *r, int status) {
     FILE *to;
     r->out.file = NULL;
     to = output_open(&r->out);
-    if (!to) return EXIT_UNWRITTEN;
+    if (!to) return status; /* standard output is the file that is read */
     json_fault(to, &r->with, status, fault_last());
     return output_close(&r->out) ? status : EXIT_UNWRITTEN;
 }
@@ -179,7 +179,7 @@ static int asks_json(const struct request *r, char **words) {
 static int asks_help(const char *word) { return strcmp(word, "--help") == 0 || strcmp(word, "-h") == 0 || strcmp(word, "help") == 0; }
 
 int main(int count, char **words) {
-    struct request r = {NULL, NULL, {0, 0, 0, 0, 0, NULL, 0, NULL, NULL}, {NULL, NULL, NULL, 0}, 0, 0};
+    static struct request r; /* nothing is asked for yet */
     int status;
     file_guard();
     if (count < 2) {

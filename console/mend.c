@@ -99,7 +99,7 @@ static void json_steps(struct json *j, const struct table *t, size_t steps) {
 
 /* The object goes to standard output, and the file to the output that is named. */
 static int mend_json(const struct table *t, const struct past *past, size_t steps, const struct options *with) {
-    struct output own = {NULL, NULL, NULL, 0};
+    struct output own = {0};
     struct json j;
     FILE *to = output_open(&own);
     if (!to) return EXIT_UNWRITTEN;
@@ -118,7 +118,7 @@ static int mend_json(const struct table *t, const struct past *past, size_t step
 
 /* A refusal, which leaves the file as it was. */
 static int refused(const struct table *t, struct star_answer a, const struct options *with) {
-    struct output own = {NULL, NULL, NULL, 0};
+    struct output own = {0};
     struct message words = {{0}, 0};
     int status;
     refusal_words(&words, t, a);

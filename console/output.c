@@ -1,4 +1,5 @@
-/* Output whose errors are told. What is to stand in a file is put together first and written when all of it is there. */
+/* Output whose errors are told. What is to stand in a file is put together first, and written when
+   all of it is there. */
 #define _POSIX_C_SOURCE 200809L
 
 #include "output.h"
@@ -19,7 +20,11 @@ static void complain(const struct output *o, const char *what) {
 
 static const char UNWRITTEN[] = "it could not be written";
 
+/* Whether standard output is a file that is read: then nothing is written to it. */
+static int barred;
+
 FILE *output_open(struct output *o) {
+    if (!o->file && barred) return NULL;
     errno = 0;
     if (!o->to) o->to = o->file ? open_memstream(&o->bytes, &o->len) : stdout;
     if (!o->to) complain(o, UNWRITTEN);
@@ -44,15 +49,18 @@ static int ended(FILE *to) {
 static void tell_names(const struct output *o, struct file_id old) {
     uintmax_t others = old.names - 1;
     if (!old.regular || old.names < 2 || !file_replaced(o->file)) return;
-    fprintf(stderr, "%s: the file had %" PRIuMAX " other %s, which %s the old one\n", o->file, others,
-            others == 1 ? "name" : "names", others == 1 ? "keeps" : "keep");
+    fprintf(stderr, "%s: the file had %" PRIuMAX " other %s the old one\n", o->file, others,
+            others == 1 ? "name, which keeps" : "names, which keep");
 }
 
 static int put_in_place(const struct output *o) {
     struct file_id old = file_named(o->file);
-    enum file_written said = file_write(o->file, o->bytes, o->len);
+    const struct file_id *read = o->read.regular ? &o->read : NULL;
+    enum file_written said = file_write(o->file, o->bytes, o->len, read);
     if (said == FILE_WRITTEN) tell_names(o, old);
     if (said == FILE_UNWRITTEN) complain(o, UNWRITTEN);
+    if (said == FILE_CHANGED)
+        fprintf(stderr, "%s: it was changed after it was read, and is left as it is\n", o->file);
     if (said == FILE_UNSURE) complain(o, "it is written, but the disk did not confirm it");
     return said == FILE_WRITTEN;
 }
@@ -77,18 +85,22 @@ void output_drop(struct output *o) {
     o->bytes = NULL;
 }
 
-int output_spares(const struct output *o, struct file_id read, const char *command, int table) {
-    struct file_id own = o->file ? file_named(o->file) : file_open(STDOUT_FILENO);
-    const char *name = o->file ? o->file : "standard output";
+/* What is wrong, in words that --json has too. */
+static int spared(const char *name, const char *why) {
     struct message words = {{0}, 0};
-    if (!file_same(own, read)) return 0;
-    if (!o->file || !file_replaced(o->file)) {
-        say(&words, "star: %.200s is the file that is read, and is left as it is; '-o FILE' replaces a file as a whole", name);
-        fault_tell(&words);
-        return EXIT_USAGE;
-    }
-    if (table) return 0;
-    say(&words, "star: %.200s is the file that is read, and is left as it is: what '%s' writes is no table that can take its place", name, command);
+    say(&words, "star: %.200s is the file that is read, and is left as it is%s", name, why);
     fault_tell(&words);
     return EXIT_USAGE;
+}
+
+int output_spares(struct output *o, struct file_id read, const char *command, int table) {
+    struct message why = {{0}, 0};
+    barred = barred || file_same(file_open(STDOUT_FILENO), read);
+    if (barred) return spared("standard output", "; '-o FILE' replaces a file as a whole");
+    if (!o->file || !file_same(file_named(o->file), read)) return 0;
+    if (!file_replaced(o->file)) return spared(o->file, "; it is a stream that is open");
+    say(&why, ": what '%s' writes is no table that can take its place", command);
+    if (!table) return spared(o->file, why.text);
+    o->read = read;
+    return 0;
 }

@@ -60,7 +60,7 @@ static int differ(struct message *to, const struct table *first, const struct ta
 }
 
 /* Reads the second file as the first was read. */
-static int read_second(struct input *in, struct table *second, const char *file, const struct output *o) {
+static int read_second(struct input *in, struct table *second, const char *file, struct output *o) {
     struct message fault = {{0}, 0};
     int status = input_open(in, file, &fault), over = status == 0 ? output_spares(o, in->id, "which", 0) : 0;
     if (over != 0) return over;

@@ -1,6 +1,7 @@
 /* Calls of the system that fail, for tests of the console: a library that is loaded before the
    C library's. FAILING names a call, FAILING_CALL which one in order (the first where it is not
-   said), FAILING_WITH an error by its number or a signal as -NUMBER, sent before the call. */
+   said), FAILING_WITH an error by its number, a signal as -NUMBER, sent before the call, or 0 for a
+   call before which the shell runs FAILING_RUN. */
 #define _GNU_SOURCE
 #include <dlfcn.h>
 #include <errno.h>
@@ -24,6 +25,10 @@ static int fails(const char *call) {
     if (with < 0) {
         raise((int)-with);
         return 0;
+    }
+    if (with == 0) {
+        unsetenv("LD_PRELOAD");
+        return system(getenv("FAILING_RUN")) != 0;
     }
     errno = (int)with;
     return 1;

@@ -40,14 +40,18 @@ ends() { # STATUS COMMAND..
     [ "$status" = "$expected" ]
 }
 mend() { ends "$1" "${star[@]}" mend "$plan" -o "$plan"; }
+mend_to() { ends "$1" "${star[@]}" mend "$plan" -o "$2"; } # STATUS OUTPUT
+says() { grep -q -- "$1" "$work/all"; }
+mode() { stat -c %a "$1"; }
 
 # Written: whole, with the old mode; a new file with the mode that the mask leaves.
 begin
 chmod 640 "$plan"
-mend 0 && whole && [ "$(stat -c %a "$plan")" = 640 ]
+mend 0 && whole && [ "$(mode "$plan")" = 640 ]
 verdict written $?
 begin
-(umask 027 && ends 0 "${star[@]}" mend "$plan" -o "$folder/new") && kept new && cmp -s "$work/after" "$folder/new" && [ "$(stat -c %a "$folder/new")" = 640 ]
+(umask 027 && mend_to 0 "$folder/new") && kept new && cmp -s "$work/after" "$folder/new" &&
+    [ "$(mode "$folder/new")" = 640 ]
 verdict written-new $?
 if [ "$(id -u)" = 0 ]; then
     begin
@@ -58,23 +62,24 @@ fi
 
 # A file size limit; a full file system, where one may be mounted.
 begin
-(ulimit -f 4 && mend 5) && kept && grep -q 'plan.txt: it could not be written: File too large' "$work/all"
+(ulimit -f 4 && mend 5) && kept && says 'plan.txt: it could not be written: File too large'
 verdict limit $?
 begin
 (ulimit -f 4 && ends 5 "${star[@]}" page "$plan" -o "$folder/page.html") && kept
 verdict limit-new $?
 full() { # in a name space of its own: a file system with room for the plan and little more
-    mount -t tmpfs -o size=20k tmpfs "$folder" && cp "$work/before" "$plan" && mend 5 && kept && grep -q 'No space left' "$work/all"
+    mount -t tmpfs -o size=20k tmpfs "$folder" && cp "$work/before" "$plan" && mend 5 && kept &&
+        says 'No space left'
 }
 if unshare -rm true 2>/dev/null; then
     begin
-    export -f full mend ends stands kept
+    export -f full mend ends stands kept says
     export folder plan work
     unshare -rm bash -c 'star=("$@"); full' full "${star[@]}"
     verdict full-file-system $?
 fi
 begin
-ends 5 "${star[@]}" mend "$plan" -o /dev/full && kept && grep -q '/dev/full: it could not be written: No space left' "$work/all"
+mend_to 5 /dev/full && kept && says '/dev/full: it could not be written: No space left'
 verdict full-device $?
 
 # A folder, and a file, that may not be written; as another user where the tests are root's.
@@ -90,12 +95,12 @@ if [ "$(id -u)" != 0 ] || command -v setpriv >/dev/null; then
     begin
     own
     chmod 555 "$folder"
-    mended 5 "$plan" && kept && grep -q 'plan.txt: it could not be written: Permission denied' "$work/all"
+    mended 5 "$plan" && kept && says 'plan.txt: it could not be written: Permission denied'
     verdict folder-closed $?
     begin
     own
     chmod 444 "$plan"
-    mended 5 "$plan" && kept && grep -q 'Permission denied' "$work/all"
+    mended 5 "$plan" && kept && says 'Permission denied'
     verdict file-closed $?
     begin
     own
@@ -106,47 +111,53 @@ fi
 
 # Symbolic links: what they name is replaced, and they stay; also where it is not there yet.
 begin
-mkdir "$work/beside"
-ln -sf ../folder/plan.txt "$work/beside/link"
-ln -sf link "$work/beside/second"
-ends 0 "${star[@]}" mend "$work/beside/second" -o "$work/beside/second" && whole && [ -L "$work/beside/link" ] && [ -L "$work/beside/second" ]
+links=$work/links
+mkdir "$links"
+ln -s ../folder/plan.txt "$links/first"
+ln -s first "$links/second"
+ends 0 "${star[@]}" mend "$links/second" -o "$links/second" && whole && [ -L "$links/first" ] &&
+    [ -L "$links/second" ]
 verdict link $?
-[ "$(ls -A "$work/beside")" = "$(printf 'link\nsecond')" ]
+[ "$(ls -A "$links")" = "$(printf 'first\nsecond')" ]
 verdict link-alone $?
 begin
-ln -sf ../folder/new.txt "$work/beside/dangling"
-ends 0 "${star[@]}" mend "$plan" -o "$work/beside/dangling" && kept new.txt && cmp -s "$work/after" "$folder/new.txt" && [ -L "$work/beside/dangling" ]
+ln -s ../folder/new.txt "$links/dangling"
+mend_to 0 "$links/dangling" && kept new.txt && cmp -s "$work/after" "$folder/new.txt" &&
+    [ -L "$links/dangling" ]
 verdict link-dangling $?
 begin
-ln -sf ../nowhere/new.txt "$work/beside/lost"
-ln -s loop "$work/beside/loop"
-ends 5 "${star[@]}" mend "$plan" -o "$work/beside/lost" && ends 5 "${star[@]}" mend "$plan" -o "$work/beside/loop" && kept
+ln -s ../nowhere/new.txt "$links/lost"
+ln -s loop "$links/loop"
+mend_to 5 "$links/lost" && mend_to 5 "$links/loop" && kept
 verdict link-lost $?
 begin
-ends 5 "${star[@]}" mend "$plan" -o "$folder" && kept
+mend_to 5 "$folder" && kept
 verdict folder $?
 
 # The file under two names. A hard link stays the old file, and that is told.
 begin
 ln "$plan" "$folder/other"
-mend 0 && whole other && cmp -s "$work/before" "$folder/other" && grep -q 'plan.txt: the file had 1 other name, which keeps the old one$' "$work/all"
+mend 0 && whole other && cmp -s "$work/before" "$folder/other" &&
+    says 'plan.txt: the file had 1 other name, which keeps the old one$'
 verdict hard-link $?
 begin
 ln "$plan" "$folder/other"
 ln -s plan.txt "$folder/link"
 mkfifo "$folder/pipe"
 names=(other link pipe)
-spares() { # COMMAND WORDS..: with -o onto the plan it ends with 4, under each of its names, and nothing is touched
-    local name file=$1
-    shift
+kept_names() { [ "$(ls -A "$folder")" = "$(printf '%s\n' plan.txt "${names[@]}" | sort)" ]; }
+spares() { # COMMAND WORDS..: with -o onto the plan, by each of its names, it ends with 4
+    local name
     for name in plan.txt other link ./plan.txt; do
-        ends 4 "${star[@]}" "$@" -o "$folder/$name" && cmp -s "$file" "$plan" && cmp -s "$file" "$folder/other" && kept_names && grep -q 'is the file that is read, and is left as it is' "$work/err" || return 1
+        ends 4 "${star[@]}" "$@" -o "$folder/$name" && cmp -s "$work/before" "$plan" &&
+            cmp -s "$work/before" "$folder/other" && kept_names &&
+            says 'is the file that is read, and is left as it is' || return 1
     done
 }
-kept_names() { [ "$(ls -A "$folder")" = "$(printf '%s\n' plan.txt "${names[@]}" | sort)" ]; }
-for words in "check $plan" "build $plan" "explain $plan" "page $plan" "draw $plan" "dot $plan" "digs $plan" "quote $plan 1 9" "breaking $plan 1" "stretch $plan 1 2" \
-    "districts $plan 1024" "outlets $plan 1 2" "which $plan $city" "which $city $plan"; do
-    spares "$work/before" $words
+for words in "check $plan" "build $plan" "explain $plan" "page $plan" "draw $plan" "dot $plan" \
+    "digs $plan" "quote $plan 1 9" "breaking $plan 1" "stretch $plan 1 2" "districts $plan 1024" \
+    "outlets $plan 1 2" "which $plan $city" "which $city $plan"; do
+    spares $words
     verdict "spared: $words" $?
 done
 
@@ -180,12 +191,19 @@ verdict standard-output $?
 "${star[@]}" mend "$plan" -o /dev/stdout >>"$plan" 2>"$work/all"
 [ $? = 4 ] && kept
 verdict standard-output-table $?
+for words in 'check --json' 'mend --json' "mend --json -o $plan" "mend -o $plan"; do
+    begin
+    "${star[@]}" $words "$plan" >>"$plan" 2>"$work/all"
+    [ $? = 4 ] && kept
+    verdict "standard output: $words" $?
+done
 begin
 cp $street "$plan"
 ends 4 "${star[@]}" table "$plan" -o "$plan" && stands $street
 verdict stp-spared $?
 
-# The file to be read is forgotten: nothing is touched. So with a file after -o that is forgotten, and with help.
+# The file to be read is forgotten: nothing is touched. So with a file after -o that is forgotten,
+# and with help.
 for words in check build 'build --table' explain page draw dot table digs merge mend; do
     begin
     "${star[@]}" $words -o "$plan" </dev/null >"$work/all" 2>&1
@@ -236,7 +254,7 @@ if cc -shared -fPIC -o "$library" tests/failing.c 2>/dev/null; then
         for error in 5 13 28; do # EIO, EACCES, ENOSPC
             begin
             failing $call $error
-            ends 5 preloaded && kept && grep -q 'plan.txt: it could not be written: ' "$work/all"
+            ends 5 preloaded && kept && says 'plan.txt: it could not be written: '
             verdict "failing: $call $error" $?
         done
         for signal in INT TERM HUP QUIT; do
@@ -254,19 +272,29 @@ if cc -shared -fPIC -o "$library" tests/failing.c 2>/dev/null; then
     done 2>/dev/null
     begin
     failing fsync 5 2
-    ends 5 preloaded && whole && grep -q 'it is written, but the disk did not confirm it' "$work/all"
+    ends 5 preloaded && whole && says 'it is written, but the disk did not confirm it'
     verdict folder-unsure $?
+    # Another program changes the plan after it was read: it is left so.
+    for change in "echo '1 2 3 0' >>'$plan'" "cp '$city' '$plan'" "rm '$plan'; cp '$city' '$plan'" \
+        "cp '$plan' '$work/new'; mv '$work/new' '$plan'"; do
+        begin
+        failing fsync 0
+        export FAILING_RUN="$change; cp '$plan' '$work/other'"
+        ends 5 preloaded && stands "$work/other" && says 'plan.txt: it was changed after it was read'
+        verdict "changed: $change" $?
+    done
     begin
     chmod 664 "$plan"
     failing fchown 1
-    ends 0 preloaded && whole && [ "$(stat -c %a "$plan")" = 664 ]
+    ends 0 preloaded && whole && [ "$(mode "$plan")" = 664 ]
     verdict owner-lost $?
     (trap '' TERM; begin; failing fsync -15; ends 0 preloaded && whole)
     verdict signal-ignored $?
     unset FAILING
 fi
 
-# Tables keep their lines: comments, blank lines, order, line ends and a byte order mark; only marks change.
+# Tables keep their lines: comments, blank lines, order, line ends and a byte order mark; only marks
+# change.
 lines() { # NAME TEXT EXPECTED WORDS..: the texts as printf takes them
     local name=$1 text=$2 expected=$3
     shift 3
@@ -279,14 +307,18 @@ lines() { # NAME TEXT EXPECTED WORDS..: the texts as printf takes them
     verdict "lines in place: $name" $?
 }
 order='\xef\xbb\xbf'
-text="${order}# the yard\r\n1 2 5 # Mill Lane\r\n\r\n  2 3 3 0 # Quay\r\n3\t4 5 1\r\nstruck 2 4 1 1 # blocked\r\n1 4 4 1\r\n1 3 6 0"
-marked="${order}# the yard\r\n1 2 5 1 # Mill Lane\r\n\r\n  2 3 3 1 # Quay\r\n3\t4 5 0\r\nstruck 2 4 1 1 # blocked\r\n1 4 4 1\r\n1 3 6 0"
+head="${order}# the yard\r\n1 2 5"
+text="$head # Mill Lane\r\n\r\n  2 3 3 0 # Quay\r\n3\t4 5 1\r\nstruck 2 4 1 1 # blocked\r\n"
+marked="$head 1 # Mill Lane\r\n\r\n  2 3 3 1 # Quay\r\n3\t4 5 0\r\nstruck 2 4 1 1 # blocked\r\n"
+text+="1 4 4 1\r\n1 3 6 0"
+marked+="1 4 4 1\r\n1 3 6 0"
 lines build "$text" "$marked" build --table "$plan"
 lines districts "$text" "$marked" districts --table "$plan" 2 6
-lines outlets "$text" "${marked/4 4 1/4 4 1}" outlets --table "$plan" 1 2
+lines outlets "$text" "$marked" outlets --table "$plan" 1 2
 lines table "$text" "$text" table "$plan"
 lines cr '1 2 5 0\r# a\r2 3 4\r' '1 2 5 1\r# a\r2 3 4 1\r' build --table "$plan"
-lines junctions '1 2 5 0\njunctions 2 # told late' '1 2 5 1\njunctions 2 # told late' build --table "$plan"
+late='\njunctions 2 # told late'
+lines junctions "1 2 5 0$late" "1 2 5 1$late" build --table "$plan"
 lines zeros '1 2 -007 0001\n2 3 4 00' '1 2 -007 0001\n2 3 4 1' build --table "$plan"
 
 echo "$passed passed, $failed failed"

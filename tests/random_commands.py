@@ -4,10 +4,10 @@ memory or of arithmetic, whatever it is given, and each file that -o names is as
 usage: random_commands.py COUNT SEED STAR..   STAR is best built with ASan and UBSan. Ends in one
 line 'N passed, M failed'.
 
-A case is a folder with a plan, a second file, and links to them; a command line with an output; and,
-in some cases, a limit on the size of files, a signal after a random time, or standard input that is
-closed. What is whole is what the same command line without -o writes to standard output. Every other
-file stays as it was, and nothing is left beside it, unless SIGKILL came.
+A case is a folder with a plan, a second file, and links to them; a command line with an output;
+and, in some cases, a limit on the size of files, or a signal after a random time. What is whole is
+what the same command line without -o writes to standard output. Every other file stays as it was,
+and nothing is left beside it, unless SIGKILL came.
 """
 import collections
 import multiprocessing
@@ -206,8 +206,9 @@ def judged(words, output, plain, before, after, done, target, killed):
             return "the file is not whole"
         if was and now[1] != was[1]:
             return "the file has another mode"
-    if target and status in (0, 1) and plain[0] == status and now is not None and now[0] != plain[1]:
-        if "--help" not in words and "-h" not in words:
+    told = "--help" in words or "-h" in words # on standard output
+    if target and status in (0, 1) and plain[0] == status and now and not told:
+        if now[0] != plain[1]:
             return "the file is not written"
     if words[:1] and words[0] in TABLES[:-1] and words[0] not in ("add", "merge") and status == 0:
         if target and was and now != was and comments(now[0]) != comments(before["plan"][0]):
@@ -246,7 +247,8 @@ def case(number, seed, star, room):
             return True, "ended by a signal"
         changed = target and after.get(target) != before.get(target)
         return True, "replaced" if changed else "status %d and as it was" % done[0]
-    return False, "case %d (seed %d): %s\n  star %s\n  %r\n  %r" % (number, seed, wrong, line, done, plain)
+    shown = (number, seed, wrong, line, done, plain)
+    return False, "case %d (seed %d): %s\n  star %s\n  %r\n  %r" % shown
 
 
 def part(numbers, seed, star, room):
