@@ -1,4 +1,4 @@
-/* The command page: one HTML file that explains a plan in pictures. It takes nothing from elsewhere: no script, no style, no letters. */
+/* The command page: one HTML file that explains a plan in pictures. Style and script stand in it, and nothing is fetched. */
 #include <string.h>
 
 #include "commands.h"

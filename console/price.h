@@ -1,4 +1,4 @@
-/* Prices and sums of prices: how they are read, stored and printed. Nothing else in the console looks into them. */
+/* Prices and sums of prices: how they are read, stored and printed. */
 #ifndef CONSOLE_PRICE_H
 #define CONSOLE_PRICE_H
 

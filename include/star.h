@@ -1,4 +1,5 @@
-/* The console's door to the verified tree checker, tree builder, path finder, quotes, working tables, dig lists and reader of STP texts.
+/* The doors to the verified core: the tree checker and the tree builder, paths, quotes, breaking prices, which of two
+ * plans stands, districts, mending, outlets, dig lists, working tables, and the reader of STP texts.
  *
  * A table has n junctions, numbered 1 to n, and m rows, counted from 1. A row joins two junctions at a price:
  *   left, right   one byte a row, the two junctions
