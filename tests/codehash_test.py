@@ -115,8 +115,13 @@ def other_sections(trial):
     """The note on the stack is looked at; the comment, which says who compiled, is not."""
     header = struct.unpack_from('<Q', trial.data, 40)[0]
     for number, section in enumerate(trial.object.sections):
+        at = header + 64 * number
         if section.name == '.note.GNU-stack':
-            trial.differs('a stack that runs', header + 64 * number + 8, struct.pack('<Q', 4))
+            trial.differs('a stack that runs', at + 8, struct.pack('<Q', 4))
+        if section.flags & codehash.LOADED and section.size and section.type == 1:
+            trial.differs(f'the alignment of {section.name}', at + 48, struct.pack('<Q', 1))
+            trial.differs(f'the flags of {section.name}', at + 8,
+                          struct.pack('<Q', section.flags | 1))
         if section.name == '.comment':
             trial.same('the comment', section.offset + 1, b'other')
 

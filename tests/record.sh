@@ -7,6 +7,7 @@ cd "$(dirname "$0")/.."
 passed=0 failed=0 work=$(mktemp -d)
 trap 'rm -rf "$work"' EXIT
 unset MAKEFLAGS MAKELEVEL MFLAGS DESTDIR PREFIX
+export CFLAGS=-O0
 
 holds() { # NAME COMMAND..: counts a command that has to succeed
     local name=$1
@@ -95,13 +96,18 @@ cp "$at/target/objects/libworkdoor.a" "$at/target/objects/libdoor.a"
 refused 'the archive of another crate' 'the code of libdoor.a differs'
 (cd "$work" && ar x "$at/target/objects/libworkdoor.a" && mv workdoor.o door.o && rm "$at/target/objects/libdoor.a" && ar rc "$at/target/objects/libdoor.a" door.o)
 refused 'an object of another crate' 'the code of libdoor.a differs'
-made console
+made checked
 ar r "$at/target/c/libstar.a" "$work/door.o" 2>/dev/null
 refused 'an object of another crate in the library' 'the code of libdoor.a differs'
-made console
+made checked
 cp "$work/door.o" "$work/more.o"
 ar r "$at/target/c/libstar.a" "$work/more.o" 2>/dev/null
 refused 'a member more' 'crates.sum has no line for the code of libmore.a'
+
+made checked
+printf 'int star_cst(void);\nint star_cst(void) { return 1; }\n' >"$work/star.c"
+(cd "$work" && "${CC:-cc}" -c -o more-star.o star.c && cp more-star.o star.o && ar r "$at/target/c/libstar.a" star.o 2>/dev/null)
+refused 'C in the place of a door' 'star.o has star_cst too\|door.o has star_cst too'
 
 # A record of another kit, one with a line left out, one with a line too many, none.
 sed -i 's/^kit .*/kit another 1/' "$at/crates.sum"

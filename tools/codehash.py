@@ -16,7 +16,7 @@ import sys
 # Fields of the ELF format that are used here.
 SECTION_TYPES_LEFT_OUT = {0, 2, 3, 4, 9}  # null, symbols, strings, relocations (taken apart)
 SECTIONS_LEFT_OUT = {'.comment', '.llvm_addrsig'}
-EXECUTABLE, MERGED, STRINGS, NO_BITS = 4, 16, 32, 8
+LOADED, EXECUTABLE, MERGED, STRINGS, NO_BITS = 2, 4, 16, 32, 8
 UNDEFINED, RESERVED = 0, 0xff00
 SECTION_SYMBOL, FUNCTION_SYMBOL, FILE_SYMBOL = 3, 2, 4
 
@@ -114,7 +114,8 @@ class Object:
         if section.flags & STRINGS or symbol.kind == SECTION_SYMBOL or section.entry == 0 \
                 or symbol.value % section.entry:
             raise CodeError(f'a constant of the section {section.name} cannot be told')
-        return section.bytes[symbol.value:symbol.value + section.entry].hex()
+        value = section.bytes[symbol.value:symbol.value + section.entry].hex()
+        return f'{section.flags}:{section.align}:{value}'
 
     def content(self, section, above=()):
         """The hash of a section's bytes and of what its relocations refer to."""
@@ -123,8 +124,9 @@ class Object:
         return digest('\n'.join(self.body(section, above + (section,))).encode())
 
     def body(self, section, above=()):
-        yield f'flags {section.flags} align {section.align} type {section.type} ' \
-              f'size {section.size} bytes {digest(section.bytes)}'
+        # of the section's name only the kind, as .rodata: the rest names a function or a constant
+        yield f"kind {section.name.split('.')[1]} flags {section.flags} align {section.align} " \
+              f'type {section.type} size {section.size} bytes {digest(section.bytes)}'
         for offset, kind, symbol, addend in sorted(section.relocations, key=lambda r: r[:2]):
             yield f'at {offset} kind {kind} {self.place(symbol, addend, above)}'
 
@@ -132,7 +134,8 @@ class Object:
         """The lines that are hashed, sorted."""
         out = [f'kind {self.kind} machine {self.machine} flags {self.flags}']
         for section in self.sections:
-            if section.type in SECTION_TYPES_LEFT_OUT or section.name in SECTIONS_LEFT_OUT:
+            if section.type in SECTION_TYPES_LEFT_OUT and not section.flags & LOADED \
+                    or section.name in SECTIONS_LEFT_OUT:
                 continue
             if section.flags & EXECUTABLE:
                 if section.size:
@@ -171,14 +174,36 @@ def code_hash(data):
     return digest('\n'.join(Object(data).lines()).encode())
 
 
-def archive_codes(path, but=()):
-    """The members of an archive in their order, but for some: name, and the hash of the code."""
+def of_members(path, told):
+    """The members of an archive in their order: name, and what is told of its bytes."""
     with open(path, 'rb') as file:
         data = file.read()
     try:
-        return [(name, code_hash(body)) for name, body in members(data) if name not in but]
+        return [(name, told(name, body)) for name, body in members(data)]
     except (ValueError, IndexError, struct.error) as error:
-        raise CodeError(f'not to be read: {error}') from error
+        raise CodeError(f'{path} is not to be read: {error}') from error
+
+
+def archive_codes(path, but=()):
+    """The members, but for some: name, and the hash of the code."""
+    found = of_members(path, lambda name, body: None if name in but else code_hash(body))
+    return [(name, value) for name, value in found if value]
+
+
+def global_names(data):
+    """The names that an object defines for others."""
+    return {s.name for s in Object(data).symbols if s.bind != 0 and s.section != UNDEFINED}
+
+
+def names_twice(path):
+    """The names that more than one member of an archive defines, with the last of these members."""
+    owner, out = {}, {}
+    for member, names in of_members(path, lambda _, body: global_names(body)):
+        for name in names:
+            if name in owner:
+                out[name] = member
+            owner[name] = member
+    return out
 
 
 def main():

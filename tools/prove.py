@@ -99,7 +99,9 @@ class Run:
             rooms.put(room(number))
         order = sorted(self.archives, key=lambda c: -self.seconds[c])
         with concurrent.futures.ThreadPoolExecutor(self.progress.jobs) as pool:
-            for name, seconds, output, status in pool.map(lambda c: write_archive(c, rooms), order):
+            started = [pool.submit(write_archive, name, rooms) for name in order]
+            for done in concurrent.futures.as_completed(started):
+                name, seconds, output, status = done.result()
                 self.log.write(output)
                 if status:
                     self.fail(f'rt staticlib {name}')

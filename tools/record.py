@@ -153,6 +153,10 @@ def kit_here():
 def library(path, folder, names):
     here = Record.here(kit_of(folder), codes_in_library(path, names))
     found, differences = standing(here)
+    twice = codehash.names_twice(path)
+    if twice:
+        found = ''
+        differences += [f'{member} has {name} too' for name, member in sorted(twice.items())]
     print(sentence(f'the core in {path}', found, differences))
     if not found:
         print('nothing is installed')
