@@ -33,6 +33,13 @@ $(PAGES): include/manual.py include/star.h
 	@rm -rf $@
 	python3 -B include/manual.py include/star.h $@
 
+# The Python package with the shared library inside. It is what pip installs, so that it is held against the record as what is installed is.
+WHEELS := $(BUILD)/wheel
+wheel: checked $(SHARED)
+	@rm -rf $(WHEELS)
+	@mkdir -p $(WHEELS)
+	$(PYTHON) python/backend.py $(SHARED) $(WHEELS)
+
 all: $(SHARED) $(PAGES)
 outside: $(BUILD)/table_test $(BUILD)/table_test_faulty $(SHARED) $(PAGES)
 
@@ -54,4 +61,4 @@ uninstall-library:
 	rm -f $(DESTDIR)$(PREFIX)/lib/libstar.so* $(PACKAGE)/starConfig.cmake $(PACKAGE)/starConfigVersion.cmake
 	rm -f $(MANUALS3)/libstar.3 $(patsubst %,$(MANUALS3)/%.3,$(shell sed -n -f include/names.sed include/star.h))
 
-.PHONY: shared install-library uninstall-library
+.PHONY: shared wheel install-library uninstall-library

@@ -1,0 +1,89 @@
+"""The shared library: where it is found, its structures and its functions."""
+import ctypes
+import os
+from ctypes import POINTER, Structure, c_char_p, c_int, c_int32, c_int64, c_size_t
+from ctypes import c_uint, c_uint8, c_uint32, c_uint64, c_void_p
+
+MAX_JUNCTIONS, MAX_ROWS, MAX_LIST, MAX_TEXT = 255, 1024, 6370, 32768
+MAX_STEPS, COLUMN_WORDS = 2 * MAX_ROWS, 16
+MIN_PRICE, MAX_PRICE = -2**31, 2**31 - 1
+REFUSED, PASSED, LIGHTER = 0, 1, 2
+
+Column = c_uint8 * MAX_ROWS
+
+
+class CTable(Structure):
+    """struct star_table"""
+    _fields_ = [("n", c_uint32), ("in_use", c_uint64 * COLUMN_WORDS), ("left", Column),
+                ("right", Column), ("weight", c_uint8 * (4 * MAX_ROWS)), ("mark", Column),
+                ("numbers", c_uint32 * MAX_ROWS)]
+
+
+class CVerdict(Structure):
+    """struct star_verdict"""
+    _fields_ = [("kind", c_uint), ("number", c_uint), ("place", c_uint), ("only", c_uint),
+                ("out", c_uint), ("into", c_uint), ("which", c_uint), ("steps", c_uint),
+                ("saving", c_int64), ("total", c_int64), ("least", c_int64)]
+
+
+class CAnswer(Structure):
+    """struct star_answer"""
+    _fields_ = [("kind", c_uint), ("number", c_uint), ("out", c_uint), ("into", c_uint),
+                ("only", c_uint), ("amount", c_int64)]
+
+
+class CQuoted(Structure):
+    """struct star_quoted"""
+    _fields_ = [("kind", c_uint), ("number", c_uint), ("place", c_uint), ("before", c_int64),
+                ("after", c_int64)]
+
+
+class CImported(Structure):
+    """struct star_imported"""
+    _fields_ = [("kind", c_uint), ("number", c_uint), ("n", c_uint), ("m", c_uint),
+                ("place", c_uint64)]
+
+
+class CRecord(Structure):
+    """struct star_record"""
+    _fields_ = [("kind", c_uint32), ("out", c_uint32), ("into", c_uint32)]
+
+
+def _load():
+    """The library that STAR_LIBRARY names, else the one in the package, else the system's."""
+    inside = os.path.join(os.path.dirname(os.path.abspath(__file__)), "libstar.so")
+    named = os.environ.get("STAR_LIBRARY")
+    return ctypes.CDLL(named or (inside if os.path.exists(inside) else "libstar.so.0"))
+
+
+_loaded = _load()
+
+
+def _function(name, result, *arguments):
+    function = getattr(_loaded, "star_" + name)
+    function.restype = result
+    function.argtypes = arguments
+    return function
+
+
+_table = POINTER(CTable)
+version = _function("version", c_char_p)
+refusal_text = _function("refusal_text", c_char_p, c_uint)
+init = _function("table_init", None, _table, c_uint32)
+add = _function("table_add", CAnswer, _table, c_uint32, c_uint32, c_int32)
+mark = _function("table_mark", c_int, _table, c_uint32, c_int)
+strike = _function("table_strike", CAnswer, _table, c_uint32)
+merge = _function("table_merge", CAnswer, _table)
+check = _function("table_check", CVerdict, _table)
+other = _function("table_other", CVerdict, _table)
+build = _function("table_build", CVerdict, _table)
+mend = _function("table_mend", CVerdict, _table, c_void_p)
+outlets = _function("table_outlets", CVerdict, _table, c_uint32, c_uint32)
+districts = _function("table_districts", CVerdict, _table, c_void_p, c_size_t, c_void_p)
+which = _function("table_which", CVerdict, _table, c_char_p, c_char_p)
+quote = _function("table_quote", CQuoted, _table, c_uint32, c_int32)
+breaking = _function("table_breaking", CAnswer, _table, c_uint32)
+digs = _function("table_digs", CAnswer, _table, c_void_p)
+paths = _function("table_paths", CAnswer, _table, c_uint32, c_void_p)
+read = _function("table_read", CImported, _table, c_char_p, c_size_t)
+write = _function("table_write", c_size_t, _table, c_void_p, c_size_t)

@@ -1,0 +1,246 @@
+"""The package by itself: examples, forms, refusals, limits, and the lines of docs/PYTHON.md."""
+import doctest
+import importlib
+import json
+import os
+import pickle
+import subprocess
+import sys
+import tempfile
+import threading
+import unittest
+from decimal import Decimal
+
+import star
+
+HERE = os.path.dirname(os.path.abspath(__file__))
+DOCS = os.path.join(HERE, "..", "..", "docs", "PYTHON.md")
+YARD = [(1, 2, 5), (2, 3, 3), (3, 4, 5), (1, 4, 4), (1, 3, 6)]
+STREETS = {"type": "FeatureCollection", "features": [
+    {"type": "Feature", "properties": {"name": "mill"},
+     "geometry": {"type": "Point", "coordinates": [13.104, 52.5]}},
+    {"type": "Feature", "properties": {"price": 12.35, "marked": True},
+     "geometry": {"type": "LineString",
+                  "coordinates": [[13.104, 52.5], [13.11, 52.4], [13.12, 52.5]]}},
+    {"type": "Feature", "properties": {"price": 7},
+     "geometry": {"type": "LineString",
+                  "coordinates": [[13.12, 52.5], [13.2, 52.7], [13.1, 52.6]]}}]}
+
+
+def load_tests(loader, tests, pattern):
+    """The examples of every module, and of the page."""
+    for name in ("star", "star.table", "star.rows", "star.formats", "star.files", "star.answers"):
+        tests.addTests(doctest.DocTestSuite(importlib.import_module(name)))
+    tests.addTests(doctest.DocFileSuite(DOCS, module_relative=False, encoding="utf-8"))
+    return tests
+
+
+class Refusals(unittest.TestCase):
+    def refused(self, number, place, call, *words):
+        with self.assertRaises(star.Refused) as caught:
+            call(*words)
+        self.assertEqual((caught.exception.number, caught.exception.place), (number, place))
+        return caught.exception
+
+    def test_by_number(self):
+        self.refused(1, 0, star.Table, 0)
+        many = self.refused(1, 0, star.Table, range(300))
+        self.assertIn("300 junctions", many.words)
+        self.assertIn("districts", many.words)
+        self.refused(2, 0, star.Table, 4, YARD * 300)
+        self.refused(4, 3, star.Table(3, YARD[:2] + [(3, 4, 1)]).build)
+        self.refused(4, 2, star.Table(3, [(1, 2, 1), (300, 2, 1)]).build)
+        self.refused(4, 1, star.Table(2, [(1, 2 - 256, 1)]).build)
+        self.refused(15, 2, star.Table(2, [(1, 2, 5), (2, 1, 3)]).build)
+        self.refused(9, 0, star.Table(4, YARD).check)
+        ring = star.Table(4, YARD)
+        ring.plan = 1, 2, 5
+        self.refused(10, 4, ring.check)
+        self.refused(11, 0, star.Table(5, YARD).build)
+        self.refused(7, 0, star.Table(4, YARD).quote, 6, 1)
+        self.refused(14, 0, star.Table(4, YARD).districts, [2, 4])
+        self.refused(18, 0, star.Table(4, YARD).strike, 6)
+        self.refused(19, 0, star.Table(4, YARD).outlets, 1, 4)
+
+    def test_numbers_that_words_do_not_hold(self):
+        t = star.Table(4, YARD)
+        self.refused(7, 0, t.quote, 2**32 + 4, 1)
+        self.refused(7, 0, t.breaking, -1)
+        self.refused(18, 0, t.strike, 2**32 + 1)
+        self.refused(7, 0, t.outlets, 2**32 + 1, 2)
+        for price in (2**31, -2**31 - 1, 2**32 + 5):
+            self.assertRaises(ValueError, t.quote, 1, price)
+            self.assertRaises(ValueError, t.add, 1, 2, price)
+            self.assertRaises(ValueError, star.Table, 2, [(1, 2, price)])
+        self.assertRaises(TypeError, t.quote, 1, 2.5)
+        self.assertRaises(TypeError, star.Table, 2, [(1, 2, 2.5)])
+
+    def test_refused_calls_change_nothing(self):
+        t = star.Table(4, YARD)
+        t.plan = 1, 2
+        before = t.copy()
+        self.assertRaises(star.Refused, setattr, t, "plan", (1, 9))
+        self.assertRaises(star.Refused, t.outlets, 1, 4)
+        self.assertRaises(star.Refused, t.mark, 9)
+        self.assertEqual(t, before)
+
+    def test_exceptions_are_kept(self):
+        with self.assertRaises(star.Refused) as caught:
+            star.Table(5, YARD).build()
+        again = pickle.loads(pickle.dumps(caught.exception))
+        self.assertEqual((again.number, str(again)), (11, str(caught.exception)))
+        self.assertIsInstance(again, ValueError)
+
+    def test_full(self):
+        pairs = [(u, v, 1) for u in range(1, 60) for v in range(u + 1, 60)][:1024]
+        t = star.Table(59, pairs)
+        self.refused(17, 0, t.add, 1, 2, 1)
+        t.strike(3)
+        self.assertEqual(t.add(58, 59, 1), 1024)
+        self.assertEqual(len(t), 1024)
+
+
+class Forms(unittest.TestCase):
+    def test_answers_do_not_change(self):
+        t = star.Table(4, YARD)
+        which = t.which([1, 2, 4], [1, 2, 3])
+        for answer in (t.build(), t.check(), t.mend(), t.quote(1, 2), which):
+            self.assertRaises(AttributeError, setattr, answer, "total", 1)
+            self.assertEqual(pickle.loads(pickle.dumps(answer)), answer)
+
+    def test_names(self):
+        t = star.Table(["a", ("b", 1), 3], [("a", 3, 4), (3, ("b", 1), 5)])
+        t.build()
+        self.assertEqual(t.path("a", ("b", 1)), (1, 2))
+        self.assertEqual(t.rows[1].right, ("b", 1))
+        self.assertRaises(KeyError, t.path, "a", "c")
+        self.assertRaises(ValueError, star.Table, ["a", "a"])
+
+    def test_exact_prices(self):
+        wrong = (0.1 + 0.2, "1/3", Decimal("0.001"), 1e-9, float("nan"), float("inf"), "x", None)
+        for price in wrong:
+            self.assertRaises(star.Unfit, star.Table.from_rows, [(1, 2, price)], unit=0.01)
+        for price, units in ((12.35, 1235), ("12.30", 1230), (Decimal("-0.07"), -7), (1e3, 100000),
+                             (1.15, 115), (0.29, 29)):
+            t = star.Table.from_rows([(1, 2, price)], unit=0.01)
+            self.assertEqual(t.rows[0].price, units)
+        self.assertRaises(star.Unfit, star.Table.from_rows, [(1, 2, 21474836.48)], unit=0.01)
+        rounded = star.Table.from_rows([(1, 2, 1.255), (2, 3, 2)], unit=0.01, rounding="nearest")
+        self.assertEqual([r.price for r in rounded.rows], [126, 200])
+        self.assertIn("row 1: the price 1.255 was taken as 1.26", str(rounded.report))
+
+    def test_parallel_rows(self):
+        rows = [("a", "b", 5), ("b", "a", 3, True), ("a", "b", 4), ("b", "c", 1), ("c", "c", 9)]
+        for how in ({}, {"parallel": "cheapest"}, {"loops": "drop"}):
+            self.assertRaises(star.Unfit, star.Table.from_rows, rows, **how)
+        t = star.Table.from_rows(rows, parallel="cheapest", loops="drop")
+        self.assertEqual([(r.left, r.price, r.marked) for r in t.rows],
+                         [("b", 3, True), ("b", 1, False)])
+        self.assertEqual([(d.place, d.kept) for d in t.report.dropped], [(1, 2), (3, 2), (5, 0)])
+        self.assertEqual(t.junctions, ("a", "b", "c"))
+        self.assertRaises(ValueError, star.Table.from_rows, rows, parallel="dearest")
+
+    def test_csv(self):
+        text = "left;right;price;marked\nmill;lock;7.50;x\n\"a;b\";mill;3;\n"
+        t = star.Table.from_csv(text, unit=0.01)
+        self.assertEqual([tuple(r) for r in t.rows], [(1, "mill", "lock", 750, True),
+                                                      (2, "a;b", "mill", 300, False)])
+        self.assertEqual(star.Table.from_csv(t.to_csv(), unit=0.01), t)
+        numbered = star.Table(4, YARD)
+        numbered.build()
+        self.assertEqual(star.Table.from_csv(numbered.to_csv()), numbered)
+        for wrong in ("left,right\n1,2\n", "left,right,price\n1,2\n", "left,right,price\n1,2,3,4\n",
+                      "left,right,price,marked\n1,2,3,maybe\n", "left,right,price\n1,2,3.5\n"):
+            self.assertRaises(star.Unfit, star.Table.from_csv, wrong)
+
+    def test_geojson(self):
+        t = star.Table.from_geojson(json.dumps(STREETS), unit=0.01)
+        self.assertEqual(t.junctions, ("mill", (13.12, 52.5), (13.1, 52.6)))
+        self.assertEqual(t.places["mill"], (13.104, 52.5))
+        self.assertEqual([(r.price, r.marked) for r in t.rows], [(1235, True), (700, False)])
+        again = star.Table.from_geojson(t.to_geojson(), unit=0.01)
+        self.assertEqual(again, t)
+        line = json.loads(t.to_geojson())["features"][1]["geometry"]["coordinates"]
+        self.assertEqual(line, [[13.104, 52.5], [13.11, 52.4], [13.12, 52.5]])
+        t.add("mill", (13.1, 52.6), 1)
+        t.strike(1)
+        t.merge()
+        moved = json.loads(t.to_geojson())["features"]
+        self.assertEqual(moved[1]["geometry"]["coordinates"],
+                         [[13.12, 52.5], [13.2, 52.7], [13.1, 52.6]])
+        self.assertEqual(len(moved), 3)
+        self.assertRaises(ValueError, star.Table(4, YARD).to_geojson)
+        for k, change in ((1, {"type": "Polygon", "coordinates": []}), (2, None)):
+            wrong = json.loads(json.dumps(STREETS))
+            wrong["features"][k]["geometry"] = change
+            self.assertRaises(star.Unfit, star.Table.from_geojson, json.dumps(wrong), unit=0.01)
+
+    def test_pandas(self):
+        try:
+            import pandas
+        except ImportError:
+            self.skipTest("pandas is not installed")
+        t = star.Table.from_rows([("a", "b", 1.5), ("b", "c", 2)], unit=0.5)
+        self.assertEqual(star.Table.from_pandas(t.to_pandas(), unit=0.5), t)
+        self.assertEqual(list(t.to_pandas()["price"]), [1.5, 2])
+        self.assertIsInstance(t.to_pandas(), pandas.DataFrame)
+
+    def test_files(self):
+        t = star.Table(4, YARD)
+        t.plan = 1, 2, 4
+        t.strike(3)
+        with tempfile.TemporaryDirectory() as folder:
+            for name in ("yard.txt", "yard"):
+                path = os.path.join(folder, name)
+                t.write(path)
+                self.assertEqual(star.Table.read(path), t)
+            path = os.path.join(folder, "yard.csv")
+            t.write(path)
+            self.assertEqual(star.Table.read(path).plan, (1, 2, 3))
+            path = os.path.join(folder, "streets.geojson")
+            streets = star.Table.from_geojson(json.dumps(STREETS), unit=0.01)
+            streets.write(path)
+            self.assertEqual(star.Table.read(path, unit="0.01"), streets)
+        stp = star.Table.read(os.path.join(HERE, "..", "..", "console", "examples", "street.stp"))
+        self.assertEqual((stp.plan, stp.n > 1), ((), True))
+        with self.assertRaises(star.Refused) as caught:
+            star.Table.from_text("1 2 5\n# a comment\n1 2\n")
+        self.assertEqual((caught.exception.number, caught.exception.place), (12, 18))
+        self.assertIn("line 3", str(caught.exception))
+
+    def test_picture(self):
+        t = star.Table(["<a>", "b", "c"], [("<a>", "b", 5, True), ("b", "c", 7)])
+        picture = t._repr_svg_()
+        for piece in ("<svg ", "&lt;a&gt;", ">7</text>", 'stroke-width="4"'):
+            self.assertIn(piece, picture)
+        self.assertEqual(picture.count("<line "), 2)
+        import xml.dom.minidom
+        xml.dom.minidom.parseString(picture)
+
+    def test_command(self):
+        examples = os.path.join(HERE, "..", "..", "console", "examples")
+        for name, status, said in (("yard.txt", 0, "total 12"), ("yard-dear.txt", 1, "saves 1"),
+                                   ("street.stp", 2, "refused 9"), ("none.txt", 3, "No such file")):
+            ran = subprocess.run([sys.executable, "-B", "-m", "star", "check",
+                                  os.path.join(examples, name)], capture_output=True, text=True)
+            self.assertEqual(ran.returncode, status)
+            self.assertIn(said, ran.stdout + ran.stderr)
+        ran = subprocess.run([sys.executable, "-B", "-m", "star"], capture_output=True)
+        self.assertEqual(ran.returncode, 4)
+
+    def test_threads(self):
+        found = []
+
+        def work():
+            t = star.Table(4, YARD)
+            found.append({(t.build().total, t.check().only) for _ in range(200)})
+        threads = [threading.Thread(target=work) for _ in range(8)]
+        for thread in threads:
+            thread.start()
+        for thread in threads:
+            thread.join()
+        self.assertEqual(found, [{(12, False)}] * 8)
+
+
+if __name__ == "__main__":
+    unittest.main()
