@@ -98,6 +98,7 @@ export class List {
     this.update();
     this.arrange();
     this.reach(0);
+    byId('list-scroll').scrollTop = 0;
   }
 
   /** Writes the rows that say something else than before. */

@@ -14,7 +14,12 @@ import { money } from './words.js';
 /** @typedef {import('./labels.js').Wanted} Wanted */
 
 const SHARES = [0.5, 0.42, 0.58, 0.34, 0.66, 0.27, 0.73];
-const TAG_ASIDE = [[0, -18], [0, 18], [-34, 0], [34, 0], [0, -34], [0, 34], [-50, -20], [50, 20]];
+const FAR_SHARES = [0.78, 0.7, 0.86, 0.62, 0.54, 0.46]; // away from a junction of many trenches
+const TAG_SHARES = Array.from({ length: 19 }, (_, k) => (k + 1) / 20);
+const MANY = 12;
+const TAG_ASIDE = [[0, -18], [0, 18], [-34, 0], [34, 0], [0, -34], [0, 34], [-50, -20], [50, 20],
+  [50, -20], [-50, 20], [0, -52], [0, 52], [-70, -40], [70, -40], [-70, 40], [70, 40], [0, -72],
+  [0, 72], [-110, 0], [110, 0]];
 const PIECES = 8;
 const OWN_FROM = 40; // pixels of a usual trench from which prices of the plan are shown
 const LEFT_FROM = 62; // and those of trenches that are left out
@@ -37,6 +42,8 @@ export class Picture {
     this.radius = 5;
     this.usual = 1;
     this.near = 1;
+    this.crowded = 1; // how many more trenches there are than can have their prices shown
+    this.rowsAt = new Uint16Array(0);
     /** @type {any[]} */
     this.lines = [];
     /** @type {any[]} */
@@ -101,6 +108,9 @@ export class Picture {
       this.lengths[i] = Math.hypot(this.at.x[a] - this.at.x[b], this.at.y[a] - this.at.y[b]);
     }
     this.usual = this.lengths.slice().sort()[p.m >> 1] || 1;
+    this.crowded = Math.max(1, p.m / (2.5 * p.n));
+    this.rowsAt = new Uint16Array(p.n + 1);
+    for (const column of [p.left, p.right]) column.forEach((v) => this.rowsAt[v]++);
     const nearest = new Float64Array(p.n).fill(Infinity);
     for (let a = 0; a < p.n; a++) {
       for (let b = 0; b < p.n; b++) {
@@ -195,6 +205,7 @@ export class Picture {
     const within = (least, most, size) => Math.min(most, Math.max(least, size));
     this.radius = within(2.5, 15, k * Math.min(0.18, 0.42 * this.near));
     this.world.setAttribute('transform', `translate(${x} ${y}) scale(${k})`);
+    this.root.style.setProperty('--k', String(k)); // on paper strokes scale with the rest
     const sizes = {
       dot: 2 * this.radius,
       rim: 2 * this.radius + within(1.5, 3.4, this.radius / 4),
@@ -275,20 +286,31 @@ export class Picture {
    * @param {Plan} p @param {number} i */
   priced(p, i) {
     const usual = this.view.k * this.usual;
-    if (p.struck[i] || usual < (planHas(p, i) ? OWN_FROM : LEFT_FROM)) return false;
+    const from = planHas(p, i) ? OWN_FROM : LEFT_FROM * this.crowded;
+    if (p.struck[i] || usual < from) return false;
     const box = labelBox(money(p.price[i]), 12, { x: 0, y: 0 });
     return this.view.k * this.lengths[i] - 2 * this.radius >= 0.7 * (box.x1 - box.x0);
   }
 
-  /** Pixels along a row where its label may stand; around its middle too where it has to stand.
-   * @param {number} i @param {boolean} around */
-  along(i, around) {
+  /** Pixels along a row where its label may stand; wherever it is seen, and around its middle, where
+   * it has to stand.
+   * @param {number} i @param {boolean} tag */
+  along(i, tag) {
     const p = /** @type {Plan} */ (this.plan);
-    const at = SHARES.map((share) => {
-      return this.view.pixels(bendPoint(p, this.at, i, this.bends[i], share));
-    });
-    if (!around) return at;
-    return [...at, ...TAG_ASIDE.map(([dx, dy]) => ({ x: at[0].x + dx, y: at[0].y + dy }))];
+    /** @param {number} share */
+    const place = (share) => this.view.pixels(bendPoint(p, this.at, i, this.bends[i], share));
+    const at = this.shares(p, i).map(place);
+    if (!tag) return at;
+    const aside = TAG_ASIDE.map(([dx, dy]) => ({ x: at[0].x + dx, y: at[0].y + dy }));
+    return [...at, ...aside, ...TAG_SHARES.map(place)];
+  }
+
+  /** The shares of a row's length at which its label may stand.
+   * @param {Plan} p @param {number} i */
+  shares(p, i) {
+    const [left, right] = [this.rowsAt[p.left[i]], this.rowsAt[p.right[i]]];
+    if (Math.max(left, right) < MANY || left === right) return SHARES;
+    return left > right ? FAR_SHARES : FAR_SHARES.map((share) => 1 - share);
   }
 
   /** The nearest row within a distance in pixels, -1 for none.
