@@ -39,7 +39,7 @@ all: $(BUILD)/star programs tell
 # Compiles the archives of some crates without a proof, several at once, and keeps the kit's identity beside them.
 define COMPILE
 @mkdir -p $(OBJECTS); sh tools/kit.sh --id >$(OBJECTS)/kit
-@echo "compiling $(words $(1)) archives, $(JOBS) at a time"
+@echo "compiling without a proof, $(JOBS) at a time: $(1)"
 @printf '%s\n' $(1) | xargs -P $(JOBS) -I CRATE sh tools/compile.sh CRATE $(OBJECTS)/libCRATE.a
 endef
 
