@@ -46,7 +46,7 @@ endef
 # Where the archives are taken as they are, none is compiled that is there: no kit is needed then.
 TAKEN := console checked install uninstall manual
 ifneq ($(filter-out $(TAKEN),$(or $(MAKECMDGOALS),all)),)
-SOURCES := crates.txt tools/compile.sh $(sort $(shell find crates -path '*/src/*' -name '*.rt'))
+SOURCES := crates.txt tools/compile.sh $(wildcard $(shell sh tools/kit.sh 2>/dev/null)/KIT-ID) $(sort $(shell find crates -path '*/src/*' -name '*.rt'))
 endif
 
 $(OBJECTS)/doors: $(SOURCES)
