@@ -5,6 +5,8 @@
 
 #include "commands.h"
 #include "edit.h"
+#include "faults.h"
+#include "json.h"
 #include "refusal.h"
 #include "status.h"
 #include "usage.h"
@@ -13,7 +15,7 @@ static struct edit edit;
 static uint32_t numbers[STAR_MAX_ROWS];
 
 static int refused(const struct message *words) {
-    fprintf(stderr, "%s\n", words->text);
+    fault_tell(words);
     return EXIT_REFUSED;
 }
 
@@ -33,9 +35,11 @@ static int there(const struct table *t, uint32_t trench) { return trench >= 1 &&
 
 /* The trench that a word names; each is named once. */
 static int once_named(const struct table *t, const char *word, uint32_t *trench) {
+    struct message words = {{0}, 0};
     int status = trench_named(word, trench);
     if (status != 0 || !there(t, *trench) || edit.change[*trench - 1] == CHANGE_NONE) return status;
-    fprintf(stderr, "star: trench %u is named twice, and nothing is written\n", (unsigned)*trench);
+    say(&words, "star: trench %u is named twice, and nothing is written", (unsigned)*trench);
+    fault_tell(&words);
     return EXIT_USAGE;
 }
 
@@ -167,6 +171,21 @@ static void tell_numbers(const struct table *t) {
             fprintf(stderr, "trench %zu is now trench %u\n", i, (unsigned)numbers[i - 1]);
 }
 
+/* The same as keys of an object: how many are gone, and each trench with its new number. */
+static void json_renumbered(struct json *j, const struct table *t) {
+    size_t i;
+    json_number(j, "gone", (int64_t)t->strikes);
+    json_open(j, "numbers", '[');
+    for (i = table_next(t, 0); i <= t->m; i = table_next(t, i)) {
+        if (numbers[i - 1] == i) continue;
+        json_open(j, NULL, '{');
+        json_number(j, "old", (int64_t)i);
+        json_number(j, "new", numbers[i - 1]);
+        json_close(j, '}');
+    }
+    json_close(j, ']');
+}
+
 /* The words LEFT RIGHT PRICE as a trench and as the line of it. */
 static int new_trench(const struct options *with, struct trench *new, struct message *as) {
     uint32_t end[2];
@@ -181,6 +200,16 @@ static int new_trench(const struct options *with, struct trench *new, struct mes
     price_figures(price, new->price); /* the word itself may be of any length */
     say(as, "%u %u %s 0", (unsigned)end[0], (unsigned)end[1], price);
     return 0;
+}
+
+static int add_json(const struct table *t, const struct options *with, size_t at, const struct message *notes) {
+    struct output own;
+    struct json j;
+    if (!json_beside(&j, &own, with, "written")) return EXIT_UNWRITTEN;
+    json_number(&j, "trench", (int64_t)at);
+    if (edit.merge) json_renumbered(&j, t);
+    if (notes->len > 0) json_text(&j, "notes", notes->text);
+    return json_beside_end(&j, &own);
 }
 
 int command_add(struct table *t, const struct options *with, struct output *o) {
@@ -206,17 +235,25 @@ int command_add(struct table *t, const struct options *with, struct output *o) {
     if (new.right > edit.n) edit.n = new.right;
     status = write_sound(o, t, &notes);
     if (status != 0) return status;
+    if (with->json) return add_json(t, with, at, &notes);
     if (edit.merge) tell_numbers(t);
     fprintf(stderr, "trench %zu is new\n", at);
     if (notes.len > 0) fprintf(stderr, "%s\n", notes.text);
     return EXIT_PASSED;
 }
 
+static int merge_json(const struct table *t, const struct options *with) {
+    struct output own;
+    struct json j;
+    if (!json_beside(&j, &own, with, "written")) return EXIT_UNWRITTEN;
+    json_renumbered(&j, t);
+    return json_beside_end(&j, &own);
+}
+
 int command_merge(struct table *t, const struct options *with, struct output *o) {
     struct message words = {{0}, 0};
     struct star_answer a;
     int status = too_many(t);
-    (void)with;
     if (status != 0) return status;
     a = table_merge(t, numbers);
     if (a.kind != STAR_PASSED) {
@@ -226,6 +263,8 @@ int command_merge(struct table *t, const struct options *with, struct output *o)
     edit.merge = 1;
     edit.n = t->n;
     status = edit_write(o, t, &edit);
-    if (status == 0) tell_numbers(t);
-    return status;
+    if (status != 0) return status;
+    if (with->json) return merge_json(t, with);
+    tell_numbers(t);
+    return EXIT_PASSED;
 }

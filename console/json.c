@@ -128,6 +128,20 @@ void json_fault(FILE *to, const struct options *with, int status, const char *wo
     json_end(&j);
 }
 
+int json_beside(struct json *j, struct output *own, const struct options *with, const char *verdict) {
+    struct output standard = {0};
+    FILE *to;
+    *own = standard;
+    to = output_open(own);
+    if (to) json_begin(j, to, with, verdict, EXIT_PASSED);
+    return to != NULL;
+}
+
+int json_beside_end(struct json *j, struct output *own) {
+    json_end(j);
+    return output_close(own) ? EXIT_PASSED : EXIT_UNWRITTEN;
+}
+
 int tell_refused(struct output *o, const struct options *with, const struct message *words) {
     FILE *to;
     if (with->table) {

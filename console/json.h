@@ -32,6 +32,10 @@ void json_refusal(struct json *j, const char *words);
 /* The whole object of a fault that ends a command: a refusal, input that cannot be read, wrong usage. */
 void json_fault(FILE *to, const struct options *with, int status, const char *words);
 
+/* The object of a command whose result is a file: it goes to standard output. The first gives 0 where that cannot be opened, the second a status. */
+int json_beside(struct json *j, struct output *own, const struct options *with, const char *verdict);
+int json_beside_end(struct json *j, struct output *own);
+
 /* Tells a refusal as a command's result, in words or as an object, on standard error where the result is a table; gives a status. */
 int tell_refused(struct output *o, const struct options *with, const struct message *words);
 

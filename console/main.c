@@ -29,14 +29,14 @@ static const struct command COMMANDS[] = {
     {"dot", command_dot, "", FILE_ALONE, WRITING, NULL},
     {"page", command_page, "", FILE_ALONE, WRITING, NULL},
     {"table", command_table, "", FILE_ALONE, TABLE, NULL},
-    {"digs", command_digs, "", TEXT, WRITING, NULL},
+    {"digs", command_digs, "j", TEXT, WRITING, NULL},
     {"quote", command_quote, "jw", FILE_ALONE, WORDS, NULL},
     {"breaking", command_breaking, "jw", FILE_ALONE, WORDS, NULL},
     {"which", command_which, "jw", PLAN, WORDS, "compare"},
     {"stretch", command_stretch, "jw", PLAN, WORDS, "follow"},
     {"strike", command_strike, "w", LINES, TABLE, NULL},
-    {"add", command_add, "w", LINES, TABLE, NULL},
-    {"merge", command_merge, "", LINES, TABLE, NULL},
+    {"add", command_add, "jw", LINES, TABLE, NULL},
+    {"merge", command_merge, "j", LINES, TABLE, NULL},
     {"unstrike", command_unstrike, "w", LINES, TABLE, NULL},
     {"mark", command_mark, "w", LINES, TABLE, NULL},
     {"unmark", command_unmark, "w", LINES, TABLE, NULL},
@@ -103,6 +103,8 @@ static int options(struct request *r, char **words) {
             if (status != 0) return status;
         } else return misused("unknown option", word);
     }
+    if (r->with.json && r->command->result == TABLE && !r->out.file && !r->help)
+        return misused("the object of --json goes to standard output, and the file to '-o FILE', which is missing after", r->command->name);
     if (r->with.json && r->with.table) return misused("an object or a table is written, and not both, by", r->command->name);
     if (r->out.file && !r->file && !r->help) return misused("no file is named to be read, which may be '-', and the output goes to", r->out.file);
     return 0;
@@ -201,6 +203,6 @@ int main(int count, char **words) {
         return misused(words[1][0] == '-' ? "unknown option" : "unknown command", words[1]);
     }
     if (status > EXIT_REFUSED) output_drop(&r.out);
-    if (r.with.json && (status == EXIT_UNREADABLE || status == EXIT_USAGE)) return tell_fault(&r, status);
+    if (r.with.json && (status == EXIT_UNREADABLE || status == EXIT_USAGE || (status == EXIT_REFUSED && r.command->result == TABLE))) return tell_fault(&r, status);
     return output_close(&r.out) ? status : EXIT_UNWRITTEN;
 }

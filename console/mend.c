@@ -8,7 +8,6 @@
 #include "json.h"
 #include "refusal.h"
 #include "status.h"
-#include "usage.h"
 #include "verdict.h"
 
 static struct star_record records[RECORDS];
@@ -99,11 +98,9 @@ static void json_steps(struct json *j, const struct table *t, size_t steps) {
 
 /* The object goes to standard output, and the file to the output that is named. */
 static int mend_json(const struct table *t, const struct past *past, size_t steps, const struct options *with) {
-    struct output own = {0};
+    struct output own;
     struct json j;
-    FILE *to = output_open(&own);
-    if (!to) return EXIT_UNWRITTEN;
-    json_begin(&j, to, with, "mended", EXIT_PASSED);
+    if (!json_beside(&j, &own, with, "mended")) return EXIT_UNWRITTEN;
     json_changed(&j, "out", t, past->mark, 0);
     json_changed(&j, "in", t, past->mark, 1);
     json_open(&j, "marked", '{');
@@ -112,35 +109,24 @@ static int mend_json(const struct table *t, const struct past *past, size_t step
     json_close(&j, '}');
     json_number(&j, "total", table_plan_total(t));
     if (with->steps) json_steps(&j, t, steps);
-    json_end(&j);
-    return output_close(&own) ? EXIT_PASSED : EXIT_UNWRITTEN;
-}
-
-/* A refusal, which leaves the file as it was. */
-static int refused(const struct table *t, struct star_answer a, const struct options *with) {
-    struct output own = {0};
-    struct message words = {{0}, 0};
-    int status;
-    refusal_words(&words, t, a);
-    if (!with->json) {
-        fault_tell(&words);
-        return EXIT_REFUSED;
-    }
-    status = tell_refused(&own, with, &words);
-    return output_close(&own) ? status : EXIT_UNWRITTEN;
+    return json_beside_end(&j, &own);
 }
 
 int command_mend(struct table *t, const struct options *with, struct output *o) {
     static struct past past;
     struct star_answer a;
     int status;
-    if (with->json && !o->file) return misused("the object of --json goes to standard output, and the file to '-o FILE', which is missing after", "mend");
     memcpy(past.mark, t->mark, sizeof past.mark);
     past.marks = table_marks(t);
     past.cost = table_plan_total(t);
     past.network = table_cst(t).kind != STAR_REFUSED;
     a = table_mend(t, records);
-    if (a.kind != STAR_PASSED) return refused(t, a, with);
+    if (a.kind != STAR_PASSED) {
+        struct message words = {{0}, 0};
+        refusal_words(&words, t, a);
+        fault_tell(&words);
+        return EXIT_REFUSED;
+    }
     status = edit_marks(o, t);
     if (status != 0) return status;
     if (with->json) return mend_json(t, &past, (size_t)a.amount, with);

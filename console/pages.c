@@ -34,7 +34,7 @@ const struct keys KEYS[] = {
     {"Every object",
      "command: the command\n"
      "file: the file's name as it was given, or 'standard input'\n"
-     "verdict: passed, cheaper, built, told, mended, refused, unreadable or misused\n"
+     "verdict: passed, cheaper, built, told, mended, written, refused, unreadable or misused\n"
      "status: the exit status"},
     {"A refusal",
      "refusal: its number\n"
@@ -203,7 +203,7 @@ const struct page PAGES[] = {
     {
         .name = "digs",
         .words = "[FILE]",
-        .options = "",
+        .options = "--json",
         .line = "write the dig list for the site",
         .does = "Writes the dig list for the site, as the program diglist prints it: a line "
                 "for each trench of the cheapest network that build chooses, from the top of "
@@ -214,6 +214,8 @@ const struct page PAGES[] = {
         .example = "digs yard.txt",
         .output = "1 1 2 5\n2 2 3 3\n4 1 4 4\nTotal 12\n",
         .statuses = "0 written\n2 the table or the text was refused",
+        .keys = "rows: the trenches of the list, in its order\n"
+                "total: their total",
     },
     {
         .name = "quote",
@@ -373,7 +375,7 @@ const struct page PAGES[] = {
     {
         .name = "add",
         .words = "FILE LEFT RIGHT PRICE",
-        .options = "",
+        .options = "--json",
         .line = "write the file with a trench more",
         .does = "Writes the file with one trench more, which is not marked: directly after "
                 "the last trench in use, in place of a struck one that stands there, and else "
@@ -388,11 +390,16 @@ const struct page PAGES[] = {
                   "1 2 5 0\n2 3 3 1\n3 4 5 1\n1 4 4 1\n1 3 6 0\n2 4 7 0\n"
                   "trench 6 is new\n",
         .statuses = "0 written\n2 the table or the trench was refused, and nothing was written",
+        .keys = "trench: the number of the new trench\n"
+                "gone: where the file is merged first, the struck trenches that are gone\n"
+                "numbers: beside it, the trenches that have new numbers, a list; each has old "
+                "and new\n"
+                "notes: what else is told of the new table",
     },
     {
         .name = "merge",
         .words = "[FILE]",
-        .options = "",
+        .options = "--json",
         .line = "write the file without its struck trenches",
         .does = "Writes the file without its struck trenches, in the order of the others, and "
                 "tells on standard error which trench has which new number. No total changes "
@@ -403,6 +410,8 @@ const struct page PAGES[] = {
                   "1 2 5 1\n2 3 3 1\n1 4 4 1\n1 3 6 0\n"
                   "1 struck trench is gone.\ntrench 4 is now trench 3\ntrench 5 is now trench 4\n",
         .statuses = "0 written\n2 the table was refused, and nothing was written",
+        .keys = "gone: the struck trenches that are gone\n"
+                "numbers: the trenches that have new numbers, a list; each has old and new",
     },
     {
         .name = "districts",

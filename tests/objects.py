@@ -287,9 +287,33 @@ def mend(o, words):
     return said
 
 
-WORDS = {"check": check, "build": build, "explain": explain, "quote": quote, "breaking": breaking,
+def digs(o, words):
+    lines = ["%d %d %d %d\n" % tuple(r[key] for key in ("trench", "left", "right", "price"))
+             for r in o["rows"]]
+    return "".join(lines) + "Total %d\n" % o["total"]
+
+
+def renumbered(o):
+    gone, said = o["gone"], "No trench is struck: the file is as it was.\n"
+    if gone:
+        said = "%d struck trench%s gone.\n" % (gone, " is" if gone == 1 else "es are")
+    return said + "".join("trench %d is now trench %d\n" % (r["old"], r["new"]) for r in o["numbers"])
+
+
+def add(o, words):
+    said = renumbered(o) if "gone" in o else ""
+    said += "trench %d is new\n" % o["trench"]
+    return said + (o["notes"] + "\n" if "notes" in o else "")
+
+
+def merge(o, words):
+    return renumbered(o)
+
+
+WORDS = {"digs": digs, "add": add, "merge": merge, "check": check, "build": build, "explain": explain, "quote": quote, "breaking": breaking,
          "which": which, "stretch": stretch, "districts": districts, "outlets": outlets, "mend": mend}
-TOLD = {"passed", "cheaper", "built", "told", "mended"}
+TOLD = {"passed", "cheaper", "built", "told", "mended", "written"}
+WRITING = {"mend", "add", "merge"}
 
 
 def documented(command):
@@ -322,13 +346,14 @@ def fault(name, o, said):
 def ask(name, command, words, text):
     """Asks for words and for an object, and compares."""
     own = tempfile.mktemp(dir=WORK)
-    output = ["-o", own] if command == "mend" else []
+    output = ["-o", own] if command in WRITING else []
     plain = star(command, *words, *output, text=text)
     asked = star(command, *words, *output, "--json", text=text)
     o = read(name, asked[0])
     if o is None:
         return
-    said = (plain[1] if command == "mend" or plain[2] > 2 else plain[0]).decode("utf-8", "replace")
+    beside = command in WRITING or plain[2] > 2 or (command == "digs" and plain[2] == 2)
+    said = (plain[1] if beside else plain[0]).decode("utf-8", "replace")
     holds(name + ": status", asked[2] == plain[2] == o["status"], asked, plain)
     holds(name + ": command", o["command"] == command)
     seen.setdefault(command, set()).update(o)
@@ -383,7 +408,8 @@ def randomly():
         i = str(random.randrange(1, m + 2))
         asked = [["check", "-"], ["build", "-"], ["explain", "-", "--all"], ["explain", "-", i],
                  ["quote", "-", i, str(random.randrange(-99, 99))], ["breaking", "-", i],
-                 ["stretch", "-", str(a), str(b)], ["mend", "-", "--steps"],
+                 ["stretch", "-", str(a), str(b)], ["mend", "-", "--steps"], ["digs", "-"],
+                 ["add", "-", str(a), str(b), "7"], ["merge", "-"],
                  ["outlets", "-", str(a), str(random.randrange(4))],
                  ["districts", "-", str(1 + m // 2), str(m)]]
         for words in asked:
@@ -397,6 +423,10 @@ def large():
     """Many rings and groups: the object has all of them, the words the first twenty."""
     ring = ["%d %d 1 1" % (u, v) for u in range(1, 47) for v in range(u + 1, 47)][:1024]
     ask("rings", "check", ["-"], ("\n".join(ring) + "\n").encode())
+    full = ["struck 1 2 1 0"] + ring[1:]
+    ask("full", "add", ["-", "45", "46", "3"], ("\n".join(full) + "\n").encode())
+    ask("full", "merge", ["-"], ("\n".join(full) + "\n").encode())
+    ask("a gap", "add", ["-", "1", "9", "3"], b"1 2 3 1\n2 3 4 1\n")
     lone = ["junctions 255"] + ["%d %d 1 %d" % (v, v + 1, v % 3 == 0) for v in range(1, 255)]
     ask("groups", "check", ["-"], ("\n".join(lone) + "\n").encode())
     ask("groups explained", "explain", ["-", "--all"], ("\n".join(lone) + "\n").encode())
@@ -427,6 +457,7 @@ def faults():
     yard = "console/examples/yard.txt"
     for words in (["check", "--tabel", yard], ["check", yard, yard], ["quote", yard, "x", "1"],
                   ["explain", yard, "1", "2"], ["build", yard, "--table"], ["mend", yard],
+                  ["add", yard, "2", "4", "7"], ["merge", yard],
                   ["check", yard, "--certificate"], ["check", yard, "-o"], ["outlets", yard, "1"]):
         out, err, status = star(*words, "--json") if words[-1] != "-o" else star(*words[:-1], "--json", "-o")
         o = read("usage", out)
