@@ -74,6 +74,7 @@ junctions, or two equal ends
             n = len(self._names)
         if not 1 <= n <= lib.MAX_JUNCTIONS:
             raise Refused(1, 0, _TOO_MANY % n if n > 1 else "")
+        self._matrix: Optional[ctypes.Array] = None
         self._t = lib.CTable()
         self._at = ctypes.byref(self._t)
         self._t.n = n
@@ -127,9 +128,8 @@ junctions, or two equal ends
         """The coordinates of the junctions that have some."""
         return {self._name(k): place for k, place in self._places.items()}
 
-    def _used(self) -> Tuple[int, ...]:
-        bits = int.from_bytes(bytes(self._t.in_use), "little")
-        return tuple(k for k in range(1, bits.bit_length() + 1) if bits >> (k - 1) & 1)
+    def _used(self) -> List[int]:
+        return _bits(bytes(self._t.in_use))
 
     @property
     def rows(self) -> Tuple[Row, ...]:
@@ -297,17 +297,16 @@ junctions, or two equal ends
         >>> yard.path(4, 3)
         (4, 1, 2)
         """
-        matrix = (ctypes.c_uint64 * (lib.COLUMN_WORDS * self.n))()
+        if self._matrix is None:
+            self._matrix = (ctypes.c_uint64 * (lib.COLUMN_WORDS * self.n))()
         at, to = _word(self._number(u)), _word(self._number(v))
-        a = lib.paths(self._at, at, matrix)
+        a = lib.paths(self._at, at, self._matrix)
         if a.kind == lib.REFUSED:
             raise Refused(a.number, a.out)
         if not 1 <= to <= self.n:
             raise Refused(7)
-        words = bytes(matrix)[128 * (to - 1):128 * to]
-        bits = int.from_bytes(words, "little")
-        rows = [k for k in range(1, bits.bit_length() + 1) if bits >> (k - 1) & 1]
-        return self._walked(rows, at)
+        column = ctypes.string_at(ctypes.addressof(self._matrix) + 128 * (to - 1), 128)
+        return self._walked(_bits(column), at)
 
     def _walked(self, rows: List[int], at: int) -> Tuple[int, ...]:
         """The rows of a path in the order in which they are walked from a junction."""
@@ -356,7 +355,7 @@ junctions, or two equal ends
         a = lib.digs(self._at, text)
         if a.kind == lib.REFUSED:
             raise Refused(a.number, a.out)
-        return text.raw[:a.amount].decode()
+        return ctypes.string_at(text, a.amount).decode()
 
     # Plans, which the table has afterwards.
 
@@ -463,6 +462,16 @@ junctions, or two equal ends
         """Moves the courses of rows to their rows' new numbers."""
         numbers = self._t.numbers
         self._lines = {numbers[k - 1]: v for k, v in self._lines.items() if numbers[k - 1]}
+
+
+def _bits(words: bytes) -> List[int]:
+    """The rows whose bits are 1, from the top."""
+    bits, rows = int.from_bytes(words, "little"), []
+    while bits:
+        lowest = bits & -bits
+        rows.append(lowest.bit_length())
+        bits ^= lowest
+    return rows
 
 
 def _verdict(v) -> Verdict:
