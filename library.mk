@@ -40,6 +40,8 @@ wheel: checked $(SHARED)
 	@mkdir -p $(WHEELS)
 	$(PYTHON) python/backend.py $(SHARED) $(WHEELS)
 
+manual3: $(PAGES)
+
 all: $(SHARED) $(PAGES)
 outside: $(BUILD)/table_test $(BUILD)/table_test_faulty $(SHARED) $(PAGES)
 
@@ -61,4 +63,4 @@ uninstall-library:
 	rm -f $(DESTDIR)$(PREFIX)/lib/libstar.so* $(PACKAGE)/starConfig.cmake $(PACKAGE)/starConfigVersion.cmake
 	rm -f $(MANUALS3)/libstar.3 $(patsubst %,$(MANUALS3)/%.3,$(shell sed -n -f include/names.sed include/star.h))
 
-.PHONY: shared wheel install-library uninstall-library
+.PHONY: shared manual3 wheel install-library uninstall-library
