@@ -1,9 +1,9 @@
 -- The sixteen bytes mean what they should: what is read back is the answer's own fields, and over an accepted table demand 3 says what they are worth.
 -- Assumes nothing.
-use Prim.Native.Nat.{ℕ, _+_, _*_, _/_, _%_, _≤_, _<_}
+use Prim.Native.Nat.{ℕ, zero, suc, _+_, _*_, _/_, _%_, _≤_, _<_}
 use borrow.Author.Tests.{ltb-false, eq-eqb, ne-eqb}
 use lib.IntN.{ℤ}
-use lib.ListN.{length}
+use lib.ListN.{length, getD}
 use lib.Signed.{mag}
 use mathlib.Core.Bool.{Bool, true, false, cond}
 use mathlib.Core.List.{List, [], _∷_, _++_}
@@ -48,11 +48,43 @@ two-bytes x h = omega arith
 eight : (x : ℕ) → x < 18446744073709551616 → x % 256 + 256 * (x / 256 % 256 + 256 * (x / 256 / 256 % 256 + 256 * (x / 256 / 256 / 256 % 256 + 256 * (x / 256 / 256 / 256 / 256 % 256 + 256 * (x / 256 / 256 / 256 / 256 / 256 % 256 + 256 * (x / 256 / 256 / 256 / 256 / 256 / 256 % 256 + 256 * (x / 256 / 256 / 256 / 256 / 256 / 256 / 256 % 256 + 256 * 0))))))) ≡ x
 eight x h = omega arith
 
+-- a column of bytes; each of the sixteen is one
+record Bytewise (l : List ℕ) : Type 0 where
+  all : (k : ℕ) → getD l k 0 < 256
+
+joined : {a b : List ℕ} → Bytewise a → Bytewise b → Bytewise (a ++ b)
+joined {a} {b} p q = record { all = go a (p .all) }
+  where
+    go : (a : List ℕ) → ((k : ℕ) → getD a k 0 < 256) → (k : ℕ) → getD (a ++ b) k 0 < 256
+    go [] h k = q .all k
+    go (x ∷ a) h zero = h 0
+    go (x ∷ a) h (suc k) = go a (λ j. h (suc j)) k
+
+number-bytes : (k x : ℕ) → Bytewise (bytesOf k x)
+unfolding bytesOf
+number-bytes k x = record { all = go k x }
+  where
+    go : (k x : ℕ) (j : ℕ) → getD (bytesOf k x) j 0 < 256
+    go zero x j = omega arith
+    go (suc k) x zero = omega arith
+    go (suc k) x (suc j) = go k (x / 256) j
+
+pub sixteen-bytes : (f : Fields) (k : ℕ) → getD (fieldBytes f) k 0 < 256
+unfolding fieldBytes bytesOf
+sixteen-bytes f = written .all
+  where
+    written : Bytewise (fieldBytes f)
+    written =
+        joined (number-bytes 1 (f .kind))
+        (joined (number-bytes 1 (f .number))
+        (joined (number-bytes 2 (f .out)) (joined (number-bytes 2 (f .into)) (joined (number-bytes 1 (f .only)) (joined (number-bytes 1 0) (number-bytes 8 (toBits 64 (f .amount))))))))
+
 field-bytes : (f : Fields) → Fits f → Written (fieldBytes f) f
 unfolding fieldBytes bytesOf readBack little
 field-bytes f h =
     record {
       sixteen = refl;
+      bytes = sixteen-bytes f;
       unused = refl;
       fields = rw (one-byte (f .kind) (h .kind), one-byte (f .number) (h .number), two-bytes (f .out) (h .out), two-bytes (f .into) (h .into), one-byte (f .only) (h .only), eight (toBits 64 (f .amount)) (bits-small 63 (f .amount) (h .amount)), bits-back 63 (f .amount) (h .amount));
     }
@@ -103,19 +135,19 @@ standing c = go (refusal (tableCauses c)) refl
     go (some r) e = turned r e
 
 module _ (c : Call) (r : Refusal) (e : refusal (tableCauses c) ≡ some r) where
-  cst-turned : cst c ≡ refused r
+  pub cst-turned : cst c ≡ refused r
   unfolding cst verdict cstCauses
   cst-turned = ap (verdict c) (refused-first c r _ (tableCauses c) e)
 
-  other-turned : otherFields c ≡ fields (refused r)
+  pub other-turned : otherFields c ≡ fields (refused r)
   unfolding otherFields fieldsBeside
   other-turned = ap (λ x. fieldsBeside x (equalRows c)) cst-turned
 
-  mst1-turned : mst1 c ≡ unbuilt r
+  pub mst1-turned : mst1 c ≡ unbuilt r
   unfolding mst1 built mst1Causes
   mst1-turned = ap (built c) (refused-first c r _ (tableCauses c) e)
 
-  marks-turned : mst1Marks c ≡ c .mark
+  pub marks-turned : mst1Marks c ≡ c .mark
   unfolding mst1Marks builtMarks mst1Causes
   marks-turned = ap (builtMarks c) (refused-first c r _ (tableCauses c) e)
 
@@ -129,7 +161,7 @@ table-fits r t = record { kind = omega arith; number = small (t .number); out = 
     small (inr e) = omega arith
 
 -- a refusal has the same fields by CST, by CST with an exchange, and by MST1
-unbuilt-fields : (r : Refusal) → builtFields (unbuilt r) ≡ fields (refused r)
+pub unbuilt-fields : (r : Refusal) → builtFields (unbuilt r) ≡ fields (refused r)
 unfolding builtFields fields
 unbuilt-fields r = refl
 
@@ -321,9 +353,11 @@ module _ (c : Call) (a : Accepted c) where
       go : (x : BuildAnswer) → mst1 c ≡ x → BuiltMeans c (builtFields x) (mst1Marks c)
       go (unbuilt r) e =
           record {
+            kinds = omega arith;
             built = (λ k. absurd (omega arith), λ t. absurd (none-tree (t .0) (t .1)));
             least = λ k. absurd (omega arith);
             weight = λ k. absurd (omega arith);
+            bytes = λ k. absurd (omega arith);
             declined = (λ k. none-tree, λ n. refl);
             number = λ k. (ap (λ q. q .number) eleven, ap (λ q. q .place) eleven);
             kept = λ k. h .kept r e;
@@ -337,9 +371,11 @@ module _ (c : Call) (a : Accepted c) where
           none-tree = h .refuses .0 (e ∙ ap unbuilt eleven)
       go (treeBuilt weight) e =
           record {
+            kinds = omega arith;
             built = (λ k. (mst1Marks c, least .tree), λ t. refl);
             least = λ k. least;
             weight = λ k. after .weight weight (passes .0) (passes .1);
+            bytes = λ k. h .bytes weight e;
             declined = (λ k. absurd (omega arith), λ n. absurd (n (mst1Marks c) (least .tree)));
             number = λ k. absurd (omega arith);
             kept = λ k. absurd (omega arith);
@@ -452,17 +488,3 @@ mst1-door-means c answer =
   where
     back : length answer ≡ 16 → Written (answerAfter answer (builtFields (mst1 c))) (builtFields (mst1 c))
     back = read-back answer (builtFields (mst1 c)) (mst1-fits-all c)
-
--- a door that returns and leaves what the definitions say is such a call
-pub cst-call : {c : Call} {answer after : List ℕ} {r : ℕ} → (r ≡ doorReturns answer) × (after ≡ cstDoor c answer)
-    → (r ≡ doorReturns answer) × ((after ≡ cstDoor c answer) × CstCall c answer after r)
-cst-call {c} {answer} (p, q) = (p, (q, rw (p, q) (cst-door-means c answer)))
-
-pub other-call : {c : Call} {answer after : List ℕ} {r : ℕ} → (r ≡ doorReturns answer) × (after ≡ otherDoor c answer)
-    → (r ≡ doorReturns answer) × ((after ≡ otherDoor c answer) × OtherCall c answer after r)
-other-call {c} {answer} (p, q) = (p, (q, rw (p, q) (other-door-means c answer)))
-
-pub mst1-call : {c : Call} {answer after marks : List ℕ} {r : ℕ}
-    → (r ≡ doorReturns answer) × ((after ≡ mst1Door c answer) × (marks ≡ mst1DoorMarks c answer))
-    → (r ≡ doorReturns answer) × (((after ≡ mst1Door c answer) × (marks ≡ mst1DoorMarks c answer)) × Mst1Call c answer after marks r)
-mst1-call {c} {answer} (p, (q, s)) = (p, ((q, s), rw (p, q, s) (mst1-door-means c answer)))

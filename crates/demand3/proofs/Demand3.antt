@@ -20,7 +20,7 @@ use Rattle.graph.specs.Least.{Least}
 use Rattle.graph.specs.LeastTotal.{weighed, leastTotal}
 use Rattle.graph.specs.Tree.{SpanningTree, exchange}
 use Rattle.refusal.specs.declared.Refusal.{Refusal}
-use Rattle.rowset.proofs.Laws.{both-subset, uppermost-none, uppermost-some, uppermost-zero}
+use Rattle.rowset.proofs.Laws.{both-subset, refuted, uppermost-none, uppermost-some, uppermost-zero}
 use Rattle.rowset.proofs.Members.{both-in}
 use Rattle.rowset.proofs.Integers.{integers, plus, minus, difference, pos-parts}
 use Rattle.rowset.proofs.Signed.{difference-small}
@@ -37,7 +37,7 @@ use Rattle.star.proofs.Claims.{marked-claimOf, claimOf-length, claimOf-bytes, m
 use Rattle.star.specs.Accepted.{Row}
 use Rattle.star.specs.Call.{Call, rowsOf, used, graphOf, weightOf, marked, claimed, claimWeight, withClaim, claimOf, exchanged}
 use Rattle.star.specs.Cst.{Answer, refused, passed, lighter, rowIn, rowOut, only, judged, verdict, cst}
-use Rattle.demand3.specs.Demand3.{ClaimTree, LeastClaim, WorthExchange, ZeroOrOne, Fault, bad-byte, bad-count, cut-off, Demand3}
+use Rattle.demand3.specs.Demand3.{ClaimTree, LeastClaim, WorthExchange, ZeroOrOne, Fault, bad-byte, bad-count, cut-off, BuilderBytes, Demand3}
 use Rattle.star.specs.Mst1.{BuildAnswer, unbuilt, treeBuilt, chosenRows, treeRows, built, mst1, builtMarks, mst1Marks}
 use Rattle.star.specs.Refusals.{cause, badVertices, tooManyRows, badLengths, badRow, badEnds, repeats, repeatedRow, wrongByte, badClaim, badCount, unjoined, noTree, isNone, tableCauses, cstCauses, mst1Causes, refusal, orElse, Accepted}
 
@@ -467,6 +467,26 @@ built-passed c a weight e =
           (alone, ap (λ l. cst (withClaim c l)) k ∙ p ∙ ap (λ v. passed v alone) w)
     ]
 
+-- what is built has bytes 0 and 1 only, and 0 at rows not in use
+built-bytes : (c : Call) → Accepted c → (weight : ℤ) → mst1 c ≡ treeBuilt weight → BuilderBytes c (mst1Marks c)
+unfolding graphOf marked
+built-bytes c a weight e =
+    elim (growth c a) [
+      | ungrown z x ↦ absurd (unbuilt-built x e)
+      | grown f z x k ↦
+          let inside = built-spanning (graphOf c) (ok c a) (weightOf c) f z .inside in
+          rw k
+          (record {
+            zero-or-one = claimOf-bytes (rowsOf c) (f .chosen);
+            zero-elsewhere = λ i n. omega (arith, claimOf-bytes (rowsOf c) (f .chosen) i, eqb-false (inRow 1 (claimOf (rowsOf c) (f .chosen)) i) 1 (unmarked f inside i n));
+          })
+    ]
+  where
+    unmarked : (f : Fragment) → ((i : ℕ) → f .chosen i ≡ true → used c i ≡ true) → (i : ℕ) → (Row c i → ⊥) → marked (claimOf (rowsOf c) (f .chosen)) i ≡ false
+    unmarked f inside i n =
+        ap (λ S. S i) (marked-claimOf (rowsOf c) (f .chosen) (λ j h. let r = used-row c j (inside j h) in (r .0, r .1)))
+        ∙ refuted _ (λ h. n (used-row c i (inside i h)))
+
 pub demand3 : Demand3
 demand3 c a =
     record {
@@ -481,4 +501,5 @@ demand3 c a =
       kept = marks-kept c a;
       built = builds-tree c a;
       builds = built-passed c a;
+      bytes = built-bytes c a;
     }

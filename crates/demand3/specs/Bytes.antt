@@ -1,14 +1,14 @@
 -- From the sixteen bytes of an answer to the trees of the columns: what a call through the doors star_cst, star_other and star_mst1 returns and leaves,
--- and what the bytes mean. A C programmer who believes this statement need read nothing else. The doors' contracts state it of themselves.
+-- and what the bytes mean, over the project's definitions. What the doors' contracts state, promise/specs/Promise.antt, is proved from it.
 -- c is the call's columns: `callOf` for a plain table and `workOf` for a working one, whose rows are those in use. Which tables are accepted says star/Accepted.
 -- Cites definitions alone; the proof is proofs/Bytes.antt. Assumes nothing.
-use Prim.Native.Nat.{ℕ, _≤_}
+use Prim.Native.Nat.{ℕ, _≤_, _<_}
 use mathlib.Core.List.{List}
 use mathlib.Core.Logic.{_↔_, _⊎_}
 use mathlib.Core.Path.{_≡_}
 use lib.IntN.{pos}
-use lib.ListN.{length}
-use Rattle.demand3.specs.Demand3.{ClaimTree, LeastClaim, WorthExchange, Fault}
+use lib.ListN.{length, getD}
+use Rattle.demand3.specs.Demand3.{ClaimTree, LeastClaim, WorthExchange, Fault, BuilderBytes}
 use Rattle.demand3.specs.Only.{NoOther, EqualExchange}
 use Rattle.rowset.specs.Bytes.{little}
 use Rattle.star.specs.Accepted.{AcceptedTable}
@@ -20,6 +20,7 @@ use Rattle.star.specs.Mst1.{mst1}
 -- what is left of a lent answer of sixteen bytes: sixteen bytes, of which the one numbered 7 is 0, and what is read back is the answer's own fields, none of them cut off
 pub record Written (after : List ℕ) (answer : Fields) : Type 0 where
   pub sixteen : length after ≡ 16
+  pub bytes : (k : ℕ) → getD after k 0 < 256
   pub unused : little after 7 1 ≡ 0
   pub fields : readBack after ≡ answer
 
@@ -47,10 +48,13 @@ pub record OtherMeans (c : Call) (x : Fields) : Type 0 where
 
 -- the fields x of MST1's answer and the mark column afterwards, over an accepted table
 pub record BuiltMeans (c : Call) (x : Fields) (marks : List ℕ) : Type 0 where
-  -- kind 1: there is a spanning tree; the marks are one, every other weighs at least as much, and the amount is its weight
+  -- kind 0 or 1
+  pub kinds : x .kind ≤ 1
+  -- kind 1: there is a spanning tree; the marks are one, every other weighs at least as much, and the amount is its weight; its bytes are 0 and 1, and 0 at rows not in use
   pub built : (x .kind ≡ 1) ↔ ((other : List ℕ) × ClaimTree (withClaim c other))
   pub least : x .kind ≡ 1 → LeastClaim (withClaim c marks)
   pub weight : x .kind ≡ 1 → x .amount ≡ claimWeight (withClaim c marks)
+  pub bytes : x .kind ≡ 1 → BuilderBytes c marks
   -- kind 0: there is none; the number is 11, the place 0, and the marks are as they were
   pub declined : (x .kind ≡ 0) ↔ ((other : List ℕ) → ClaimTree (withClaim c other) → ⊥)
   pub number : x .kind ≡ 0 → (x .number ≡ 11) × (x .out ≡ 0)

@@ -62,6 +62,11 @@ pub data Fault (c : Call) : Refusal → Type 0 where
       → ((u : ℕ) → Vertex (c .n) u → u < v → Walk (graphOf c) (claimed c) 1 u)
       → Fault c (record { number = 10; place = v })
 
+-- a mark column as the builder writes it: bytes 0 and 1 only, and 0 at every row that is not in use
+pub record BuilderBytes (c : Call) (marks : List ℕ) : Type 0 where
+  pub zero-or-one : (i : ℕ) → inRow 1 marks i ≤ 1
+  pub zero-elsewhere : (i : ℕ) → (Row c i → ⊥) → inRow 1 marks i ≡ 0
+
 -- demand 3, at one accepted table and claim
 pub record Holds (c : Call) : Type 0 where
   -- the checker passes the claim exactly when it is a spanning tree and none weighs less; what its yes or no is worth says Only.antt
@@ -84,6 +89,8 @@ pub record Holds (c : Call) : Type 0 where
   pub built : (other : List ℕ) → ClaimTree (withClaim c other) → (weight : ℤ) × (mst1 c ≡ treeBuilt weight)
   -- what it builds is passed by the checker over the same table, with the weight that the builder stated
   pub builds : (weight : ℤ) → mst1 c ≡ treeBuilt weight → (alone : Bool) × (cst (withClaim c (mst1Marks c)) ≡ passed weight alone)
+  -- and its bytes are 0 and 1 only, 0 at rows not in use
+  pub bytes : (weight : ℤ) → mst1 c ≡ treeBuilt weight → BuilderBytes c (mst1Marks c)
 
 -- demand 3, whole
 abbrev pub Demand3 : Type 0

@@ -11,7 +11,7 @@ use mathlib.Core.Logic.{_↔_, _⊎_, inl, inr, ⊎-elim}
 use mathlib.Core.Option.{Option, none, some}
 use mathlib.Core.Path.{_≡_, refl, sym, _∙_, ap}
 use native.Mathlib.Omega.{arith}
-use Rattle.demand3.proofs.Bytes.{refused-first, mst1-door-means}
+use Rattle.demand3.proofs.Bytes.{sixteen-bytes, refused-first, mst1-door-means}
 use Rattle.demand3.proofs.Demand3.{apart, built-accepted, demand3}
 use Rattle.demand3.specs.Bytes.{Written, TableDeclined}
 use Rattle.demand3.specs.Demand3.{ClaimTree, LeastClaim}
@@ -84,15 +84,15 @@ module _ (answer : List ℕ) where
   -- a refusal with place 0
   three-back : length answer ≡ 16 → Written (answerAfter answer (builtFields (unbuilt (record { number = 3; place = 0 })))) (builtFields (unbuilt (record { number = 3; place = 0 })))
   unfolding answerAfter builtFields fieldBytes bytesOf readBack little fromBits toBits
-  three-back e = rw (well e) (record { sixteen = refl; unused = refl; fields = refl })
+  three-back e = rw (well e) (record { sixteen = refl; bytes = sixteen-bytes (builtFields (unbuilt (record { number = 3; place = 0 }))); unused = refl; fields = refl })
 
   fourteen-back : length answer ≡ 16 → Written (answerAfter answer (builtFields (unbuilt (record { number = 14; place = 0 })))) (builtFields (unbuilt (record { number = 14; place = 0 })))
   unfolding answerAfter builtFields fieldBytes bytesOf readBack little fromBits toBits
-  fourteen-back e = rw (well e) (record { sixteen = refl; unused = refl; fields = refl })
+  fourteen-back e = rw (well e) (record { sixteen = refl; bytes = sixteen-bytes (builtFields (unbuilt (record { number = 14; place = 0 }))); unused = refl; fields = refl })
 
   eleven-back : length answer ≡ 16 → Written (answerAfter answer (builtFields (unbuilt (record { number = 11; place = 0 })))) (builtFields (unbuilt (record { number = 11; place = 0 })))
   unfolding answerAfter builtFields fieldBytes bytesOf readBack little fromBits toBits
-  eleven-back e = rw (well e) (record { sixteen = refl; unused = refl; fields = refl })
+  eleven-back e = rw (well e) (record { sixteen = refl; bytes = sixteen-bytes (builtFields (unbuilt (record { number = 11; place = 0 }))); unused = refl; fields = refl })
 
   -- an answer of MST1's
   built-back : (c : Call) (x : BuildAnswer) → mst1 c ≡ x → length answer ≡ 16 → Written (answerAfter answer (builtFields x)) (builtFields x)
