@@ -3,7 +3,7 @@ use answer::write_answer;
 use fields::checked::of_checked;
 ghost use mathlib.Core.Path.{_≡_};
 ghost use Rattle.star.specs.Call.{callOf};
-ghost use Rattle.demand3.specs.Bytes.{OtherCall};
+ghost use Rattle.promise.specs.Promise.{plain, OtherCall};
 ghost use Rattle.star.specs.Door.{doorReturns, otherDoor};
 
 // CST with the exchange through the door. `means` says what the bytes are worth: what is read back, and what it says of the table's spanning trees.
@@ -21,8 +21,8 @@ pub extern "C" fn star_other(
         let c = callOf n (now (left .entry)) (now (right .entry)) (now (weight .entry)) (now (mark .entry)) in
         ⌜ now (answer .exit) ≡ otherDoor c (now (answer .entry)) ⌝ }
     ensures means { λ r.
-        let c = callOf n (now (left .entry)) (now (right .entry)) (now (weight .entry)) (now (mark .entry)) in
-        ⌜ OtherCall c (now (answer .entry)) (now (answer .exit)) r ⌝ }
+        let t = plain n (now (left .entry)) (now (right .entry)) (now (weight .entry)) in
+        ⌜ OtherCall t (now (mark .entry)) (now (answer .entry)) (now (answer .exit)) r ⌝ }
 {
     if answer.len() != 16 {
         return 0;

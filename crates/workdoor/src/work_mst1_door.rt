@@ -3,7 +3,7 @@ use answer::write_answer;
 use fields::built::of_built;
 ghost use mathlib.Core.Path.{_≡_};
 ghost use Rattle.star.specs.Call.{workOf};
-ghost use Rattle.demand3.specs.Bytes.{Mst1Call};
+ghost use Rattle.promise.specs.Promise.{working, Mst1Call};
 ghost use Rattle.star.specs.Door.{doorReturns, mst1Door, mst1DoorMarks};
 
 // MST1 over the rows in use, through the door: the marks are written where a tree is built, with 0 at rows not in use, and stay as they are otherwise.
@@ -23,8 +23,8 @@ pub extern "C" fn star_work_mst1(
         let c = workOf n (now (words .entry)) (now (left .entry)) (now (right .entry)) (now (weight .entry)) (now (mark .entry)) in
         ⌜ (now (answer .exit) ≡ mst1Door c (now (answer .entry))) × (now (mark .exit) ≡ mst1DoorMarks c (now (answer .entry))) ⌝ }
     ensures means { λ r.
-        let c = workOf n (now (words .entry)) (now (left .entry)) (now (right .entry)) (now (weight .entry)) (now (mark .entry)) in
-        ⌜ Mst1Call c (now (answer .entry)) (now (answer .exit)) (now (mark .exit)) r ⌝ }
+        let t = working n (now (words .entry)) (now (left .entry)) (now (right .entry)) (now (weight .entry)) in
+        ⌜ Mst1Call t (now (mark .entry)) (now (answer .entry)) (now (answer .exit)) (now (mark .exit)) r ⌝ }
 {
     if answer.len() != 16 {
         return 0;

@@ -4,20 +4,20 @@ use borrow.Author.Tests.{eq-eqb, ne-eqb}
 use lib.ListN.{length}
 use mathlib.Core.Path.{refl, ap, _∙_}
 use native.Mathlib.Omega.{arith}
-use Rattle.demand3.proofs.Bytes.{cst-call}
 use Rattle.door.proofs.cst_door.star_cst.Statement.{statement}
 use Rattle.door.proofs.cst_door.star_cst.Tie as tie
+use Rattle.promise.proofs.Doors.{plain-cst}
 use Rattle.star.specs.Door.{fields, answerAfter, wellLent, doorReturns, cstDoor}
 
 returns : tie.Need-returns
 unfolding doorReturns wellLent cstDoor answerAfter
 returns c =
-    cst-call (rw (ne-eqb (length (c .before .before .before .before .before .before .args .answer .now)) 16 (λ e. omega arith)) (refl, refl))
+    plain-cst (rw (ne-eqb (length (c .before .before .before .before .before .before .args .answer .now)) 16 (λ e. omega arith)) (refl, refl))
 
 returns-2 : tie.Need-returns-2
 unfolding doorReturns wellLent cstDoor
 returns-2 c =
-    cst-call
+    plain-cst
     (rw (eq-eqb (length (c .before .before .before .before .before .before .before .before .before .before .before .before .args .answer .now)) 16 (omega arith))
     (refl, c .before .before .write-answer .ensures ∙ ap (answerAfter _) (c .before .before .before .before .of-verdict .ensures ∙ ap fields (c .before .before .before .before .before .cst .ensures))))
 

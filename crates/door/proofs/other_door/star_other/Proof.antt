@@ -4,21 +4,21 @@ use borrow.Author.Tests.{eq-eqb, ne-eqb}
 use lib.ListN.{length}
 use mathlib.Core.Path.{refl, ap, _∙_}
 use native.Mathlib.Omega.{arith}
-use Rattle.demand3.proofs.Bytes.{other-call}
 use Rattle.door.proofs.other_door.star_other.Statement.{statement}
 use Rattle.door.proofs.other_door.star_other.Tie as tie
+use Rattle.promise.proofs.Doors.{plain-other}
 use Rattle.star.specs.Door.{otherFields, answerAfter, wellLent, doorReturns, otherDoor}
 
 returns : tie.Need-returns
 unfolding doorReturns wellLent otherDoor answerAfter
 returns c =
-    other-call (rw (ne-eqb (length (c .before .before .before .before .before .before .args .answer .now)) 16 (λ e. omega arith)) (refl, refl))
+    plain-other (rw (ne-eqb (length (c .before .before .before .before .before .before .args .answer .now)) 16 (λ e. omega arith)) (refl, refl))
 
 returns-2 : tie.Need-returns-2
 unfolding doorReturns wellLent otherDoor otherFields
 returns-2 c =
     let checked = c .before .before .before .before .before .cst-other in
-    other-call
+    plain-other
     (rw (eq-eqb (length (c .before .before .before .before .before .before .before .before .before .before .before .before .args .answer .now)) 16 (omega arith))
     (refl, c .before .before .write-answer .ensures ∙ ap (answerAfter _) (c .before .before .before .before .of-checked .ensures ∙ rw (checked .ensures .0, checked .ensures .1))))
 

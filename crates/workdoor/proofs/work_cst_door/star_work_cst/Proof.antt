@@ -1,10 +1,11 @@
 -- `workdoor::work_cst_door::star_work_cst` meets its contract: what CST over the rows in use, `of_verdict` and `write_answer` promise, one after the other. Assumes nothing.
 use borrow.Author.Needs.{needs}
 use borrow.Author.Tests.{eq-eqb, ne-eqb}
+use denote.Ref.{now}
 use lib.ListN.{length}
 use mathlib.Core.Path.{refl, ap, _∙_}
 use native.Mathlib.Omega.{arith}
-use Rattle.demand3.proofs.Bytes.{cst-call}
+use Rattle.promise.proofs.Doors.{work-cst}
 use Rattle.workdoor.proofs.work_cst_door.star_work_cst.Statement.{statement}
 use Rattle.workdoor.proofs.work_cst_door.star_work_cst.Tie as tie
 use Rattle.star.specs.Door.{fields, answerAfter, wellLent, doorReturns, cstDoor}
@@ -12,12 +13,12 @@ use Rattle.star.specs.Door.{fields, answerAfter, wellLent, doorReturns, cstDoor
 returns : tie.Need-returns
 unfolding doorReturns wellLent cstDoor answerAfter
 returns c =
-    cst-call (rw (ne-eqb (length (c .before .before .before .before .before .before .before .args .answer .now)) 16 (λ e. omega arith)) (refl, refl))
+    work-cst (now (c .before .before .before .before .before .before .before .args .words)) (rw (ne-eqb (length (c .before .before .before .before .before .before .before .args .answer .now)) 16 (λ e. omega arith)) (refl, refl))
 
 returns-2 : tie.Need-returns-2
 unfolding doorReturns wellLent cstDoor
 returns-2 c =
-    cst-call
+    work-cst (now (c .before .before .before .before .before .before .before .before .before .before .before .before .before .args .words))
     (rw (eq-eqb (length (c .before .before .before .before .before .before .before .before .before .before .before .before .before .args .answer .now)) 16 (omega arith))
     (refl, c .before .before .write-answer .ensures ∙ ap (answerAfter _) (c .before .before .before .before .of-verdict .ensures ∙ ap fields (c .before .before .before .before .before .work-cst .ensures))))
 

@@ -1,10 +1,11 @@
 -- `workdoor::work_mst1_door::star_work_mst1` meets its contract: what MST1 over the rows in use, `of_built` and `write_answer` promise, one after the other. Assumes nothing.
 use borrow.Author.Needs.{needs}
 use borrow.Author.Tests.{eq-eqb, ne-eqb}
+use denote.Ref.{now}
 use lib.ListN.{length}
 use mathlib.Core.Path.{refl, ap, _∙_}
 use native.Mathlib.Omega.{arith}
-use Rattle.demand3.proofs.Bytes.{mst1-call}
+use Rattle.promise.proofs.Doors.{work-mst1}
 use Rattle.workdoor.proofs.work_mst1_door.star_work_mst1.Statement.{statement}
 use Rattle.workdoor.proofs.work_mst1_door.star_work_mst1.Tie as tie
 use Rattle.star.specs.Door.{builtFields, answerAfter, wellLent, doorReturns, mst1Door, mst1DoorMarks}
@@ -12,12 +13,12 @@ use Rattle.star.specs.Door.{builtFields, answerAfter, wellLent, doorReturns, ms
 returns : tie.Need-returns
 unfolding doorReturns wellLent mst1Door answerAfter mst1DoorMarks
 returns c =
-    mst1-call (rw (ne-eqb (length (c .before .before .before .before .before .before .before .args .answer .now)) 16 (λ e. omega arith)) (refl, (refl, refl)))
+    work-mst1 (now (c .before .before .before .before .before .before .before .args .words)) (rw (ne-eqb (length (c .before .before .before .before .before .before .before .args .answer .now)) 16 (λ e. omega arith)) (refl, (refl, refl)))
 
 returns-2 : tie.Need-returns-2
 unfolding doorReturns wellLent mst1Door mst1DoorMarks
 returns-2 c =
-    mst1-call
+    work-mst1 (now (c .before .before .before .before .before .before .before .before .before .before .before .before .before .before .before .before .args .words))
     (rw (eq-eqb (length (c .before .before .before .before .before .before .before .before .before .before .before .before .before .before .before .before .args .answer .now)) 16 (omega arith)) (
       refl,
       (c .before .before .write-answer .ensures ∙ ap (answerAfter _) (c .before .before .before .before .of-built .ensures ∙ ap builtFields (c .before .before .before .before .before .before .before .work-mst1 .ensures .0)), c .before .before .before .before .before .before .before .work-mst1 .ensures .1),

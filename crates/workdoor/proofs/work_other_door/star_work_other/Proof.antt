@@ -1,10 +1,11 @@
 -- `workdoor::work_other_door::star_work_other` meets its contract: what `work_cst_other`, `of_checked` and `write_answer` promise, one after the other. Assumes nothing.
 use borrow.Author.Needs.{needs}
 use borrow.Author.Tests.{eq-eqb, ne-eqb}
+use denote.Ref.{now}
 use lib.ListN.{length}
 use mathlib.Core.Path.{refl, ap, _∙_}
 use native.Mathlib.Omega.{arith}
-use Rattle.demand3.proofs.Bytes.{other-call}
+use Rattle.promise.proofs.Doors.{work-other}
 use Rattle.workdoor.proofs.work_other_door.star_work_other.Statement.{statement}
 use Rattle.workdoor.proofs.work_other_door.star_work_other.Tie as tie
 use Rattle.star.specs.Door.{otherFields, answerAfter, wellLent, doorReturns, otherDoor}
@@ -12,13 +13,13 @@ use Rattle.star.specs.Door.{otherFields, answerAfter, wellLent, doorReturns, ot
 returns : tie.Need-returns
 unfolding doorReturns wellLent otherDoor answerAfter
 returns c =
-    other-call (rw (ne-eqb (length (c .before .before .before .before .before .before .before .args .answer .now)) 16 (λ e. omega arith)) (refl, refl))
+    work-other (now (c .before .before .before .before .before .before .before .args .words)) (rw (ne-eqb (length (c .before .before .before .before .before .before .before .args .answer .now)) 16 (λ e. omega arith)) (refl, refl))
 
 returns-2 : tie.Need-returns-2
 unfolding doorReturns wellLent otherDoor otherFields
 returns-2 c =
     let checked = c .before .before .before .before .before .work-cst-other in
-    other-call
+    work-other (now (c .before .before .before .before .before .before .before .before .before .before .before .before .before .args .words))
     (rw (eq-eqb (length (c .before .before .before .before .before .before .before .before .before .before .before .before .before .args .answer .now)) 16 (omega arith))
     (refl, c .before .before .write-answer .ensures ∙ ap (answerAfter _) (c .before .before .before .before .of-checked .ensures ∙ rw (checked .ensures .0, checked .ensures .1))))
 

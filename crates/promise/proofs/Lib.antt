@@ -1,0 +1,5 @@
+pub mod Trees
+pub mod Causes
+pub mod Kept
+pub mod Doors
+pub mod Yard
