@@ -37,7 +37,8 @@ static void check_words(FILE *to, const struct table *t, struct star_answer a) {
     told(to, &next);
 }
 
-static void check_json(FILE *to, const struct table *t, struct star_answer a, const struct options *with, int status) {
+static void check_json(FILE *to, const struct table *t, struct star_answer a,
+                       const struct options *with, int status) {
     struct json j;
     json_begin(&j, to, with, verdict_name(a), status);
     verdict_json(&j, t, a);
@@ -45,10 +46,12 @@ static void check_json(FILE *to, const struct table *t, struct star_answer a, co
 }
 
 int command_check(struct table *t, const struct options *with, struct output *o) {
-    static const int status[] = {[STAR_PASSED] = EXIT_PASSED, [STAR_LIGHTER] = EXIT_LIGHTER, [STAR_REFUSED] = EXIT_REFUSED};
+    static const int status[] = {
+        [STAR_PASSED] = EXIT_PASSED, [STAR_LIGHTER] = EXIT_LIGHTER, [STAR_REFUSED] = EXIT_REFUSED};
     struct star_answer a = table_cst(t);
     FILE *to;
-    if (with->json && with->certificate) return misused("an object or a certificate is written, and not both, by", "check");
+    if (with->json && with->certificate)
+        return misused("an object or a certificate is written, and not both, by", "check");
     to = output_open(o);
     if (!to) return EXIT_UNWRITTEN;
     if (with->certificate && certificate_write(to, t, a)) return status[a.kind];
@@ -58,10 +61,14 @@ int command_check(struct table *t, const struct options *with, struct output *o)
 }
 
 /* What the marks cost before they were replaced. */
-static void say_saving(struct message *to, struct star_answer before, int64_t marked, int64_t total) {
+static void say_saving(struct message *to, struct star_answer before, int64_t marked,
+                       int64_t total) {
     char figures[2][FIGURES];
     say(to, "The marked trenches cost %s", amount_figures(figures[0], marked));
-    if (before.kind == STAR_REFUSED) say(to, " by the console's own sum, and are no network: they %s", before.number == STAR_BAD_MARK_COUNT ? "are not one fewer than the junctions" : "do not reach every junction");
+    if (before.kind == STAR_REFUSED)
+        say(to, " by the console's own sum, and are no network: they %s",
+            before.number == STAR_BAD_MARK_COUNT ? "are not one fewer than the junctions"
+                                                 : "do not reach every junction");
     else if (marked == total) say(to, " too");
     else say(to, ": these save %s", amount_figures(figures[1], marked - total));
     say(to, ".");
@@ -75,9 +82,12 @@ struct marked {
 };
 
 /* Whether something can be said of them: the table is sound, and some trench was marked. */
-static int had_marks(const struct marked *m) { return m->marks > 0 && (m->answer.kind != STAR_REFUSED || refusal_of_plan(m->answer)); }
+static int had_marks(const struct marked *m) {
+    return m->marks > 0 && (m->answer.kind != STAR_REFUSED || refusal_of_plan(m->answer));
+}
 
-static void build_words(FILE *to, const struct table *t, struct star_answer a, const struct marked *m) {
+static void build_words(FILE *to, const struct table *t, struct star_answer a,
+                        const struct marked *m) {
     struct message words = {{0}, 0};
     char figures[FIGURES];
     table_list(to, t, t->mark, 1, t->m);
@@ -86,7 +96,8 @@ static void build_words(FILE *to, const struct table *t, struct star_answer a, c
     told(to, &words);
 }
 
-static void build_json(FILE *to, const struct table *t, struct star_answer a, const struct marked *m, const struct options *with) {
+static void build_json(FILE *to, const struct table *t, struct star_answer a,
+                       const struct marked *m, const struct options *with) {
     struct json j;
     json_begin(&j, to, with, "built", EXIT_PASSED);
     json_number(&j, "total", a.amount);
@@ -128,9 +139,10 @@ int command_table(struct table *t, const struct options *with, struct output *o)
     return a.kind != STAR_REFUSED || refusal_of_plan(a) ? edit_marks(o, t) : refused(t, a);
 }
 
-/* A picture with what check says of the plan. A plan that is refused is drawn, since its table is sound, and its refusal is told; where no
-   trench is marked there is no plan to refuse. */
-static int picture(struct table *t, struct output *o, void (*paint)(FILE *, const struct picture *)) {
+/* A picture with what check says of the plan. A plan that is refused is drawn, since its table is
+   sound, and its refusal is told; where no trench is marked there is no plan to refuse. */
+static int picture(struct table *t, struct output *o,
+                   void (*paint)(FILE *, const struct picture *)) {
     struct star_answer a = table_cst(t);
     struct picture p = {t, 0, 0, {{0}, 0}, 0};
     char amount[FIGURES];

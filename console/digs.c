@@ -1,5 +1,5 @@
-/* The command digs: the dig list for the site, as the door writes it. A refusal is the list's only line, as the program diglist prints it, and
-   stands in words on standard error. */
+/* The command digs: the dig list for the site, as the door writes it. A refusal is the list's only
+   line, as the program diglist prints it, and stands in words on standard error. */
 #include <inttypes.h>
 #include <stdlib.h>
 #include <string.h>
@@ -10,18 +10,22 @@
 #include "status.h"
 
 /* The lines of the list as an object: the trench whose number opens each, and the total. */
-static void digs_json(FILE *to, const struct table *t, const char *list, const struct options *with) {
+static void digs_json(FILE *to, const struct table *t, const char *list,
+                      const struct options *with) {
     struct json j;
     json_begin(&j, to, with, "built", EXIT_PASSED);
     json_open(&j, "rows", '[');
-    for (; *list != 'T'; list = strchr(list, '\n') + 1) json_trench(&j, NULL, t, strtoul(list, NULL, 10));
+    for (; *list != 'T'; list = strchr(list, '\n') + 1)
+        json_trench(&j, NULL, t, strtoul(list, NULL, 10));
     json_close(&j, ']');
     json_number(&j, "total", strtoll(list + strlen("Total "), NULL, 10));
     json_end(&j);
 }
 
-/* A refusal: the list's only line and its words beside it, or an object. What is wrong with a text was told when it was read. */
-static int refused(struct output *o, const struct table *t, struct star_answer a, const struct options *with) {
+/* A refusal: the list's only line and its words beside it, or an object. What is wrong with a text
+   was told when it was read. */
+static int refused(struct output *o, const struct table *t, struct star_answer a,
+                   const struct options *with) {
     struct message words = {{0}, 0};
     int told = t->stp && a.number != STAR_NO_NETWORK;
     FILE *to = output_open(o);
@@ -29,7 +33,8 @@ static int refused(struct output *o, const struct table *t, struct star_answer a
     if (!told) refusal_words(&words, t, a);
     if (with->json) json_fault(to, with, EXIT_REFUSED, told ? fault_last() : words.text);
     else {
-        fprintf(to, "Refused %u %" PRIu64 "\n", a.number, t->stp ? (uint64_t)a.amount : (uint64_t)a.out);
+        fprintf(to, "Refused %u %" PRIu64 "\n", a.number,
+                t->stp ? (uint64_t)a.amount : (uint64_t)a.out);
         if (!told) fault_tell(&words);
     }
     return EXIT_REFUSED;

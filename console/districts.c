@@ -1,5 +1,5 @@
-/* The command districts: the cheapest trenches of each district, a run of the file's trenches, and a cheapest network of the city from these. Both come
-   from one door. */
+/* The command districts: the cheapest trenches of each district, a run of the file's trenches, and
+   a cheapest network of the city from these. Both come from one door. */
 #include <string.h>
 
 #include "commands.h"
@@ -20,14 +20,18 @@ static int ends_read(const struct options *with, uint32_t ends[ENDS]) {
     for (i = 0; i < with->count; i++) {
         struct span word = {with->words[i], strlen(with->words[i])};
         uint32_t end;
-        if (!text_number(word, &end)) return misused("a district is given by the number of its last trench, and not by", with->words[i]);
+        if (!text_number(word, &end))
+            return misused("a district is given by the number of its last trench, and not by",
+                           with->words[i]);
         if (i < ENDS) ends[i] = end;
     }
     return 0;
 }
 
-/* Why the ends are no districts of the table. They are told as they were given: two that are read as UINT32_MAX, the largest, may differ. */
-static void say_runs(struct message *to, const struct table *t, const uint32_t *ends, const struct options *with) {
+/* Why the ends are no districts of the table. They are told as they were given: two that are read
+   as UINT32_MAX, the largest, may differ. */
+static void say_runs(struct message *to, const struct table *t, const uint32_t *ends,
+                     const struct options *with) {
     size_t count = (size_t)with->count, i;
     refusal_opens(to, STAR_BAD_RUNS, t->file, 0);
     if (count > STAR_MAX_RUNS) {
@@ -46,7 +50,11 @@ static void say_runs(struct message *to, const struct table *t, const uint32_t *
             }
             return;
         }
-    if (count == 0) say(to, "no district is given; each is given by the number of its last trench, the last one by %zu.", t->m);
+    if (count == 0)
+        say(to,
+            "no district is given; each is given by the number of its last trench, the last one by "
+            "%zu.",
+            t->m);
     else {
         say(to, "the last district ends with trench ");
         say_given(to, with->words[count - 1]);
@@ -54,7 +62,8 @@ static void say_runs(struct message *to, const struct table *t, const uint32_t *
     }
 }
 
-static int refused(struct output *o, const struct table *t, struct star_answer a, const uint32_t *ends, const struct options *with) {
+static int refused(struct output *o, const struct table *t, struct star_answer a,
+                   const uint32_t *ends, const struct options *with) {
     struct message words = {{0}, 0};
     if (a.number == STAR_BAD_RUNS) say_runs(&words, t, ends, with);
     else refusal_words(&words, t, a);
@@ -68,11 +77,13 @@ static void total(FILE *to, int64_t amount) {
 
 static size_t first_of(const uint32_t *ends, size_t i) { return i ? ends[i - 1] + (size_t)1 : 1; }
 
-static void districts_words(FILE *to, const struct table *t, const uint32_t *ends, size_t count, int64_t amount) {
+static void districts_words(FILE *to, const struct table *t, const uint32_t *ends, size_t count,
+                            int64_t amount) {
     size_t i;
     for (i = 0; i < count; i++) {
         size_t first = first_of(ends, i);
-        if (first < ends[i]) fprintf(to, "District %zu, trenches %zu to %u:\n", i + 1, first, (unsigned)ends[i]);
+        if (first < ends[i])
+            fprintf(to, "District %zu, trenches %zu to %u:\n", i + 1, first, (unsigned)ends[i]);
         else fprintf(to, "District %zu, trench %zu:\n", i + 1, first);
         total(to, table_list(to, t, forests, first, ends[i]));
     }
@@ -91,7 +102,8 @@ static int64_t sum(const struct table *t, size_t first, size_t last) {
     return amount;
 }
 
-static void districts_json(FILE *to, const struct table *t, const uint32_t *ends, int64_t amount, const struct options *with) {
+static void districts_json(FILE *to, const struct table *t, const uint32_t *ends, int64_t amount,
+                           const struct options *with) {
     struct json j;
     size_t i;
     json_begin(&j, to, with, "built", EXIT_PASSED);

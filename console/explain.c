@@ -1,4 +1,5 @@
-/* The command explain: why a plan is a network or none, and why each trench that is left out is held against one trench of its detour alone. */
+/* The command explain: why a plan is a network or none, and why each trench that is left out is
+   held against one trench of its detour alone. */
 #include "explain.h"
 
 #include "refusal.h"
@@ -14,7 +15,8 @@ static void line(FILE *to, struct message *words) {
 }
 
 /* One trench that is left out. */
-static void left_out(FILE *to, const struct table *t, size_t i, const struct detour *d, int64_t total) {
+static void left_out(FILE *to, const struct table *t, size_t i, const struct detour *d,
+                     int64_t total) {
     struct message words = {{0}, 0};
     char sum[FIGURES], dearest[FIGURES];
     say_trench(&words, t, i);
@@ -24,12 +26,14 @@ static void left_out(FILE *to, const struct table *t, size_t i, const struct det
     detour_stops(&words, d->stop, d->count + 1);
     say(&words, ")");
     line(to, &words);
-    say(&words, "  sum %s, does not count; dearest %s (trench %u); ", amount_figures(sum, d->sum), table_price(dearest, t, d->dearest), d->dearest);
+    say(&words, "  sum %s, does not count; dearest %s (trench %u); ", amount_figures(sum, d->sum),
+        table_price(dearest, t, d->dearest), d->dearest);
     detour_compared(&words, t, i, d, total);
     line(to, &words);
 }
 
-/* The trenches that are left out, those that save money first and those that cost as much next; all of them, or the first few. */
+/* The trenches that are left out, those that save money first and those that cost as much next; all
+   of them, or the first few. */
 static void each_left_out(FILE *to, const struct table *t, struct paths *p, int all) {
     static struct detour d;
     size_t count[STANDINGS] = {0, 0, 0}, shown = 0, hidden = 0, i;
@@ -38,18 +42,22 @@ static void each_left_out(FILE *to, const struct table *t, struct paths *p, int 
     int standing;
     for (standing = CHEAPER; standing < STANDINGS; standing++)
         for (i = table_next(t, 0); i <= t->m; i = table_next(t, i)) {
-            if (t->mark[i - 1] == 1 || !detour_of(&d, p, t, i) || (int)d.standing != standing) continue;
+            if (t->mark[i - 1] == 1 || !detour_of(&d, p, t, i) || (int)d.standing != standing)
+                continue;
             if (all || shown < EXPLAINED) shown++, left_out(to, t, i, &d, total);
             else count[standing]++, hidden++;
         }
     if (shown == 0) say(&words, "No trench is left out.");
     if (hidden > 0)
-        say(&words, "%zu more are left out: %zu that save, %zu that cost as much as the dearest of their detour, %zu that cost more. Name one to have it explained, or say --all.",
+        say(&words,
+            "%zu more are left out: %zu that save, %zu that cost as much as the dearest of their "
+            "detour, %zu that cost more. Name one to have it explained, or say --all.",
             hidden, count[CHEAPER], count[EQUAL], count[DEARER]);
     line(to, &words);
 }
 
-size_t explain_instead(const struct table *t, struct paths *p, size_t i, unsigned instead[STAR_MAX_ROWS], unsigned *cheapest) {
+size_t explain_instead(const struct table *t, struct paths *p, size_t i,
+                       unsigned instead[STAR_MAX_ROWS], unsigned *cheapest) {
     static struct detour d;
     size_t count = 0, k, j;
     *cheapest = 0;
@@ -72,14 +80,20 @@ static void marked(FILE *to, const struct table *t, struct paths *p, size_t i) {
     char own[FIGURES], least[FIGURES];
     say_trench(&words, t, i);
     if (count == 0) {
-        say(&words, " is of the plan, and on no detour: no other trench joins what it joins, so it is in every network.");
+        say(&words, " is of the plan, and on no detour: no other trench joins what it joins, so it "
+                    "is in every network.");
     } else {
         say(&words, " is of the plan. It is on the detour of ");
         detour_rows(&words, instead, count);
-        say(&words, ", which could come in for it;\n  the cheapest of them costs %s (trench %u); ", table_price(least, t, cheapest), cheapest);
+        say(&words, ", which could come in for it;\n  the cheapest of them costs %s (trench %u); ",
+            table_price(least, t, cheapest), cheapest);
         table_price(own, t, i);
-        if (table_cost(t, i) < table_cost(t, cheapest)) say(&words, "%s < %s: it stays", own, least);
-        else if (table_cost(t, i) == table_cost(t, cheapest)) say(&words, "%s = %s: the exchange gives another network of the same total, no contradiction", own, least);
+        if (table_cost(t, i) < table_cost(t, cheapest))
+            say(&words, "%s < %s: it stays", own, least);
+        else if (table_cost(t, i) == table_cost(t, cheapest))
+            say(&words,
+                "%s = %s: the exchange gives another network of the same total, no contradiction",
+                own, least);
         else say(&words, "%s > %s: the exchange is cheaper", own, least);
     }
     line(to, &words);
@@ -97,8 +111,10 @@ static void network(FILE *to, const struct table *t, size_t trench, int all) {
         return;
     }
     say_count(&words, table_marks(t), "marked trench joins", "marked trenches join");
-    say(&words, " all %u junctions, for %s in all.\n", (unsigned)t->n, amount_figures(total, table_plan_total(t)));
-    say(&words, "A trench that is left out is held against the dearest trench of its detour, the way around over marked trenches, and against nothing else.");
+    say(&words, " all %u junctions, for %s in all.\n", (unsigned)t->n,
+        amount_figures(total, table_plan_total(t)));
+    say(&words, "A trench that is left out is held against the dearest trench of its detour, the "
+                "way around over marked trenches, and against nothing else.");
     line(to, &words);
     if (trench == 0) each_left_out(to, t, &p, all);
     else if (t->mark[trench - 1] == 1) marked(to, t, &p, trench);
@@ -116,21 +132,27 @@ static void no_network(FILE *to, const struct table *t, int all) {
 /* The trench that is named, of a table or a plan that is refused. */
 static void not_looked_at(FILE *to, size_t trench, struct star_answer a) {
     fprintf(to, "Trench %zu was not looked at: the %s.\n", trench,
-            refusal_of_plan(a) ? "marks are no network, so that no trench has a detour" : "table is refused");
+            refusal_of_plan(a) ? "marks are no network, so that no trench has a detour"
+                               : "table is refused");
 }
 
 void explain_limit(struct message *to) {
-    say(to, "A junction's code is one byte. A byte has 256 codes, 0 to 255, and code 0 is no junction: %d are left, 1 to %d.", STAR_MAX_JUNCTIONS, STAR_MAX_JUNCTIONS);
+    say(to,
+        "A junction's code is one byte. A byte has 256 codes, 0 to 255, and code 0 is no junction: "
+        "%d are left, 1 to %d.",
+        STAR_MAX_JUNCTIONS, STAR_MAX_JUNCTIONS);
 }
 
 /* The trench that is named; 0 for none. */
 static int trench_asked(const struct options *with, uint32_t *trench) {
     *trench = 0;
-    if (with->count > 1) return misused("one trench is explained, and there is also", with->words[1]);
+    if (with->count > 1)
+        return misused("one trench is explained, and there is also", with->words[1]);
     return with->count == 1 ? trench_named(with->words[0], trench) : 0;
 }
 
-static void explain_words(FILE *to, const struct table *t, struct star_answer a, size_t trench, const struct options *with) {
+static void explain_words(FILE *to, const struct table *t, struct star_answer a, size_t trench,
+                          const struct options *with) {
     struct message words = {{0}, 0};
     if (a.kind != STAR_REFUSED) network(to, t, trench, with->all);
     else if (refusal_of_plan(a)) no_network(to, t, with->all);
@@ -150,7 +172,8 @@ int command_explain(struct table *t, const struct options *with, struct output *
     int status = trench_asked(with, &trench);
     FILE *to;
     if (status != 0) return status;
-    if ((a.kind != STAR_REFUSED || refusal_of_plan(a)) && with->count == 1 && !refusal_has_trench(t, trench)) {
+    if ((a.kind != STAR_REFUSED || refusal_of_plan(a)) && with->count == 1 &&
+        !refusal_has_trench(t, trench)) {
         refusal_of_asked(&words, t, trench, with->words[0]);
         return tell_refused(o, with, &words);
     }

@@ -6,8 +6,10 @@
 
 static const char *const STANDING[STANDINGS] = {"cheaper", "equal", "dearer"};
 
-/* A trench that is left out, and the total that its exchange for the dearest of its detour would give. */
-static void left_out(struct json *j, const struct table *t, size_t i, const struct detour *d, int64_t total) {
+/* A trench that is left out, and the total that its exchange for the dearest of its detour would
+   give. */
+static void left_out(struct json *j, const struct table *t, size_t i, const struct detour *d,
+                     int64_t total) {
     json_trench_open(j, NULL, t, i);
     json_truth(j, "marked", 0);
     json_numbers(j, "detour", d->row, d->count);
@@ -39,7 +41,8 @@ static size_t each_left_out(struct json *j, const struct table *t, struct paths 
     int standing;
     for (standing = CHEAPER; standing < STANDINGS; standing++)
         for (i = table_next(t, 0); i <= t->m; i = table_next(t, i)) {
-            if (t->mark[i - 1] == 1 || !detour_of(&d, p, t, i) || (int)d.standing != standing) continue;
+            if (t->mark[i - 1] == 1 || !detour_of(&d, p, t, i) || (int)d.standing != standing)
+                continue;
             if (!all && shown == EXPLAINED) hidden++;
             else {
                 left_out(j, t, i, &d, total);
@@ -62,7 +65,8 @@ static void rows(struct json *j, const struct table *t, size_t trench, int all) 
     json_number(j, "hidden", (int64_t)hidden);
 }
 
-void explain_json(FILE *to, const struct table *t, struct star_answer a, size_t trench, const struct options *with, int status) {
+void explain_json(FILE *to, const struct table *t, struct star_answer a, size_t trench,
+                  const struct options *with, int status) {
     struct json j;
     json_begin(&j, to, with, verdict_name(a), status);
     verdict_json(&j, t, a);

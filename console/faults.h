@@ -1,4 +1,5 @@
-/* Faults in words on standard error. The last one is remembered for the object that --json writes. */
+/* Faults in words on standard error. The last one is remembered for the object that --json writes.
+ */
 #ifndef CONSOLE_FAULTS_H
 #define CONSOLE_FAULTS_H
 

@@ -21,7 +21,8 @@ static const char NOTES[] =
     "Status: 0 done, 1 a cheaper set exists, 2 refused, 3 the input could not be\n"
     "read, 4 wrong usage, 5 the output could not be written.\n";
 
-/* Writes one paragraph from a column on, on lines of at most WIDE columns, and gives where the next one begins. */
+/* Writes one paragraph from a column on, on lines of at most WIDE columns, and gives where the next
+   one begins. */
 static const char *paragraph(FILE *to, const char *text, size_t len, size_t indent) {
     const char *end = text + len;
     size_t column = indent;
@@ -99,7 +100,8 @@ void help_of(FILE *to, const struct page *p) {
     const struct option *o;
     fprintf(to, "usage: star %s", p->name);
     for (o = OPTIONS; o->name; o++)
-        if (page_has(p, o->name) && strcmp(o->name, "--help") != 0) fprintf(to, " [%s%s%s]", o->name, o->value[0] ? " " : "", o->value);
+        if (page_has(p, o->name) && strcmp(o->name, "--help") != 0)
+            fprintf(to, " [%s%s%s]", o->name, o->value[0] ? " " : "", o->value);
     fprintf(to, " %s\n", p->words);
     while (*text) {
         putc('\n', to);

@@ -1,4 +1,5 @@
-/* The help: of all commands, on 80 columns and 40 lines, and of one. Both are made from the table of commands. */
+/* The help: of all commands, on 80 columns and 40 lines, and of one. Both are made from the table
+   of commands. */
 #ifndef CONSOLE_HELP_H
 #define CONSOLE_HELP_H
 

@@ -7,9 +7,18 @@
 #include "refusal.h"
 #include "status.h"
 
-/* The bytes of a letter in UTF-8 that stands at the front of a text; 0 where none does. */
+/* The bytes that a letter in UTF-8 has by its first one; 0 where no letter opens so. */
+static size_t letter_opened(unsigned char first) {
+    if (first < 0x80) return 1;
+    if (first >= 0xc2 && first < 0xe0) return 2;
+    if (first >= 0xe0 && first < 0xf0) return 3;
+    return first >= 0xf0 && first < 0xf5 ? 4 : 0;
+}
+
+/* The bytes of a letter in UTF-8 that stands at the front of a text; 0 where none does: also where
+   it could be shorter, is half of a pair, or is above the last letter. */
 static size_t letter(const unsigned char *at) {
-    size_t len = at[0] < 0x80 ? 1 : at[0] >= 0xc2 && at[0] < 0xe0 ? 2 : at[0] >= 0xe0 && at[0] < 0xf0 ? 3 : at[0] >= 0xf0 && at[0] < 0xf5 ? 4 : 0, k;
+    size_t len = letter_opened(at[0]), k;
     for (k = 1; k < len; k++)
         if (at[k] < 0x80 || at[k] > 0xbf) return 0;
     if ((at[0] == 0xe0 && at[1] < 0xa0) || (at[0] == 0xed && at[1] > 0x9f)) return 0;
@@ -88,7 +97,8 @@ void json_trench(struct json *j, const char *key, const struct table *t, size_t 
     json_close(j, '}');
 }
 
-void json_rows(struct json *j, const char *key, const struct table *t, const uint8_t *mark, size_t from, size_t last) {
+void json_rows(struct json *j, const char *key, const struct table *t, const uint8_t *mark,
+               size_t from, size_t last) {
     size_t i;
     json_open(j, key, '[');
     for (i = table_next(t, from - 1); i <= last && i <= t->m; i = table_next(t, i))
@@ -96,7 +106,8 @@ void json_rows(struct json *j, const char *key, const struct table *t, const uin
     json_close(j, ']');
 }
 
-void json_begin(struct json *j, FILE *to, const struct options *with, const char *verdict, int status) {
+void json_begin(struct json *j, FILE *to, const struct options *with, const char *verdict,
+                int status) {
     j->to = to;
     j->any = 0;
     json_open(j, NULL, '{');
@@ -120,7 +131,8 @@ void json_refusal(struct json *j, const char *words) {
 }
 
 void json_fault(FILE *to, const struct options *with, int status, const char *words) {
-    static const char *const verdicts[] = {[EXIT_REFUSED] = "refused", [EXIT_UNREADABLE] = "unreadable", [EXIT_USAGE] = "misused"};
+    static const char *const verdicts[] = {
+        [EXIT_REFUSED] = "refused", [EXIT_UNREADABLE] = "unreadable", [EXIT_USAGE] = "misused"};
     struct json j;
     json_begin(&j, to, with, verdicts[status], status);
     if (status == EXIT_REFUSED) json_refusal(&j, words);
@@ -128,7 +140,8 @@ void json_fault(FILE *to, const struct options *with, int status, const char *wo
     json_end(&j);
 }
 
-int json_beside(struct json *j, struct output *own, const struct options *with, const char *verdict) {
+int json_beside(struct json *j, struct output *own, const struct options *with,
+                const char *verdict) {
     struct output standard = {0};
     FILE *to;
     *own = standard;

@@ -1,5 +1,6 @@
-/* A planner's console over the door: checks a marked network, builds a least one, explains and draws it, answers questions about prices and plans,
-   and changes its table. This file reads the command line. */
+/* A planner's console over the door: checks a marked network, builds a least one, explains and
+   draws it, answers questions about prices and plans, and changes its table. This file reads the
+   command line. */
 #include <stdio.h>
 #include <string.h>
 
@@ -15,10 +16,21 @@
 struct command {
     const char *name;
     int (*run)(struct table *t, const struct options *with, struct output *o);
-    const char *takes; /* what it takes beside a file: c --certificate, t --table, a --all, s --steps, j --json, w words */
-    enum needs { FILE_ALONE, PLAN, LINES, TEXT } needs; /* marks, or lines that can be changed, which an STP file has not; its text, refused or not */
-    enum result { WORDS, WRITING, TABLE } result; /* words, of which a refusal is one too, or a file, or one that is a table */
-    const char *plan;  /* what it does with a plan; NULL where it needs none */
+    const char *takes; /* what it takes beside a file: c --certificate, t --table, a --all, s
+                          --steps, j --json, w words */
+    enum needs {
+        FILE_ALONE,
+        PLAN,
+        LINES,
+        TEXT
+    } needs; /* marks, or lines that can be changed, which an STP file has not; its text, refused or
+                not */
+    enum result {
+        WORDS,
+        WRITING,
+        TABLE
+    } result;         /* words, of which a refusal is one too, or a file, or one that is a table */
+    const char *plan; /* what it does with a plan; NULL where it needs none */
 };
 
 static const struct command COMMANDS[] = {
@@ -62,7 +74,9 @@ static const struct command *find(const char *name) {
     return NULL;
 }
 
-static int takes(const struct request *r, char what) { return strchr(r->command->takes, what) != NULL; }
+static int takes(const struct request *r, char what) {
+    return strchr(r->command->takes, what) != NULL;
+}
 
 /* The words that are no options: a file, and others where the command takes them. */
 static int operand(struct request *r, char *word, int before) {
@@ -72,7 +86,8 @@ static int operand(struct request *r, char *word, int before) {
     return 0;
 }
 
-/* The word that follows -o. One that opens with - is an option before whose name was forgotten: './-x' names a file. */
+/* The word that follows -o. One that opens with - is an option before whose name was forgotten:
+   './-x' names a file. */
 static int output_named(struct request *r, const char *word) {
     if (!word || (word[0] == '-' && word[1] != '\0')) return misused("no file follows", "-o");
     if (r->outputs++ > 0) return misused("one output is written, and there is also", word);
@@ -104,9 +119,14 @@ static int options(struct request *r, char **words) {
         } else return misused("unknown option", word);
     }
     if (r->with.json && r->command->result == TABLE && !r->out.file && !r->help)
-        return misused("the object of --json goes to standard output, and the file to '-o FILE', which is missing after", r->command->name);
-    if (r->with.json && r->with.table) return misused("an object or a table is written, and not both, by", r->command->name);
-    if (r->out.file && !r->file && !r->help) return misused("no file is named to be read, which may be '-', and the output goes to", r->out.file);
+        return misused("the object of --json goes to standard output, and the file to '-o FILE', "
+                       "which is missing after",
+                       r->command->name);
+    if (r->with.json && r->with.table)
+        return misused("an object or a table is written, and not both, by", r->command->name);
+    if (r->out.file && !r->file && !r->help)
+        return misused("no file is named to be read, which may be '-', and the output goes to",
+                       r->out.file);
     return 0;
 }
 
@@ -116,33 +136,47 @@ static int run(struct request *r) {
     struct message fault = {{0}, 0};
     int status = input_open(&in, r->file, &fault), over;
     r->with.file = in.file;
-    over = status == 0 ? output_spares(&r->out, in.id, r->command->name, !in.stp && (r->command->result == TABLE || r->with.table)) : 0;
+    over = status == 0 ? output_spares(&r->out, in.id, r->command->name,
+                                       !in.stp && (r->command->result == TABLE || r->with.table))
+                       : 0;
     if (over != 0) {
         input_close(&in);
         return over;
     }
     if (status == 0 && in.stp && (r->command->needs == PLAN || r->command->needs == LINES)) {
         say_place(&fault, in.file, 0);
-        if (r->command->needs == LINES) say(&fault, "an STP file is not changed. 'star table' writes a table, whose lines %s can change.", r->command->name);
-        else say(&fault, "an STP file marks no trench, so there is no plan to %s. 'star build' chooses the cheapest trenches;\n"
-                         "'star table' writes a table in which the trenches of the plan can be marked.", r->command->plan);
+        if (r->command->needs == LINES)
+            say(&fault,
+                "an STP file is not changed. 'star table' writes a table, whose lines %s can "
+                "change.",
+                r->command->name);
+        else
+            say(&fault,
+                "an STP file marks no trench, so there is no plan to %s. 'star build' chooses the "
+                "cheapest trenches;\n"
+                "'star table' writes a table in which the trenches of the plan can be marked.",
+                r->command->plan);
         status = EXIT_UNREADABLE;
     }
     if (status == 0) status = input_table(&in, &t, &fault);
     if (status == 0) {
         status = r->command->run(&t, &r->with, &r->out);
-    } else if (status == EXIT_REFUSED && r->command->needs == TEXT) { /* the list of a text that is refused has one line, and the words stand beside it */
+    } else if (status == EXIT_REFUSED &&
+               r->command->needs == TEXT) { /* the list of a text that is refused has one line, and
+                                               the words stand beside it */
         fault_tell(&fault);
         status = r->command->run(&t, &r->with, &r->out);
     } else {
-        if (status == EXIT_REFUSED && r->command->result == WORDS) status = tell_refused(&r->out, &r->with, &fault);
+        if (status == EXIT_REFUSED && r->command->result == WORDS)
+            status = tell_refused(&r->out, &r->with, &fault);
         else fault_tell(&fault);
     }
     input_close(&in);
     return status;
 }
 
-/* Writes what the console says of itself to standard output, so that no plan is replaced by it: the help of a command, or of all where it is NULL. */
+/* Writes what the console says of itself to standard output, so that no plan is replaced by it: the
+   help of a command, or of all where it is NULL. */
 static int tell_help(struct request *r) {
     const struct page *p = r->command ? page_of(r->command->name) : NULL;
     FILE *to;
@@ -161,7 +195,14 @@ static int tell_version(struct request *r) {
     return EXIT_PASSED;
 }
 
-/* The object of a fault that ends the command before its result. */
+/* Whether a fault ended the command before its result: a refusal is the result where that is words.
+ */
+static int fault_ends(const struct request *r, int status) {
+    if (status == EXIT_REFUSED) return r->command->result == TABLE;
+    return status == EXIT_UNREADABLE || status == EXIT_USAGE;
+}
+
+/* The object of such a fault. */
 static int tell_fault(struct request *r, int status) {
     FILE *to;
     r->out.file = NULL;
@@ -178,7 +219,9 @@ static int asks_json(const struct request *r, char **words) {
     return 0;
 }
 
-static int asks_help(const char *word) { return strcmp(word, "--help") == 0 || strcmp(word, "-h") == 0 || strcmp(word, "help") == 0; }
+static int asks_help(const char *word) {
+    return strcmp(word, "--help") == 0 || strcmp(word, "-h") == 0 || strcmp(word, "help") == 0;
+}
 
 int main(int count, char **words) {
     static struct request r; /* nothing is asked for yet */
@@ -203,6 +246,6 @@ int main(int count, char **words) {
         return misused(words[1][0] == '-' ? "unknown option" : "unknown command", words[1]);
     }
     if (status > EXIT_REFUSED) output_drop(&r.out);
-    if (r.with.json && (status == EXIT_UNREADABLE || status == EXIT_USAGE || (status == EXIT_REFUSED && r.command->result == TABLE))) return tell_fault(&r, status);
+    if (r.with.json && fault_ends(&r, status)) return tell_fault(&r, status);
     return output_close(&r.out) ? status : EXIT_UNWRITTEN;
 }

@@ -1,5 +1,5 @@
-/* The command mend: the file with its plan made a cheapest network, what changed in the end, and each step where it is asked for. The door decides on
-   the steps; the lines of the file follow. */
+/* The command mend: the file with its plan made a cheapest network, what changed in the end, and
+   each step where it is asked for. The door decides on the steps; the lines of the file follow. */
 #include <string.h>
 
 #include "commands.h"
@@ -27,7 +27,8 @@ static void say_step(struct message *to, const struct table *t, struct star_reco
         say_trench(to, t, step.out);
         say(to, " for ");
         say_trench(to, t, step.in);
-        say(to, ": saves %s", amount_figures(saving, table_cost(t, step.out) - table_cost(t, step.in)));
+        say(to, ": saves %s",
+            amount_figures(saving, table_cost(t, step.out) - table_cost(t, step.in)));
     }
 }
 
@@ -59,10 +60,20 @@ static void tell(const struct table *t, const struct past *past) {
     changed += tell_changed(t, past->mark, 1);
     amount_figures(before, past->cost);
     amount_figures(now, table_plan_total(t));
-    if (changed == 0) fprintf(stderr, "There is nothing to mend: the plan is a cheapest network. Total %s.\n", now);
-    else if (past->network) fprintf(stderr, "The plan's total was %s and is %s now: no network is cheaper.\n", before, now);
-    else if (past->marks == 0) fprintf(stderr, "No trench was marked. The plan's total is %s now: no network is cheaper.\n", now);
-    else fprintf(stderr, "The marked trenches were no network, and cost %s by the console's own sum. The plan's total is %s now: no network is cheaper.\n", before, now);
+    if (changed == 0)
+        fprintf(stderr, "There is nothing to mend: the plan is a cheapest network. Total %s.\n",
+                now);
+    else if (past->network)
+        fprintf(stderr, "The plan's total was %s and is %s now: no network is cheaper.\n", before,
+                now);
+    else if (past->marks == 0)
+        fprintf(stderr,
+                "No trench was marked. The plan's total is %s now: no network is cheaper.\n", now);
+    else
+        fprintf(stderr,
+                "The marked trenches were no network, and cost %s by the console's own sum. The "
+                "plan's total is %s now: no network is cheaper.\n",
+                before, now);
 }
 
 static void tell_steps(const struct table *t, size_t steps) {
@@ -75,15 +86,18 @@ static void tell_steps(const struct table *t, size_t steps) {
 }
 
 /* The trenches whose marks changed to one state, as a list. */
-static void json_changed(struct json *j, const char *key, const struct table *t, const uint8_t *before, int marked) {
+static void json_changed(struct json *j, const char *key, const struct table *t,
+                         const uint8_t *before, int marked) {
     static uint8_t changed[KEPT];
     size_t i;
-    for (i = 1; i <= t->m; i++) changed[i - 1] = (uint8_t)(before[i - 1] != t->mark[i - 1] && t->mark[i - 1] == marked);
+    for (i = 1; i <= t->m; i++)
+        changed[i - 1] = (uint8_t)(before[i - 1] != t->mark[i - 1] && t->mark[i - 1] == marked);
     json_rows(j, key, t, changed, 1, t->m);
 }
 
 static void json_steps(struct json *j, const struct table *t, size_t steps) {
-    static const char *const names[] = {[STAR_DROPPED] = "dropped", [STAR_ADDED] = "added", [STAR_EXCHANGED] = "exchanged"};
+    static const char *const names[] = {
+        [STAR_DROPPED] = "dropped", [STAR_ADDED] = "added", [STAR_EXCHANGED] = "exchanged"};
     size_t i;
     json_open(j, "steps", '[');
     for (i = 0; i < steps; i++) {
@@ -97,7 +111,8 @@ static void json_steps(struct json *j, const struct table *t, size_t steps) {
 }
 
 /* The object goes to standard output, and the file to the output that is named. */
-static int mend_json(const struct table *t, const struct past *past, size_t steps, const struct options *with) {
+static int mend_json(const struct table *t, const struct past *past, size_t steps,
+                     const struct options *with) {
     struct output own;
     struct json j;
     if (!json_beside(&j, &own, with, "mended")) return EXIT_UNWRITTEN;

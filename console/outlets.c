@@ -1,4 +1,5 @@
-/* The command outlets: a cheapest network with exactly so many trenches at a junction, such as a boiler house; or which numbers are possible. */
+/* The command outlets: a cheapest network with exactly so many trenches at a junction, such as a
+   boiler house; or which numbers are possible. */
 #include <string.h>
 
 #include "commands.h"
@@ -11,12 +12,14 @@
 /* A table that is asked about without a change to the one that was read. */
 static struct table copy;
 
-/* The counts that a network can have at a junction, by asking for each of them: the least and the largest. No network has more there than the table. */
+/* The counts that a network can have at a junction, by asking for each of them: the least and the
+   largest. No network has more there than the table. */
 static void counts(const struct table *t, uint32_t junction, uint32_t *least, uint32_t *largest) {
     uint32_t count, most = 0;
     size_t i;
     int found = 0;
-    for (i = table_next(t, 0); i <= t->m; i = table_next(t, i)) most += t->left[i - 1] == junction || t->right[i - 1] == junction;
+    for (i = table_next(t, 0); i <= t->m; i = table_next(t, i))
+        most += t->left[i - 1] == junction || t->right[i - 1] == junction;
     for (count = 0; count <= most; count++) {
         copy = *t;
         if (table_outlets(&copy, junction, count).kind != STAR_PASSED) continue;
@@ -26,7 +29,8 @@ static void counts(const struct table *t, uint32_t junction, uint32_t *least, ui
     }
 }
 
-static void say_no_outlets(struct message *to, const struct table *t, const uint32_t asked[2], char **words, uint32_t least, uint32_t largest) {
+static void say_no_outlets(struct message *to, const struct table *t, const uint32_t asked[2],
+                           char **words, uint32_t least, uint32_t largest) {
     refusal_opens(to, STAR_NO_OUTLETS, t->file, 0);
     say(to, "no network has exactly ");
     say_given(to, words[1]);
@@ -39,7 +43,8 @@ static void say_no_outlets(struct message *to, const struct table *t, const uint
 }
 
 /* No network has the number that is asked for: those that are possible are told. */
-static int none_has(struct output *o, const struct table *t, const uint32_t asked[2], const struct options *with) {
+static int none_has(struct output *o, const struct table *t, const uint32_t asked[2],
+                    const struct options *with) {
     struct message words = {{0}, 0};
     uint32_t possible[2] = {0, 0};
     struct json j;
@@ -57,7 +62,8 @@ static int none_has(struct output *o, const struct table *t, const uint32_t aske
 }
 
 /* Numbers are told as they were given. */
-static int refused(struct output *o, const struct table *t, struct star_answer a, const uint32_t asked[2], const struct options *with) {
+static int refused(struct output *o, const struct table *t, struct star_answer a,
+                   const uint32_t asked[2], const struct options *with) {
     struct message words = {{0}, 0};
     if (a.number == STAR_NO_OUTLETS) return none_has(o, t, asked, with);
     if (a.number == STAR_BAD_SOURCE) refusal_of_asked_junction(&words, t, with->words[0]);
@@ -71,21 +77,26 @@ static int64_t least_total(const struct table *t) {
     return table_mst1(&copy).amount;
 }
 
-static void outlets_words(FILE *to, const struct table *t, const uint32_t asked[2], int64_t amount) {
+static void outlets_words(FILE *to, const struct table *t, const uint32_t asked[2],
+                          int64_t amount) {
     struct message words = {{0}, 0};
     char figures[2][FIGURES];
     int64_t least = least_total(t);
     say_count(&words, asked[1], "trench", "trenches");
-    fprintf(to, "A cheapest network with exactly %s at junction %u:\n", words.text, (unsigned)asked[0]);
+    fprintf(to, "A cheapest network with exactly %s at junction %u:\n", words.text,
+            (unsigned)asked[0]);
     table_list(to, t, t->mark, 1, t->m);
     fprintf(to, "Total %s\n", amount_figures(figures[0], amount));
-    if (least == amount) fprintf(to, "No network is cheaper, whatever it has at junction %u.\n", (unsigned)asked[0]);
+    if (least == amount)
+        fprintf(to, "No network is cheaper, whatever it has at junction %u.\n", (unsigned)asked[0]);
     else
-        fprintf(to, "With any number at junction %u the cheapest network costs %s: %s less.\n", (unsigned)asked[0], amount_figures(figures[0], least),
+        fprintf(to, "With any number at junction %u the cheapest network costs %s: %s less.\n",
+                (unsigned)asked[0], amount_figures(figures[0], least),
                 amount_figures(figures[1], amount - least));
 }
 
-static void outlets_json(FILE *to, const struct table *t, const uint32_t asked[2], int64_t amount, const struct options *with) {
+static void outlets_json(FILE *to, const struct table *t, const uint32_t asked[2], int64_t amount,
+                         const struct options *with) {
     struct json j;
     json_begin(&j, to, with, "built", EXIT_PASSED);
     json_number(&j, "junction", asked[0]);
@@ -100,12 +111,15 @@ static void outlets_json(FILE *to, const struct table *t, const uint32_t asked[2
 static int question(const struct options *with, uint32_t asked[2]) {
     struct span count;
     int status;
-    if (with->count != 2) return misused("a junction and a number of trenches follow the file of", "outlets");
+    if (with->count != 2)
+        return misused("a junction and a number of trenches follow the file of", "outlets");
     status = junction_asked(with->words[0], &asked[0]);
     if (status != 0) return status;
     count.at = with->words[1];
     count.len = strlen(with->words[1]);
-    return text_number(count, &asked[1]) ? 0 : misused("the trenches at a junction are a number, and not", with->words[1]);
+    return text_number(count, &asked[1])
+               ? 0
+               : misused("the trenches at a junction are a number, and not", with->words[1]);
 }
 
 int command_outlets(struct table *t, const struct options *with, struct output *o) {

@@ -1,5 +1,5 @@
-/* The commands as planners read of them. They are described here and nowhere else: the help, the manual page and the lists of the documents are made from
-   this table (see console/manual). */
+/* The commands as planners read of them. They are described here and nowhere else: the help, the
+   manual page and the lists of the documents are made from this table (see console/manual). */
 #ifndef CONSOLE_PAGES_H
 #define CONSOLE_PAGES_H
 
@@ -14,7 +14,8 @@ struct page {
     const char *example;  /* what follows 'star', over the files of console/examples */
     const char *output;   /* what the example writes, both streams; "" for a picture or nothing */
     const char *statuses; /* a line a status: its number, a blank, what it says of this command */
-    const char *keys;     /* of the object that --json writes beside those of every object; NULL where it writes none */
+    const char *keys; /* of the object that --json writes beside those of every object; NULL where
+                         it writes none */
 };
 
 /* An option, what follows it, and what it does. */
@@ -22,7 +23,8 @@ struct option {
     const char *name, *value, *does;
 };
 
-/* The keys of every object, of a fault, and of a trench, a line a key: its name, a colon, what it says. */
+/* The keys of every object, of a fault, and of a trench, a line a key: its name, a colon, what it
+   says. */
 struct keys {
     const char *name, *lines;
 };
@@ -39,7 +41,8 @@ extern const char *const STATUS_TEXT[STATUSES];
 /* The page of a command, NULL for none. */
 const struct page *page_of(const char *name);
 
-/* What a status says of a command, a line of text, and its length; 0 where the command never ends with it. */
+/* What a status says of a command, a line of text, and its length; 0 where the command never ends
+   with it. */
 size_t page_status(const struct page *p, int status, const char **text);
 
 /* Whether an option is one of a command's own, or one of every command. */

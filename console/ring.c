@@ -1,7 +1,9 @@
-/* Rings and groups of junctions, by asking the doors about a table of its own: the marked trenches at price 0, and behind them rows from junction 1 to every
-   junction at price 1. A cheapest network of it has as few of the added rows as can be, so it keeps all marked trenches but those that close a ring
-   with others; and the path from junction 1 to another has the added row that leads to the other's group, or none. The marked trenches are handed over
-   piece by piece, since the added rows need room: of each piece those that are kept go on. */
+/* Rings and groups of junctions, by asking the doors about a table of its own: the marked trenches
+   at price 0, and behind them rows from junction 1 to every junction at price 1. A cheapest network
+   of it has as few of the added rows as can be, so it keeps all marked trenches but those that
+   close a ring with others; and the path from junction 1 to another has the added row that leads to
+   the other's group, or none. The marked trenches are handed over piece by piece, since the added
+   rows need room: of each piece those that are kept go on. */
 #include "ring.h"
 
 #include <string.h>
@@ -10,7 +12,8 @@
 
 enum { SHOWN = 20 };
 
-/* What the doors were last asked about: the kept trenches, then the added rows; number[k] is the trench that row k + 1 stands for. */
+/* What the doors were last asked about: the kept trenches, then the added rows; number[k] is the
+   trench that row k + 1 stands for. */
 static struct table forest;
 static struct paths paths;
 static unsigned number[STAR_MAX_ROWS];
@@ -28,7 +31,8 @@ static void add_marked(const struct table *t, size_t i) {
     add(t->left[i - 1], t->right[i - 1], 0);
 }
 
-/* Puts a row from junction 1 to each junction that no row yet joins to it, and asks for a cheapest network. */
+/* Puts a row from junction 1 to each junction that no row yet joins to it, and asks for a cheapest
+   network. */
 static int build(void) {
     uint8_t beside[STAR_MAX_JUNCTIONS + 1] = {0};
     size_t i;
@@ -99,7 +103,8 @@ int ring_of(struct ring *r, const struct table *t) {
     forest.n = t->n;
     paths.from = 0;
     do {
-        for (; next <= t->m && forest.m + t->n <= STAR_MAX_ROWS; next = next_marked(t, next)) add_marked(t, next);
+        for (; next <= t->m && forest.m + t->n <= STAR_MAX_ROWS; next = next_marked(t, next))
+            add_marked(t, next);
         if (!build()) return 0;
         keep(r, t);
     } while (next <= t->m);
@@ -128,7 +133,11 @@ void ring_count(struct message *to, const struct table *t) {
     say_count(to, marks, "trench is marked", "trenches are marked");
     say(to, ", and ");
     say_count(to, t->n, "junction needs", "junctions need");
-    if (marks + 1 == t->n) say(to, " %zu: the count is right, and that is not enough. A ring beside a junction that stands apart counts just as well.", marks);
+    if (marks + 1 == t->n)
+        say(to,
+            " %zu: the count is right, and that is not enough. A ring beside a junction that "
+            "stands apart counts just as well.",
+            marks);
     else say(to, " exactly %zu: more close a ring, fewer leave a junction out.", (size_t)t->n - 1);
 }
 
@@ -143,7 +152,11 @@ void ring_words(struct message *to, const struct ring *r) {
 
 void ring_advice(struct message *to, const struct ring *r) {
     if (r->rings == 1) say(to, "Any of its trenches can go, and its junctions stay joined.");
-    if (r->rings > 1) say(to, "Any trench of a ring can go, and its junctions stay joined. Before no ring is left %zu marked trenches have to go.", r->rings);
+    if (r->rings > 1)
+        say(to,
+            "Any trench of a ring can go, and its junctions stay joined. Before no ring is left "
+            "%zu marked trenches have to go.",
+            r->rings);
 }
 
 void ring_group(struct message *to, const struct ring *r, const struct table *t, size_t group) {
@@ -196,7 +209,8 @@ void ring_tell(FILE *to, const struct table *t, int all) {
     rings = all || r.rings < SHOWN ? r.rings : SHOWN;
     groups = all || r.groups < SHOWN ? r.groups : SHOWN;
     for (k = 0; k < rings && ring_nth(&r, t, k); k++) ring_line(to, &r);
-    if (rings < r.rings) fprintf(to, "%zu more rings: 'star explain --all' names each.\n", r.rings - rings);
+    if (rings < r.rings)
+        fprintf(to, "%zu more rings: 'star explain --all' names each.\n", r.rings - rings);
     ring_advice(&words, &r);
     if (r.rings > 0) line(to, &words);
     if (r.groups < 2) return;
@@ -206,7 +220,8 @@ void ring_tell(FILE *to, const struct table *t, int all) {
         ring_group(&words, &r, t, k);
         line(to, &words);
     }
-    if (groups < r.groups) fprintf(to, "%zu more groups: 'star explain --all' names each.\n", r.groups - groups);
+    if (groups < r.groups)
+        fprintf(to, "%zu more groups: 'star explain --all' names each.\n", r.groups - groups);
 }
 
 void ring_json(struct json *j, const struct table *t) {

@@ -1,5 +1,6 @@
-/* The command stretch: the way between two junctions over the plan's trenches, and its dearest one. Where the plan is a cheapest network no other
-   route has a cheaper dearest trench: that is a theorem about every plan that star_cst passes, so that no route is searched here. */
+/* The command stretch: the way between two junctions over the plan's trenches, and its dearest one.
+   Where the plan is a cheapest network no other route has a cheaper dearest trench: that is a
+   theorem about every plan that star_cst passes, so that no route is searched here. */
 #include "commands.h"
 #include "detour.h"
 #include "refusal.h"
@@ -14,7 +15,9 @@ static int ends_named(const struct options *with, uint32_t end[2]) {
     status = junction_asked(with->words[0], &end[0]);
     if (status == 0) status = junction_asked(with->words[1], &end[1]);
     if (status != 0) return status;
-    return end[0] == end[1] && end[0] < UINT32_MAX ? misused("a stretch joins two different junctions, and both are", with->words[0]) : 0;
+    return end[0] == end[1] && end[0] < UINT32_MAX
+               ? misused("a stretch joins two different junctions, and both are", with->words[0])
+               : 0;
 }
 
 /* The word that names no junction of the table; NULL where both do. */
@@ -26,10 +29,12 @@ static const char *not_there(const struct table *t, const uint32_t end[2], char 
 }
 
 /* The other trenches of the way that cost as much as its dearest; gives their number. */
-static size_t as_dear(const struct table *t, const struct detour *d, unsigned row[STAR_MAX_JUNCTIONS]) {
+static size_t as_dear(const struct table *t, const struct detour *d,
+                      unsigned row[STAR_MAX_JUNCTIONS]) {
     size_t count = 0, k;
     for (k = 0; k < d->count; k++)
-        if (d->row[k] != d->dearest && table_cost(t, d->row[k]) == table_cost(t, d->dearest)) row[count++] = d->row[k];
+        if (d->row[k] != d->dearest && table_cost(t, d->row[k]) == table_cost(t, d->dearest))
+            row[count++] = d->row[k];
     return count;
 }
 
@@ -52,31 +57,42 @@ static void list(FILE *to, const struct table *t, const struct detour *d) {
     say(&words, "From junction %u to junction %u the plan has ", d->stop[0], d->stop[d->count]);
     say_count(&words, d->count, "trench:\n", "trenches:\n");
     fputs(words.text, to);
-    for (k = 0; k < d->count; k++) fprintf(to, "trench %u: %u-%u, price %s\n", d->row[k], d->stop[k], d->stop[k + 1], table_price(price, t, d->row[k]));
+    for (k = 0; k < d->count; k++)
+        fprintf(to, "trench %u: %u-%u, price %s\n", d->row[k], d->stop[k], d->stop[k + 1],
+                table_price(price, t, d->row[k]));
     words.len = 0;
-    say(&words, "The way costs %s in all. Its dearest is trench %u, price %s", amount_figures(sum, d->sum), d->dearest, table_price(price, t, d->dearest));
+    say(&words, "The way costs %s in all. Its dearest is trench %u, price %s",
+        amount_figures(sum, d->sum), d->dearest, table_price(price, t, d->dearest));
     say_as_dear(&words, t, d);
     fprintf(to, "%s\n", words.text);
 }
 
 /* Why nothing is listed: the table, a junction that is not there, or the plan. */
-static int refused(struct output *o, const struct options *with, const struct table *t, struct star_answer a, const char *not_there) {
+static int refused(struct output *o, const struct options *with, const struct table *t,
+                   struct star_answer a, const char *not_there) {
     struct message words = {{0}, 0};
-    if (not_there && (a.kind != STAR_REFUSED || refusal_of_plan(a))) refusal_of_asked_junction(&words, t, not_there);
+    if (not_there && (a.kind != STAR_REFUSED || refusal_of_plan(a)))
+        refusal_of_asked_junction(&words, t, not_there);
     else refusal_words(&words, t, a);
     return tell_refused(o, with, &words);
 }
 
-static void stretch_words(FILE *to, const struct table *t, const struct detour *d, struct star_answer a) {
+static void stretch_words(FILE *to, const struct table *t, const struct detour *d,
+                          struct star_answer a) {
     char price[FIGURES];
     list(to, t, d);
     if (a.kind == STAR_PASSED)
-        fprintf(to, "No route between %u and %u over the table's trenches has a dearest trench cheaper than %s.\n", d->stop[0], d->stop[d->count],
-                table_price(price, t, d->dearest));
-    else fprintf(to, "The plan is no cheapest network, so nothing is promised of other routes: 'star check' names an exchange.\n");
+        fprintf(to,
+                "No route between %u and %u over the table's trenches has a dearest trench cheaper "
+                "than %s.\n",
+                d->stop[0], d->stop[d->count], table_price(price, t, d->dearest));
+    else
+        fprintf(to, "The plan is no cheapest network, so nothing is promised of other routes: "
+                    "'star check' names an exchange.\n");
 }
 
-static void stretch_json(FILE *to, const struct table *t, const struct detour *d, struct star_answer a, const struct options *with, int status) {
+static void stretch_json(FILE *to, const struct table *t, const struct detour *d,
+                         struct star_answer a, const struct options *with, int status) {
     unsigned row[STAR_MAX_JUNCTIONS];
     struct json j;
     size_t k;
@@ -102,7 +118,8 @@ int command_stretch(struct table *t, const struct options *with, struct output *
     if (status != 0) return status;
     a = table_cst(t);
     absent = not_there(t, end, with->words);
-    if (a.kind == STAR_REFUSED || absent || !way_between(&d, &p, t, end[0], end[1])) return refused(o, with, t, a, absent);
+    if (a.kind == STAR_REFUSED || absent || !way_between(&d, &p, t, end[0], end[1]))
+        return refused(o, with, t, a, absent);
     status = a.kind == STAR_PASSED ? EXIT_PASSED : EXIT_LIGHTER;
     to = output_open(o);
     if (!to) return EXIT_UNWRITTEN;

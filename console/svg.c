@@ -131,7 +131,9 @@ void picture_svg(FILE *to, const struct picture *p) {
         fprintf(to, "<circle cx=\"%.1f\" cy=\"%.1f\" r=\"%.0f\"/>", l.at[v].x, l.at[v].y, l.dot);
         fprintf(to, "<text class=\"name\" x=\"%.1f\" y=\"%.1f\">%u</text>\n", l.at[v].x, l.at[v].y + l.dot * 0.33, (unsigned)v);
     }
-    if (p->refused) fprintf(to, "<rect class=\"refused\" x=\"5\" y=\"%.0f\" width=\"%.0f\" height=\"%.0f\"/>\n", y - LINE + 2, l.width - 10, verdict(NULL, words, l.width, y) - y + 5);
+    if (p->refused)
+        fprintf(to, "<rect class=\"refused\" x=\"5\" y=\"%.0f\" width=\"%.0f\" height=\"%.0f\"/>\n",
+                y - LINE + 2, l.width - 10, verdict(NULL, words, l.width, y) - y + 5);
     y = verdict(to, words, l.width, y) + (p->refused ? 5 : 0);
     key(to, p, y);
     fprintf(to, "<text class=\"key\" x=\"12\" y=\"%.0f\">A label has the trench's number and its price.", y + LINE);

@@ -15,17 +15,22 @@ int misused(const char *what, const char *word) {
 
 int trench_named(const char *word, uint32_t *trench) {
     struct span number = {word, strlen(word)};
-    return text_number(number, trench) ? 0 : misused("a trench is named by its number, from 1 on, and not by", word);
+    return text_number(number, trench)
+               ? 0
+               : misused("a trench is named by its number, from 1 on, and not by", word);
 }
 
 int junction_asked(const char *word, uint32_t *junction) {
     struct span number = {word, strlen(word)};
-    return text_number(number, junction) ? 0 : misused("a junction is named by its number, from 1 on, and not by", word);
+    return text_number(number, junction)
+               ? 0
+               : misused("a junction is named by its number, from 1 on, and not by", word);
 }
 
 int junction_named(const char *word, uint32_t *junction) {
     struct span number = {word, strlen(word)};
-    if (text_number(number, junction) && *junction >= 1 && *junction <= STAR_MAX_JUNCTIONS) return 0;
+    if (text_number(number, junction) && *junction >= 1 && *junction <= STAR_MAX_JUNCTIONS)
+        return 0;
     return misused("a junction is a number from 1 to 255, and not", word);
 }
 

@@ -1,4 +1,5 @@
-/* The words that follow a command and its file. What is wrong is said on standard error, and EXIT_USAGE given; 0 if all is well. */
+/* The words that follow a command and its file. What is wrong is said on standard error, and
+   EXIT_USAGE given; 0 if all is well. */
 #ifndef CONSOLE_USAGE_H
 #define CONSOLE_USAGE_H
 
@@ -8,8 +9,8 @@
 
 int misused(const char *what, const char *word);
 
-/* The number of a trench or of a junction that is asked about, which need not be one of the table; a junction, from 1 to 255; a price, stored as the door
-   takes it. */
+/* The number of a trench or of a junction that is asked about, which need not be one of the table;
+   a junction, from 1 to 255; a price, stored as the door takes it. */
 int trench_named(const char *word, uint32_t *trench);
 int junction_asked(const char *word, uint32_t *junction);
 int junction_named(const char *word, uint32_t *junction);

@@ -6,7 +6,8 @@
 
 void say_trench(struct message *to, const struct table *t, size_t i) {
     char price[FIGURES];
-    say(to, "trench %zu (%u-%u, price %s)", i, t->left[i - 1], t->right[i - 1], table_price(price, t, i));
+    say(to, "trench %zu (%u-%u, price %s)", i, t->left[i - 1], t->right[i - 1],
+        table_price(price, t, i));
 }
 
 struct totals verdict_totals(const struct table *t, struct star_answer a) {
@@ -26,7 +27,10 @@ struct totals verdict_totals(const struct table *t, struct star_answer a) {
 static void say_passed(struct message *to, const struct table *t, struct star_answer a) {
     struct star_answer other;
     char total[FIGURES];
-    say(to, "Passed: the marked trenches reach every junction, and no set that does is cheaper. Total %s.\n", amount_figures(total, a.amount));
+    say(to,
+        "Passed: the marked trenches reach every junction, and no set that does is cheaper. Total "
+        "%s.\n",
+        amount_figures(total, a.amount));
     if (a.only) {
         say(to, "It is the only cheapest network.");
         return;
@@ -42,12 +46,14 @@ static void say_passed(struct message *to, const struct table *t, struct star_an
 static void say_lighter(struct message *to, const struct table *t, struct star_answer a) {
     struct totals totals = verdict_totals(t, a);
     char figures[4][FIGURES];
-    say(to, "A cheaper set exists, for %s less:\n  take out ", amount_figures(figures[0], a.amount));
+    say(to, "A cheaper set exists, for %s less:\n  take out ",
+        amount_figures(figures[0], a.amount));
     say_trench(to, t, a.out);
     say(to, "\n  put in   ");
     say_trench(to, t, a.in);
-    say(to, "\nThe plan's total is %s, and %s after this exchange. The least total is %s.", amount_figures(figures[1], totals.plan),
-        amount_figures(figures[2], totals.after), amount_figures(figures[3], totals.least));
+    say(to, "\nThe plan's total is %s, and %s after this exchange. The least total is %s.",
+        amount_figures(figures[1], totals.plan), amount_figures(figures[2], totals.after),
+        amount_figures(figures[3], totals.least));
 }
 
 void verdict_words(struct message *to, const struct table *t, struct star_answer a) {
@@ -71,8 +77,11 @@ void verdict_next(struct message *to, const struct table *t, struct star_answer 
     copy = *t;
     if (a.kind != STAR_LIGHTER && !refusal_of_plan(a)) return;
     say(to, "'star explain' says why.\n");
-    if (table_mst1(&copy).kind == STAR_PASSED) say(to, "'star mend' writes the file with its plan made a cheapest network.");
-    else say(to, "No marks would do: 'star build' names a junction that the table's trenches do not reach.");
+    if (table_mst1(&copy).kind == STAR_PASSED)
+        say(to, "'star mend' writes the file with its plan made a cheapest network.");
+    else
+        say(to, "No marks would do: 'star build' names a junction that the table's trenches do not "
+                "reach.");
 }
 
 const char *verdict_name(struct star_answer a) {

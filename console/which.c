@@ -1,4 +1,5 @@
-/* The command which: two plans over one table, each in a file of its own, and which of them costs less. */
+/* The command which: two plans over one table, each in a file of its own, and which of them costs
+   less. */
 #include <string.h>
 
 #include "commands.h"
@@ -10,12 +11,15 @@
 #include "usage.h"
 #include "verdict.h"
 
-/* Whether two tables have the same trench i, its ends in either direction. What stands in a struck one does not matter. */
+/* Whether two tables have the same trench i, its ends in either direction. What stands in a struck
+   one does not matter. */
 static int same_trench(const struct table *one, const struct table *other, size_t i) {
     size_t k = i - 1;
     if (one->struck[k] || other->struck[k]) return one->struck[k] && other->struck[k];
-    if (memcmp(one->weight + PRICE_BYTES * k, other->weight + PRICE_BYTES * k, PRICE_BYTES) != 0) return 0;
-    return (one->left[k] == other->left[k] && one->right[k] == other->right[k]) || (one->left[k] == other->right[k] && one->right[k] == other->left[k]);
+    if (memcmp(one->weight + PRICE_BYTES * k, other->weight + PRICE_BYTES * k, PRICE_BYTES) != 0)
+        return 0;
+    return (one->left[k] == other->left[k] && one->right[k] == other->right[k]) ||
+           (one->left[k] == other->right[k] && one->right[k] == other->left[k]);
 }
 
 /* 'FILE:LINE: trench 4 (1-4, price 4)'. */
@@ -40,7 +44,8 @@ static void say_trenches(struct message *to, const struct table *t) {
 
 /* Says where the tables differ in more than their marks; 0 if they do not. */
 static int differ(struct message *to, const struct table *first, const struct table *second) {
-    void (*say_size)(struct message *, const struct table *) = first->m == second->m ? say_junctions : say_trenches;
+    void (*say_size)(struct message *, const struct table *) =
+        first->m == second->m ? say_junctions : say_trenches;
     size_t i, m = first->m < KEPT ? first->m : KEPT;
     if (second->m < m) m = second->m;
     for (i = 1; i <= m; i++)
@@ -62,7 +67,8 @@ static int differ(struct message *to, const struct table *first, const struct ta
 /* Reads the second file as the first was read. */
 static int read_second(struct input *in, struct table *second, const char *file, struct output *o) {
     struct message fault = {{0}, 0};
-    int status = input_open(in, file, &fault), over = status == 0 ? output_spares(o, in->id, "which", 0) : 0;
+    int status = input_open(in, file, &fault),
+        over = status == 0 ? output_spares(o, in->id, "which", 0) : 0;
     if (over != 0) return over;
     if (status == 0 && in->stp) {
         say_place(&fault, in->file, 0);
@@ -74,16 +80,21 @@ static int read_second(struct input *in, struct table *second, const char *file,
     return status;
 }
 
-static void say_standing(struct message *to, const struct table *first, const struct table *second, uint32_t which, int64_t total) {
+static void say_standing(struct message *to, const struct table *first, const struct table *second,
+                         uint32_t which, int64_t total) {
     const struct table *stands = which == 1 ? first : second;
     int64_t other = table_plan_total(which == 1 ? second : first);
     char figures[3][FIGURES];
     say(to, "The %s plan stands, %.200s: ", which == 1 ? "first" : "second", stands->file);
     if (other == total) say(to, "both cost %s.", amount_figures(figures[0], total));
-    else say(to, "it costs %s and the %s %s, %s more.", amount_figures(figures[0], total), which == 1 ? "second" : "first", amount_figures(figures[1], other), amount_figures(figures[2], other - total));
+    else
+        say(to, "it costs %s and the %s %s, %s more.", amount_figures(figures[0], total),
+            which == 1 ? "second" : "first", amount_figures(figures[1], other),
+            amount_figures(figures[2], other - total));
 }
 
-static void which_json(FILE *to, const struct table *first, const struct table *second, uint32_t which, const struct options *with) {
+static void which_json(FILE *to, const struct table *first, const struct table *second,
+                       uint32_t which, const struct options *with) {
     struct json j;
     json_begin(&j, to, with, "told", EXIT_PASSED);
     json_text(&j, "second", second->file);
@@ -95,7 +106,8 @@ static void which_json(FILE *to, const struct table *first, const struct table *
     json_end(&j);
 }
 
-static int compare(const struct table *first, const struct table *second, const struct options *with, struct output *o) {
+static int compare(const struct table *first, const struct table *second,
+                   const struct options *with, struct output *o) {
     struct message words = {{0}, 0};
     struct star_answer a;
     uint32_t which;
@@ -125,7 +137,8 @@ int command_which(struct table *t, const struct options *with, struct output *o)
     struct input in;
     int status;
     if (with->count != 1) return misused("a second file with marks follows the file of", "which");
-    if (strcmp(t->file, "standard input") == 0 && strcmp(with->words[0], "-") == 0) return misused("one of the two files alone is standard input, and both are", "-");
+    if (strcmp(t->file, "standard input") == 0 && strcmp(with->words[0], "-") == 0)
+        return misused("one of the two files alone is standard input, and both are", "-");
     status = read_second(&in, &second, with->words[0], o);
     if (status == 0) status = compare(t, &second, with, o);
     input_close(&in);

@@ -2,9 +2,9 @@
 
 usage: help.py STAR..   Ends in one line 'N passed, M failed'.
 
-Every command has a page: its words, an example with its output, its statuses. The example is run over
-the files of console/examples, and has to write what the page says. The manual page and the documents
-are as 'make manual' makes them.
+Every command has a page: its words, an example with its output, its statuses. The example is run
+over the files of console/examples, and has to write what the page says. The manual page and the
+documents are as 'make manual' makes them.
 """
 import os
 import re
@@ -28,7 +28,7 @@ def holds(name, value, shown=""):
 
 
 def star(words, folder=ROOT):
-    """Runs the console; gives its status and what it writes, standard error after standard output."""
+    """Runs the console: its status and what it writes, standard error after standard output."""
     done = subprocess.run(STAR + words, cwd=folder, stdin=subprocess.DEVNULL, capture_output=True)
     return done.returncode, (done.stdout + done.stderr).decode()
 

@@ -1,5 +1,6 @@
-/* Writes a text, standard input to standard output, with those of its sections that are made from the table of commands made anew. Such a section stands
-   between a line that has 'made by make manual: NAME' and one that has 'end of NAME'. */
+/* Writes a text, standard input to standard output, with those of its sections that are made from
+   the table of commands made anew. Such a section stands between a line that has 'made by make
+   manual: NAME' and one that has 'end of NAME'. */
 #include <ctype.h>
 #include <stdio.h>
 #include <string.h>
@@ -18,9 +19,12 @@ static void roff_letters(const char *text, size_t len) {
 }
 
 /* Words that stand for what a planner puts in place of them. */
-static const char *const PLACES[] = {"FILE", "TRENCH", "PRICE", "JUNCTION", "COUNT", "END", "LEFT", "RIGHT", "OUTPUT", NULL};
+static const char *const PLACES[] = {"FILE", "TRENCH", "PRICE", "JUNCTION", "COUNT",
+                                     "END",  "LEFT",   "RIGHT", "OUTPUT",   NULL};
 
-static int is(const char *word, size_t len, const char *name) { return strlen(name) == len && memcmp(word, name, len) == 0; }
+static int is(const char *word, size_t len, const char *name) {
+    return strlen(name) == len && memcmp(word, name, len) == 0;
+}
 
 /* The font of a word: italics for what is put in place of it, bold for an option. */
 static char font(const char *word, size_t len) {
@@ -132,7 +136,8 @@ static void roff_status(int status) {
         if (len == 0 || text == STATUS_TEXT[status] || said_before(p, status, text, len)) continue;
         printf("\\fB%s\\fP", p->name);
         for (q = p + 1; q->name; q++)
-            if (page_status(q, status, &other) == len && memcmp(other, text, len) == 0) printf(", \\fB%s\\fP", q->name);
+            if (page_status(q, status, &other) == len && memcmp(other, text, len) == 0)
+                printf(", \\fB%s\\fP", q->name);
         fputs(": ", stdout);
         roff_letters(text, len);
         puts("\n.br");
@@ -190,7 +195,8 @@ static void markdown_list(void) {
 static void markdown_statuses(void) {
     int status;
     puts("\n| Exit status | |\n|---|---|");
-    for (status = 0; status < STATUSES; status++) printf("| %d | %s |\n", status, STATUS_TEXT[status]);
+    for (status = 0; status < STATUSES; status++)
+        printf("| %d | %s |\n", status, STATUS_TEXT[status]);
     putchar('\n');
 }
 
@@ -198,7 +204,9 @@ static const struct section {
     const char *name;
     void (*write)(void);
 } SECTIONS[] = {
-    {"synopsis", roff_synopsis}, {"commands", roff_commands}, {"options", roff_options}, {"statuses", roff_statuses}, {"examples", roff_examples}, {"objects", roff_objects},
+    {"synopsis", roff_synopsis},         {"commands", roff_commands},
+    {"options", roff_options},           {"statuses", roff_statuses},
+    {"examples", roff_examples},         {"objects", roff_objects},
     {"list of commands", markdown_list}, {"table of statuses", markdown_statuses},
 };
 
