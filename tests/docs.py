@@ -1,13 +1,13 @@
 #!/usr/bin/env python3
-"""Tests of the documents: what they show is what the programs print, and their C compiles and runs.
+"""Tests of the documents: what they show is what is printed, and their C compiles and runs.
 
-usage: docs.py BUILD [--write]   BUILD has the console and the programs. --write puts what is printed
-                                 into the documents, and draws the pictures anew.
+usage: docs.py BUILD [--write]   BUILD has the console and the programs. --write puts what is
+                                 printed into the documents, and draws the pictures anew.
 Ends in one line 'N passed, M failed'.
 
-A block ```console has commands, each after '$ ', and what they print on both streams. They are run in
-the order of the document in a folder of their own, from which console/ and target/c are seen; of make
-only that it ends well is looked at. The blocks ```c of C.md are the body of one function.
+A block ```console has commands, each after '$ ', and what they print on both streams. They are run
+in the order of the document in a folder of their own, from which console/ and target/c are seen; of
+make only that it ends well is looked at. The blocks ```c of C.md are the body of one function.
 """
 import os
 import re
@@ -31,7 +31,8 @@ static uint8_t left[1024] = {1, 2, 3, 1, 1}, right[1024] = {2, 3, 4, 4, 3}, weig
 static uint8_t mark[1024] = {1, 1, 1}, mine[5] = {1, 1, 1}, theirs[5] = {0, 1, 1, 1};
 static uint8_t old[5] = {1, 1, 0, 0, 1}, forests[1024];
 static const int32_t prices[] = {5, 3, 5, 4, 6};
-static const char *const stp = "33D32945\\nSECTION Graph\\nNodes 2\\nEdges 1\\nE 1 2 7\\nEND\\nEOF\\n";
+static const char *const stp =
+    "33D32945\\nSECTION Graph\\nNodes 2\\nEdges 1\\nE 1 2 7\\nEND\\nEOF\\n";
 
 int main(void) {
     uint32_t i, n = 4, m = 5, s = 1, row = 4;
@@ -120,7 +121,8 @@ def c_blocks():
         source, program = os.path.join(folder, 'blocks.c'), os.path.join(folder, 'blocks')
         with open(source, 'w', encoding='utf-8') as file:
             file.write(f'{PRELUDE}{body}\n    return 0;\n}}\n')
-        words = [os.environ.get('CC', 'cc'), '-std=c99', '-Wall', '-Wextra', '-Wpedantic', '-Werror']
+        words = [os.environ.get('CC', 'cc'), '-std=c99', '-Wall', '-Wextra', '-Wpedantic',
+                 '-Werror']
         # blocks set fields that they only name in a comment
         words += ['-Wno-unused-but-set-variable', f'-I{ROOT}/include', '-o', program, source]
         done = subprocess.run(words + [os.path.join(BUILD, 'libstar.a')], capture_output=True,

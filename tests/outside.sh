@@ -146,8 +146,12 @@ bash tests/python.sh 20000 | tee "$work/python"
 add "$work/python"
 python3 -B tests/docs.py "$build" | tee "$work/docs"
 add "$work/docs"
+python3 -B tests/codehash_test.py target/objects | tee "$work/codehash"
+add "$work/codehash"
 bash tests/record.sh | tee "$work/record"
 add "$work/record"
+bash tests/proving.sh | tee "$work/proving"
+add "$work/proving"
 
 echo "$passed passed, $failed failed"
 [ "$failed" = 0 ]

@@ -60,7 +60,8 @@ def deep_hashes(crates, sources, kit):
     def deep(crate):
         if crate not in out:
             below = [deep(name) for name in crates[crate] if name in crates]
-            out[crate] = hashlib.sha256('\n'.join([kit, sources[crate]] + below).encode()).hexdigest()
+            lines = '\n'.join([kit, sources[crate]] + below)
+            out[crate] = hashlib.sha256(lines.encode()).hexdigest()
         return out[crate]
 
     for crate in crates:

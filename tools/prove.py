@@ -75,7 +75,7 @@ class Run:
                   f'{self.progress.sentence()}', flush=True)
 
     def check(self):
-        """rt check of the crates that have no archive of their own, the longest of a layer first."""
+        """rt check of the crates without an archive of their own, the longest of a layer first."""
         level = crates.levels(self.crates)
         order = sorted(self.checked, key=lambda c: (level[c], -self.seconds[c]))
         with subprocess.Popen(['rt', 'check'] + order, stdout=subprocess.PIPE,

@@ -11,7 +11,7 @@ usage: record.py write FOLDER OUT CRATE..  writes the record of the archives of 
        record.py tell FOLDER CRATE..       one line: proved here, of the record, or not proved
        record.py library FILE FOLDER CRATE..   the same of a library that is to be installed:
                                            status 1 where it is neither
-FOLDER has an archive libCRATE.a for each, and the identity of the kit that wrote it in the file kit.
+FOLDER has an archive libCRATE.a for each; its file kit has the identity of the kit that wrote it.
 """
 import os
 import subprocess

@@ -1,0 +1,139 @@
+#!/usr/bin/env bash
+# Tests of make prove and of the gate, with an rt that proves nothing: what is asked of it and in
+# which order, how far a run is, what a failure does.
+# usage: proving.sh   Ends in one line 'N passed, M failed'.
+. "$(dirname "$0")/copied.sh"
+kit=$(sh tools/kit.sh)
+crates=$(grep -c '^[a-z0-9_]*:' crates.txt)
+edits=$(ls crates/*/must-fail/*.edit | wc -l)
+export BUILT=$PWD/target/objects PROVING=$at
+
+# An rt that writes the crates that it is asked for into the file asked.
+mkdir "$work/rt"
+cat >"$work/rt/rt" <<'TEXT'
+#!/bin/sh
+case $1 in
+version) sed -n 's/^kit //p' "$PROVING/crates.sum" ;;
+check)
+    shift
+    for crate in "$@"; do
+        echo "$crate" >>"$PROVING/asked"
+        echo "fn $crate::a: proved"
+        if [ -e "$PROVING/fault" ]; then
+            echo "lib.rt:1: error: no proof"
+            echo "rt: $crate NOT PROVED (exit 1, 1 s)"
+            exit 1
+        fi
+        echo "rt: $crate proved (12 s)"
+    done
+    ;;
+staticlib)
+    echo "$2" >>"$PROVING/asked"
+    cp "$BUILT/lib$2.a" target/staticlib/
+    ;;
+esac
+TEXT
+chmod +x "$work/rt/rt"
+prove() {
+    : >"$at/asked"
+    (cd "$at" && PATH="$work/rt:$PATH" RATTLE_HOME=$kit make -s prove) >"$work/said" 2>&1
+}
+below() { # CRATE: the crates that it names stand above it in the file asked
+    local line name above
+    line=$(grep -nx "$1" "$at/asked" | cut -d: -f1)
+    for name in $(sed -n "s/^$1: *//p" crates.txt); do
+        above=$(grep -nx "$name" "$at/asked" | cut -d: -f1)
+        [ ! -d "crates/$name" ] || [ "$above" -lt "$line" ] || return 1
+    done
+}
+doors_asked() { grep 'door$' "$at/asked" | sort | paste -sd ' '; }
+
+# Each crate once, what it needs before it. Then all is proved here, whatever the record says.
+printf ' ' >>"$at/crates/slice/src/lib.rt"
+touch "$at/target/objects/doors" "$at"/target/objects/*.a
+prove
+holds 'prove: ends' [ $? = 0 ]
+holds 'prove: how far' says "^rowset (12 s): [0-9]* of $crates crates, some [0-9]* minutes* left$"
+holds 'prove: all' says "$crates of $crates crates"
+holds 'prove: none twice' [ -z "$(sort "$at/asked" | uniq -d)" ]
+listed=$(sed -n 's/^\([a-z0-9_]*\):.*/\1/p' crates.txt | sort)
+holds 'prove: every crate' [ "$(sort "$at/asked")" = "$listed" ]
+for crate in slice search mst1 quote mend door outletsdoor; do
+    holds "prove: below $crate" below "$crate"
+done
+holds 'prove: no log on the screen' fails says '^fn '
+holds 'prove: the log' grep -qx 'fn rowset::a: proved' "$at/target/make-prove.log"
+holds 'prove: told' says 'the core is proved here, with this kit'
+made install "PREFIX=$work/proved"
+holds 'install: proved here' says 'is proved here, with this kit'
+
+# Where nothing has changed no archive is made anew; where a source has, those above it are.
+prove
+holds 'prove again: no archive' [ -z "$(doors_asked)" ]
+printf ' ' >>"$at/crates/reader/src/lib.rt"
+prove
+holds 'prove one: those above it' [ "$(doors_asked)" = 'digsdoor importdoor' ]
+
+# What is not proved is told, and is not installed.
+printf ' ' >>"$at/crates/slice/src/lib.rt"
+touch "$at/fault"
+prove
+holds 'prove: fails' [ $? != 0 ]
+holds 'prove: the error' says 'error: no proof'
+refused 'not proved here' 'the sources of slice differ'
+rm "$at/fault"
+
+# The gate, with an rt and a make that count only: how far it is, and all counts in the last line.
+mkdir "$work/gate"
+cat >"$work/gate/rt" <<'TEXT'
+#!/bin/sh
+echo "$1" >>"$PROVING/asked"
+case $1 in
+version) sed -n 's/^kit //p' crates.sum ;;
+ci)
+    echo "rt: rowset proved (1 s)"
+    for i in 1 2 3 4 5 6 7 8 9 10; do
+        echo "rt: must-fail slice/edit$i: refused, as it must be (1 s)"
+    done
+    echo "11 passed, 0 failed"
+    ;;
+esac
+TEXT
+cat >"$work/gate/make" <<'TEXT'
+#!/bin/sh
+echo "$2" >>"$PROVING/asked"
+if [ "$2" = recorded ] && [ -e fault ]; then
+    echo "record: the code of libdoor.a differs"
+    echo "92 passed, 1 failed"
+    exit 1
+fi
+echo "100 passed, 0 failed"
+TEXT
+chmod +x "$work/gate/rt" "$work/gate/make"
+gate() {
+    : >"$at/asked"
+    (cd "$at" && PATH="$work/gate:$PATH" bash .ci/run) >"$work/said" 2>&1
+}
+last() { tail -n 1 "$work/said"; }
+gate
+holds 'gate: passes' [ $? = 0 ]
+holds 'gate: counts all' [ "$(last)" = "$((crates + 1 + 11 + 100 + 100)) passed, 0 failed" ]
+far="^gate: 1 of $crates crates, 10 of $edits wrong programs, some [0-9]* minutes left$"
+holds 'gate: how far' says "$far"
+parts=$(grep -v version "$at/asked" | paste -sd ' ')
+holds 'gate: its parts' [ "$parts" = 'ci recorded outside' ]
+
+# A record without the proved code fails it; one of other sources does so before anything is proved.
+touch "$at/fault"
+gate
+holds 'gate: another code' [ $? != 0 ]
+holds 'gate: no tests over another code' fails grep -q outside "$at/asked"
+rm "$at/fault"
+printf ' ' >>"$at/crates/slice/src/lib.rt"
+gate
+holds 'gate: a stale record' [ $? != 0 ]
+holds 'gate: told' says 'record: the sources of slice differ; make sums writes it anew'
+holds 'gate: told at once' fails grep -q 'ci\|recorded' "$at/asked"
+holds 'gate: the last line' [ "$(last)" = "$crates passed, 1 failed" ]
+
+count
