@@ -1,5 +1,6 @@
 # The planner's page: one HTML file, with the doors inside it as WebAssembly.
 # make page        target/c/star.html
+# make page-with TABLE=FILE OUT=FILE.html   the same with a table file inside, which it opens
 # make page-test   the module held to the native library, and the page in a browser
 PAGE := $(BUILD)/star.html
 PAGE_MODULE := $(BUILD)/star.wasm
@@ -14,7 +15,10 @@ $(PAGE): $(PAGE_MODULE) $(PAGE_SOURCES)
 
 page: $(PAGE)
 
+page-with: $(PAGE_MODULE)
+	node page/build.mjs $(PAGE_MODULE) $(OUT) $(TABLE)
+
 page-test: $(SHARED) $(BUILD)/star
 	bash tests/page/run.sh $(BUILD)
 
-.PHONY: page page-test
+.PHONY: page page-with page-test

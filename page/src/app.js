@@ -23,6 +23,8 @@ export class App {
     this.saved = true;
     /** @type {{steps: Step[], at: number} | null} */
     this.mending = null;
+    /** @type {import('./lesson.js').Lesson | null} */
+    this.lesson = null;
     /** @type {number[][] | null} */
     this.coordinates = null;
     /** @type {((told: Told) => void)[]} */
@@ -74,15 +76,28 @@ export class App {
       if (fault instanceof FileFault) return fault.message.replace(/^/gm, `${name}:`);
       throw fault;
     }
-    this.name = name;
+    this.lesson = null;
     this.coordinates = coordinates;
     this.saved = true;
+    this.show(this.history, name);
+    return '';
+  }
+
+  /** Shows a plan with all that was done to it.
+   * @param {History<State>} history @param {string} name */
+  show(history, name) {
+    this.history = history;
+    this.name = name;
     this.mending = null;
     this.selected = -1;
     this.hot = -1;
     this.judgement = judge(this.core, this.plan);
     this.tell('open');
-    return '';
+  }
+
+  /** Whether the plan is a question, so that nothing is said of it and nothing changes it. */
+  get asked() {
+    return this.lesson !== null && this.lesson.open;
   }
 
   /** A refusal in the library's words.
@@ -129,7 +144,7 @@ export class App {
    * @param {number} i */
   toggle(i) {
     const { plan } = this;
-    if (this.mending || plan.struck[i] || !this.judgement.drawn) return;
+    if (this.mending || this.asked || plan.struck[i] || !this.judgement.drawn) return;
     const marked = plan.mark[i] === 1;
     this.selected = i;
     this.change(`${marked ? 'unmark' : 'mark'} trench ${i + 1}`, (p) => {

@@ -133,6 +133,13 @@ export class Core {
     return this.ask('star_work_cst', p.n, ...this.table(), ...this.marks());
   }
 
+  /** Whether a table may have this many junctions.
+   * @param {number} n */
+  taken(n) {
+    this.memory.fill(0, this.use, this.use + USE_BYTES);
+    return this.ask('star_work_mst1', n, ...this.table(), ...this.marks()).number !== 1;
+  }
+
   /** @param {number} n */
   tooMany(n) {
     const rows = BigInt(MAX_ROWS + 1);
@@ -242,7 +249,7 @@ export class Core {
     const rows = [];
     for (let i = 0; a.kind === PASSED && i < a.in; i++) {
       const price = this.view.getInt32(this.weight + 4 * i, true);
-      rows.push([this.memory[this.left + i], this.memory[this.right + i], price]);
+      rows.push([this.memory[this.left + i], this.memory[this.right + i], price, 0]);
     }
     return { kind: a.kind, number: a.number, n: a.out, rows, place: a.amount };
   }

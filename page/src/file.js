@@ -243,8 +243,8 @@ export function fileAdd(file, p, at, a, b, price) {
   return now.mark + lines.join('') + (/[\r\n]$/.test(last) ? '' : end) + added;
 }
 
-/** An STP text's rows as a table file.
+/** Rows as a table file: two junctions, a price and a mark each.
  * @param {number} n @param {number[][]} rows */
 export function fileOfRows(n, rows) {
-  return `junctions ${n}\n${rows.map((row) => `${row.join(' ')} 0\n`).join('')}`;
+  return `junctions ${n}\n${rows.map((row) => `${row.join(' ')}\n`).join('')}`;
 }

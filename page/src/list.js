@@ -49,7 +49,11 @@ export class List {
     /** @type {string[]} */
     this.drawn = [];
     this.tab = 0;
-    this.body.addEventListener('change', (/** @type {any} */ e) => toggle(this.rowOf(e)));
+    this.body.addEventListener('change', (/** @type {any} */ e) => {
+      toggle(this.rowOf(e));
+      this.drawn[this.rowOf(e)] = ''; // a mark that may not turn is shown as it stands
+      this.update();
+    });
     this.body.addEventListener('click', (/** @type {any} */ e) => {
       if (e.target.type !== 'checkbox' && this.rowOf(e) >= 0) app.select(this.rowOf(e));
     });
@@ -106,7 +110,8 @@ export class List {
     const { app } = this;
     const plan = app.shown;
     for (let i = 0; i < plan.m; i++) {
-      const { words, look } = app.mending ? { words: '', look: '' } : listStanding(app, i);
+      const quiet = app.mending || app.asked;
+      const { words, look } = quiet ? { words: '', look: '' } : listStanding(app, i);
       const on = planHas(plan, i);
       const key = `${on}|${plan.price[i]}|${plan.struck[i]}|${look}|${words}|${i === app.selected}`;
       if (this.drawn[i] === key) continue;

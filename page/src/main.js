@@ -6,6 +6,7 @@ import { digsShow } from './digs.js';
 import { byId, html } from './dom.js';
 import { EXAMPLES } from './examples.js';
 import { fileBytes } from './file.js';
+import { Lesson, lessonShow } from './lesson.js';
 import { List } from './list.js';
 import { mendSetOff, mendShow } from './mend.js';
 import { Picture } from './picture.js';
@@ -14,6 +15,7 @@ import { Price } from './price.js';
 import { verdictShow } from './verdict.js';
 import { setOffNone, whyOf } from './why.js';
 import { count, money } from './words.js';
+import { worksheetPrint } from './worksheet.js';
 
 /** @typedef {import('./core.js').Core} Core */
 
@@ -52,6 +54,10 @@ class Page {
       print: () => window.print(),
       theme: () => this.theme(),
       add: () => byId('add').showModal(),
+      class: () => this.classStart(),
+      'lesson-next': () => app.lesson && app.lesson.next(),
+      'lesson-leave': () => app.lesson && app.lesson.leave(),
+      'lesson-paper': () => app.lesson && worksheetPrint(app.core, app.lesson.seed),
       fit: () => picture.fit(),
       in: () => picture.zoom(1.35),
       out: () => picture.zoom(1 / 1.35),
@@ -77,6 +83,15 @@ class Page {
     document.addEventListener('click', (/** @type {any} */ e) => {
       const button = e.target.closest('[data-act]');
       if (button && !button.disabled) this.acts[button.dataset.act]();
+      const { lesson } = this.app;
+      const asked = e.target.closest('[data-kind], [data-answer]');
+      if (!lesson || !asked) return;
+      if (asked.dataset.kind) lesson.start(Number(asked.dataset.kind), lesson.seed);
+      else lesson.give(asked.dataset.answer);
+    });
+    byId('lesson-seed').addEventListener('change', (/** @type {any} */ e) => {
+      const seed = Math.max(1, Math.min(1000000, Math.trunc(Number(e.target.value)) || 1));
+      if (this.app.lesson) this.app.lesson.start(this.app.lesson.kind, seed);
     });
     document.addEventListener('keydown', (e) => this.key(e));
     document.addEventListener('dragover', (e) => e.preventDefault());
@@ -143,6 +158,13 @@ class Page {
     const rows = [app.selected, ...setOff.under.map(([row]) => row)];
     const [net, card] = ['net', 'card'].map((id) => byId(id).getBoundingClientRect());
     this.picture.reveal(rows, Math.max(0, net.bottom - card.top));
+  }
+
+  classStart() {
+    const { app } = this;
+    if (app.lesson) return;
+    app.lesson = new Lesson(app, 1);
+    app.lesson.start(0, 1);
   }
 
   /** @param {{out: number, in: number} | null} exchange */
@@ -249,6 +271,7 @@ class Page {
         this.list.open();
       }
     }
+    lessonShow(app);
     if (told !== 'show') {
       verdictShow(app);
       mendShow(app);
@@ -263,7 +286,8 @@ class Page {
     const { app } = this;
     const { drawn } = app.judgement;
     const row = app.hot >= 0 && app.hot < app.plan.m ? app.hot : app.selected;
-    const why = drawn && !app.mending && row >= 0 ? whyOf(app, row) : null;
+    const shown = drawn && !app.mending && !app.asked;
+    const why = shown && row >= 0 ? whyOf(app, row) : null;
     cardShow(app, row, why);
     this.price.show(why && row === app.selected ? row : -1);
     if (drawn) this.picture.show(this.setOff(why));
@@ -292,20 +316,33 @@ class Page {
   setOff(why) {
     const { app } = this;
     if (app.mending) return mendSetOff(app);
+    if (app.lesson && app.asked) return app.lesson.setOff();
     const setOff = why ? why.setOff : setOffNone();
-    const { rings, exchange } = app.judgement;
-    if (rings && app.judgement.marks > 0) {
-      for (const ring of rings.rings) for (const i of ring) setOff.under.push([i, 'ring']);
-      for (const v of rings.apart.flat()) setOff.spots.set(v, 'cut');
-    } else if (!why && exchange) {
-      const { price } = app.plan;
-      setOff.under.push([exchange.in, 'comes']);
-      setOff.over.push([exchange.out, 'gone'], [exchange.out, 'goes']);
-      setOff.tags.set(exchange.out, `out ${money(price[exchange.out])}`);
-      setOff.tags.set(exchange.in, `in ${money(price[exchange.in])}`);
-    }
+    if (app.judgement.rings) this.setOffRings(setOff);
+    else if (!why) this.setOffExchange(setOff);
     if (this.found > 0) setOff.spots.set(this.found, 'found');
     return setOff;
+  }
+
+  /** Rings, and groups that stand apart.
+   * @param {import('./why.js').SetOff} setOff */
+  setOffRings(setOff) {
+    const { rings, marks } = this.app.judgement;
+    if (!rings || marks === 0) return;
+    for (const i of rings.rings.flat()) setOff.under.push([i, 'ring']);
+    for (const v of rings.apart.flat()) setOff.spots.set(v, 'cut');
+  }
+
+  /** The exchange that the verdict names.
+   * @param {import('./why.js').SetOff} setOff */
+  setOffExchange(setOff) {
+    const { exchange } = this.app.judgement;
+    const { price } = this.app.plan;
+    if (!exchange) return;
+    setOff.under.push([exchange.in, 'comes']);
+    setOff.over.push([exchange.out, 'gone'], [exchange.out, 'goes']);
+    setOff.tags.set(exchange.out, `out ${money(price[exchange.out])}`);
+    setOff.tags.set(exchange.in, `in ${money(price[exchange.in])}`);
   }
 }
 

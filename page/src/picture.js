@@ -292,8 +292,8 @@ export class Picture {
     return this.view.k * this.lengths[i] - 2 * this.radius >= 0.7 * (box.x1 - box.x0);
   }
 
-  /** Pixels along a row where its label may stand; wherever it is seen, and around its middle, where
-   * it has to stand.
+  /** Pixels along a row where its label may stand; wherever the row is seen, and around its middle,
+   * where it has to stand.
    * @param {number} i @param {boolean} tag */
   along(i, tag) {
     const p = /** @type {Plan} */ (this.plan);

@@ -147,5 +147,6 @@ export function verdictShow(app) {
   byId('why').replaceChildren(...said.words);
   byId('acts').replaceChildren(...said.acts, ...verdictActs(app));
   const words = [said.head, ...said.words.map((w) => w.textContent.replace('\u25c6 ', ''))];
+  if (app.asked) return;
   byId('live').textContent = `${words.join(' ')} ${byId('totals').innerText}`;
 }

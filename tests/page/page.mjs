@@ -283,6 +283,44 @@ const GROUPS = {
     }
   },
 
+  async lessons() {
+    await choose(example('yard-dear.txt'));
+    await press('swap');
+    const kept = await b.value('star.app.text()');
+    await press('class');
+    const hidden = "!document.getElementById('verdict').offsetParent";
+    check('no verdict before the answer', await b.value(hidden));
+    const seen = "getComputedStyle(document.querySelector('.hidden-picture')).display";
+    check('no picture before the answer', (await b.value(seen)) === 'grid');
+    check('no standing', (await textOf('list-rows')).search(/saves|same|dearer|ring|joins/) < 0);
+    const before = await b.value('star.app.plan.mark.join()');
+    await b.value("document.querySelector('#list-rows input').click()");
+    const after = await b.value('star.app.plan.mark.join()');
+    check('no mark turns', before === after && (await shows()));
+    for (const kind of [0, 1, 2, 3]) {
+      const right = await b.value('star.app.lesson.answer.right');
+      await b.value(`document.querySelector('[data-answer="${right}"]').click()`);
+      await b.frame();
+      check(`exercise ${kind} is right`, (await textOf('lesson-said')).includes('Right.'));
+      check('a score', (await textOf('lesson-tabs')).includes(`${kind + 1} `) &&
+        (await textOf('lesson-tabs')).includes('1/1'));
+      check('mend and build are out of reach', await b.value(
+        "!document.getElementById('acts').offsetParent"));
+      if (kind < 3) await press('lesson-next');
+    }
+    await b.value('star.app.lesson.start(1, 9)');
+    const wrong = await b.value(`star.app.lesson.exercise.choices.find(
+      (choice) => choice.key !== star.app.lesson.answer.right).key`);
+    await b.value(`document.querySelector('[data-answer="${wrong}"]').click()`);
+    await b.frame();
+    check('a wrong answer', (await textOf('lesson-said')).includes('Not so'));
+    check('a score of both', (await textOf('lesson-tabs')).includes('1/2'));
+    await press('lesson-leave');
+    check('the plan is back', kept === (await b.value('star.app.text()')));
+    await press('undo');
+    check('with what was done', (await textOf('head')).includes('1 can be saved'));
+  },
+
   async phone() {
     await b.size(390, 844, true);
     await choose(example('city.txt'));
@@ -336,6 +374,17 @@ const GROUPS = {
     const same = Object.keys(told.different).length === 0;
     check('the doors in the browser', told.calls > 10000 && same);
     await b.value('delete star.openFile; delete star.calls');
+  },
+
+  async inside() {
+    const [odd, page] = [path.join(folder, 'a "b" <c>.txt'), path.join(folder, 'with.html')];
+    fs.writeFileSync(odd, `${bytesOf(example('old.txt'))}# \xe9 </script>\n`, 'latin1');
+    const build = path.join(here, '../../page/build.mjs');
+    spawnSync('node', [build, path.join(path.dirname(html), 'star.wasm'), page, odd]);
+    await b.go(page);
+    check('the table inside', (await b.value('star.app.text()')) === bytesOf(odd));
+    check('its name', (await textOf('name')) === 'a "b" <c>.txt');
+    await b.go(path.resolve(html));
   },
 
   async clicks() {

@@ -65,6 +65,7 @@ python3 -B tests/page/calls.py include/star.h "$build/libstar.so" 500 "$work/cal
     failed=$((failed + 1))
 part node tests/page/doors.mjs "$build/star.wasm" "$work/calls"
 part node tests/page/files.mjs "$build/star" "$build/star.wasm" 2000
+part node tests/page/exercises.mjs "$build/star.wasm" 1000
 if want chromium chromium; then
     CALLS=$work/calls part node tests/page/page.mjs chromium "$build/star" "$build/star.html"
     control "a stale verdict" main.js 's/^      verdictShow(app);$/      if (told === "open") &/' marks
@@ -74,6 +75,7 @@ if want chromium chromium; then
     control "a label left off" picture.js 's/size: 13, look: .tag., at: .*true)/size: 13, look: "tag", at: []/' labels
     control "labels anywhere" labels.js 's/if (!taken.free(box)) continue;//' labels
     control "a picture that moves" picture.js 's/^    this.plan = p;$/& if (this.at.x[0]) this.view.x += 9;/' marks
+    control "an answer before it is given" list.js 's/ || app.asked;/;/' lessons
     control "a mark that is not shown" list.js 's/box.checked = on;//' marks
 fi
 echo "$passed passed, $failed failed"
