@@ -98,7 +98,8 @@ if command -v valgrind >/dev/null; then
         'strike console/examples/struck.txt 1' 'merge console/examples/struck.txt' 'add console/examples/struck.txt 2 4 7' 'unstrike console/examples/struck.txt 3' \
         'mark console/examples/yard.txt 1' 'price console/examples/yard.txt 4 9' 'check tests/console/check-bad-lines.txt' 'page console/examples/struck.txt' \
         'districts console/examples/struck.txt 2 5' 'districts console/examples/yard.txt 1 2 3 4 5 6 7 8 9 10' 'mend console/examples/old.txt' 'mend console/examples/struck.txt' \
-        'outlets console/examples/struck.txt 1 9' 'outlets console/examples/yard.txt 1 3'; do
+        'check --json console/examples/old.txt' 'explain --json console/examples/city.txt 9' \
+        'mend --steps --json -o /dev/null console/examples/old.txt' 'outlets --json console/examples/struck.txt 1 9' 'outlets console/examples/struck.txt 1 9' 'outlets console/examples/yard.txt 1 3'; do
         valgrind -q --error-exitcode=9 --leak-check=full --errors-for-leak-kinds=definite "$build/star" $words >"$work/valgrind" 2>&1
         if [ $? != 9 ]; then passed=$((passed + 1)); else
             echo "valgrind found a fault in star $words"
