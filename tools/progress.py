@@ -3,7 +3,10 @@
 
 usage: rt ci | progress.py gate          passes the lines on, and says after each crate and each
                                          tenth edit how far the run is
+       make outside | progress.py outside    the same after each test that counts
        progress.py seconds LOG           the seconds of each crate in a log of rt, for seconds.txt
+
+seconds.txt has the seconds of one run, of each crate and of the tests from outside.
 """
 import glob
 import os
@@ -18,6 +21,7 @@ UNKNOWN = 8  # seconds of a crate that seconds.txt does not have
 PROVED = re.compile(r'rt: (\w+) proved \((\d+) s\)$')
 UNCHANGED = re.compile(r'rt: (\w+) proved \(unchanged')
 EDIT = re.compile(r'rt: must-fail (\w+)/')
+COUNT = re.compile(r'\d+ passed, \d+ failed$')
 
 
 def read_seconds():
@@ -44,10 +48,13 @@ class Progress:
         return sum(self.left.values()) * ratio / 60
 
     def sentence(self):
-        minutes = round(self.minutes_left())
-        if minutes < 1:
-            return 'less than a minute left'
-        return f"some {minutes} minute{'' if minutes == 1 else 's'} left"
+        return sentence(self.minutes_left())
+
+
+def sentence(minutes):
+    if round(minutes) < 1:
+        return 'less than a minute left'
+    return f"some {round(minutes)} minute{'' if round(minutes) == 1 else 's'} left"
 
 
 def processors():
@@ -78,9 +85,23 @@ def gate():
                   f'{progress.sentence()}', flush=True)
 
 
+def outside():
+    """Follows the tests from outside; nothing is said after their last line, which counts all."""
+    seconds, began, counted = read_seconds()['outside'], time.monotonic(), None
+    sys.stdin.reconfigure(errors='replace')
+    for line in sys.stdin:
+        if counted:
+            left = (seconds - (time.monotonic() - began)) / 60
+            print(f'gate: the tests from outside, {sentence(left)}', flush=True)
+        print(line, end='', flush=True)
+        counted = COUNT.match(line)
+
+
 def main(words):
     if words == ['gate']:
         gate()
+    elif words == ['outside']:
+        outside()
     elif len(words) == 2 and words[0] == 'seconds':
         with open(words[1], encoding='utf-8') as file:
             found = [PROVED.match(line) for line in file]
