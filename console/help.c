@@ -65,6 +65,13 @@ void help_all(FILE *to) {
     fputs(NOTES, to);
 }
 
+static void operands(FILE *to, const struct page *p) {
+    const struct operand *o;
+    fputs("\nWords:\n", to);
+    for (o = OPERANDS; o->name; o++)
+        if (page_takes(p, o->name)) fprintf(to, "    %-10s%s\n", o->name, o->is);
+}
+
 static void options(FILE *to, const struct page *p) {
     const struct option *o;
     fputs("\nOptions:\n", to);
@@ -107,6 +114,7 @@ void help_of(FILE *to, const struct page *p) {
         putc('\n', to);
         text = paragraph(to, text, strlen(text), 0);
     }
+    operands(to, p);
     options(to, p);
     fprintf(to, "\nExample:\n    $ star %s\n", p->example);
     lines(to, p->output);

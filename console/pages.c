@@ -51,6 +51,19 @@ const struct keys KEYS[] = {
     {NULL, NULL},
 };
 
+const struct operand OPERANDS[] = {
+    {"FILE", "a table, or an STP file where no plan is asked for; -: standard input"},
+    {"TRENCH", "the number of a trench, by its place in the file, from 1 on"},
+    {"JUNCTION", "the number of a junction, from 1 on"},
+    {"LEFT", "the junction at one end of the trench"},
+    {"RIGHT", "the junction at its other end"},
+    {"PRICE", "a whole number from -2147483648 to 2147483647"},
+    {"COUNT", "how many trenches"},
+    {"END", "the number of a district's last trench"},
+    {"OUTPUT", "a file"},
+    {NULL, NULL},
+};
+
 const struct option OPTIONS[] = {
     {"--table", "", "writes a table with the chosen trenches marked"},
     {"--certificate", "", "writes what shows the verdict, for another program to check"},
@@ -523,6 +536,14 @@ size_t page_status(const struct page *p, int status, const char **text) {
     else if (status > 2) *text = STATUS_TEXT[status];
     else return 0;
     return strcspn(*text, "\n");
+}
+
+int page_takes(const struct page *p, const char *operand) {
+    size_t len = strlen(operand);
+    const char *at;
+    for (at = strstr(p->words, operand); at; at = strstr(at + 1, operand))
+        if (at[len] < 'A' || at[len] > 'Z') return 1;
+    return 0;
 }
 
 int page_has(const struct page *p, const char *option) {

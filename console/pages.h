@@ -18,6 +18,11 @@ struct page {
                          it writes none */
 };
 
+/* A word that stands for what a planner puts in place of it, and what that is. */
+struct operand {
+    const char *name, *is;
+};
+
 /* An option, what follows it, and what it does. */
 struct option {
     const char *name, *value, *does;
@@ -31,6 +36,7 @@ struct keys {
 
 /* Each table ends with an entry whose name is NULL. */
 extern const struct keys KEYS[];
+extern const struct operand OPERANDS[];
 extern const struct page PAGES[];
 extern const struct option OPTIONS[];
 
@@ -44,6 +50,9 @@ const struct page *page_of(const char *name);
 /* What a status says of a command, a line of text, and its length; 0 where the command never ends
    with it. */
 size_t page_status(const struct page *p, int status, const char **text);
+
+/* Whether a word stands among those that follow a command. */
+int page_takes(const struct page *p, const char *operand);
 
 /* Whether an option is one of a command's own, or one of every command. */
 int page_has(const struct page *p, const char *option);

@@ -81,6 +81,9 @@ def one(name, folder):
     holds(name + ": 80 columns", max(map(len, before.splitlines())) <= 80)
     statuses = [line.split()[0] for line in section(page, "Status") if line[0] != " "]
     holds(name + ": statuses", {"0", "3", "4", "5"} <= set(statuses), statuses)
+    described = [line.split()[0] for line in section(page, "Words")]
+    operands = set(re.findall(r"[A-Z]+", page.splitlines()[0])) - {"OUTPUT"}
+    holds(name + ": each word is described", operands == set(described), described)
     for option in re.findall(r"\[(-[-a-z]+)", page.splitlines()[0]):
         listed = [line.split()[0] for line in section(page, "Options")]
         holds("%s: %s is described" % (name, option), option in listed, listed)
@@ -104,7 +107,7 @@ def made(folder):
         holds(name + " is as 'make manual' makes it", again.returncode == 0 and again.stdout == own)
     with open(os.path.join(ROOT, "console/star.1")) as text:
         manual = text.read()
-    holds("six sections of the manual page are made", manual.count("made by make manual: ") == 6)
+    holds("seven sections of the manual page are made", manual.count("made by make manual: ") == 7)
 
 
 def main():

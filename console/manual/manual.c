@@ -18,20 +18,16 @@ static void roff_letters(const char *text, size_t len) {
         else putchar(*text);
 }
 
-/* Words that stand for what a planner puts in place of them. */
-static const char *const PLACES[] = {"FILE", "TRENCH", "PRICE", "JUNCTION", "COUNT",
-                                     "END",  "LEFT",   "RIGHT", "OUTPUT",   NULL};
-
 static int is(const char *word, size_t len, const char *name) {
     return strlen(name) == len && memcmp(word, name, len) == 0;
 }
 
 /* The font of a word: italics for what is put in place of it, bold for an option. */
 static char font(const char *word, size_t len) {
+    const struct operand *w;
     const struct option *o;
-    int i;
-    for (i = 0; PLACES[i]; i++)
-        if (is(word, len, PLACES[i])) return 'I';
+    for (w = OPERANDS; w->name; w++)
+        if (is(word, len, w->name)) return 'I';
     for (o = OPTIONS; o->name; o++)
         if (is(word, len, o->name)) return 'B';
     return 'R';
@@ -95,6 +91,14 @@ static void roff_commands(void) {
     for (p = PAGES; p->name; p++) {
         printf(".TP\n.B %s\n", p->name);
         roff_text(p->does, strlen(p->does));
+    }
+}
+
+static void roff_operands(void) {
+    const struct operand *o;
+    for (o = OPERANDS; o->name; o++) {
+        printf(".TP\n.I %s\n", o->name);
+        roff_text(o->is, strlen(o->is));
     }
 }
 
@@ -204,10 +208,15 @@ static const struct section {
     const char *name;
     void (*write)(void);
 } SECTIONS[] = {
-    {"synopsis", roff_synopsis},         {"commands", roff_commands},
-    {"options", roff_options},           {"statuses", roff_statuses},
-    {"examples", roff_examples},         {"objects", roff_objects},
-    {"list of commands", markdown_list}, {"table of statuses", markdown_statuses},
+    {"synopsis", roff_synopsis},
+    {"commands", roff_commands},
+    {"words", roff_operands},
+    {"options", roff_options},
+    {"statuses", roff_statuses},
+    {"examples", roff_examples},
+    {"objects", roff_objects},
+    {"list of commands", markdown_list},
+    {"table of statuses", markdown_statuses},
 };
 
 /* The section that a line opens, NULL for none. */
