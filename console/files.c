@@ -296,9 +296,4 @@ int file_replaced(const char *name) {
     return replaced;
 }
 
-void file_guard(void) {
-    int stream;
-    for (stream = 0; stream <= 2; stream++)
-        if (fcntl(stream, F_GETFD) < 0) open("/dev/null", stream == 0 ? O_WRONLY : O_RDONLY);
-    signal(SIGXFSZ, SIG_IGN);
-}
+void file_limit_told(void) { signal(SIGXFSZ, SIG_IGN); }

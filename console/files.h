@@ -24,9 +24,8 @@ int file_unchanged(struct file_id one, struct file_id other);
    replace a device, a pipe or a stream that is open already, such as /dev/stdout. */
 int file_replaced(const char *name);
 
-/* Puts streams on which nothing can be read or written in the place of standard streams that are
-   closed, so that no file gets their numbers; and has a file size limit told as an error. */
-void file_guard(void);
+/* Has a limit on the size of files told as an error, and not by a signal that ends the program. */
+void file_limit_told(void);
 
 enum file_written {
     FILE_UNWRITTEN, /* with errno; a file that was to be replaced is as it was */

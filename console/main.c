@@ -180,6 +180,7 @@ static int run(struct request *r) {
 static int tell_help(struct request *r) {
     const struct page *p = r->command ? page_of(r->command->name) : NULL;
     FILE *to;
+    if (r->file) output_bar(file_named(r->file));
     r->out.file = NULL;
     to = output_open(&r->out);
     if (!to) return EXIT_UNWRITTEN;
@@ -202,12 +203,13 @@ static int fault_ends(const struct request *r, int status) {
     return status == EXIT_UNREADABLE || status == EXIT_USAGE;
 }
 
-/* The object of such a fault. */
-static int tell_fault(struct request *r, int status) {
+/* The object of such a fault, which may have come before it was known which word is the file. */
+static int tell_fault(struct request *r, int status, char **words) {
     FILE *to;
+    for (; *words; words++) output_bar(file_named(*words));
     r->out.file = NULL;
     to = output_open(&r->out);
-    if (!to) return status; /* standard output is the file that is read */
+    if (!to) return status; /* standard output is a file that is named */
     json_fault(to, &r->with, status, fault_last());
     return output_close(&r->out) ? status : EXIT_UNWRITTEN;
 }
@@ -226,7 +228,7 @@ static int asks_help(const char *word) {
 int main(int count, char **words) {
     static struct request r; /* nothing is asked for yet */
     int status;
-    file_guard();
+    file_limit_told();
     if (count < 2) {
         help_all(stderr);
         return EXIT_USAGE;
@@ -246,6 +248,6 @@ int main(int count, char **words) {
         return misused(words[1][0] == '-' ? "unknown option" : "unknown command", words[1]);
     }
     if (status > EXIT_REFUSED) output_drop(&r.out);
-    if (r.with.json && fault_ends(&r, status)) return tell_fault(&r, status);
+    if (r.with.json && fault_ends(&r, status)) return tell_fault(&r, status, words + 2);
     return output_close(&r.out) ? status : EXIT_UNWRITTEN;
 }

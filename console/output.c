@@ -20,11 +20,18 @@ static void complain(const struct output *o, const char *what) {
 
 static const char UNWRITTEN[] = "it could not be written";
 
-/* Whether standard output is a file that is read: then nothing is written to it. */
+/* Whether standard output is a file that is named. */
 static int barred;
 
+void output_bar(struct file_id named) {
+    if (file_same(file_open(STDOUT_FILENO), named)) barred = 1;
+}
+
 FILE *output_open(struct output *o) {
-    if (!o->file && barred) return NULL;
+    if (!o->file && barred) {
+        fputs("standard output: it is a file that is named, and is left as it is\n", stderr);
+        return NULL;
+    }
     errno = 0;
     if (!o->to) o->to = o->file ? open_memstream(&o->bytes, &o->len) : stdout;
     if (!o->to) complain(o, UNWRITTEN);
@@ -95,8 +102,10 @@ static int spared(const char *name, const char *why) {
 
 int output_spares(struct output *o, struct file_id read, const char *command, int table) {
     struct message why = {{0}, 0};
-    barred = barred || file_same(file_open(STDOUT_FILENO), read);
-    if (barred) return spared("standard output", "; '-o FILE' replaces a file as a whole");
+    if (file_same(file_open(STDOUT_FILENO), read)) {
+        barred = 1;
+        return spared("standard output", "; '-o FILE' replaces a file as a whole");
+    }
     if (!o->file || !file_same(file_named(o->file), read)) return 0;
     if (!file_replaced(o->file)) return spared(o->file, "; it is a stream that is open");
     say(&why, ": what '%s' writes is no table that can take its place", command);

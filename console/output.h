@@ -25,6 +25,10 @@ int output_close(struct output *o);
 /* Gives up what is pending for a file: it is left as it was. */
 void output_drop(struct output *o);
 
+/* Where standard output is this file, nothing is written to it: the file is one that is named, and
+   words behind its last line would make it another table. */
+void output_bar(struct file_id named);
+
 /* Whether what a command writes may go to the output though this file was read: it may where the
    output is another file, or where the result takes the file's place as its table. Says on standard
    error what is wrong, and gives EXIT_USAGE; 0 if all is well. */

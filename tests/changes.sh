@@ -133,7 +133,7 @@ bytes bytes-mend "${order}1 2 5\r\n2 3 4 0 # yes\r\n" "${order}1 2 5 1\r\n2 3 4 
 
 # Where the file cannot be written, nothing is told of its changes.
 for words in "add %s $yard 2 4 7" "merge %s $struck" 'mend %s console/examples/old.txt'; do
-    try "unwritten: $words" 5 '^/dev/full: it could not be written: No space left' '' ${words/\%s/-o /dev/full}
+    try "unwritten: $words" 5 '/full: it could not be written: No space left' '' ${words/\%s/-o $work/full}
     [ "$(wc -l <"$work/err")" = 1 ]
     verdict "unwritten, and nothing told: $words" $?
 done

@@ -97,7 +97,7 @@ verdict detours $?
 
 # Output that cannot be written is told, with a status of its own.
 for words in "check $yard" "build $yard" "build --table $yard" "explain $yard" "page $yard" "draw $yard" "dot $yard" "table $yard" "digs $yard" "quote $yard 4 9" "breaking $yard 4" "which $yard $dear" "stretch $yard 1 3" "strike $yard 1" "add $yard 2 4 7" "merge $struck" "--help" "check --help" "--version"; do unwritten $words; done
-try full-file 5 '/dev/full: it could not be written' '' draw -o /dev/full $yard
+try full-file 5 '/full: it could not be written: No space left' '' draw -o "$work/full" $yard
 try no-folder 5 'nowhere/x.svg: it could not be written: No such file' '' draw -o "$work/nowhere/x.svg" $yard
 "${star[@]}" check >"$work/all" 2>&1 <&-
 [ $? = 3 ]

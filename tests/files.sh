@@ -79,7 +79,7 @@ if unshare -rm true 2>/dev/null; then
     verdict full-file-system $?
 fi
 begin
-mend_to 5 /dev/full && kept && says '/dev/full: it could not be written: No space left'
+mend_to 5 "$work/full" && kept && says '/full: it could not be written: No space left'
 verdict full-device $?
 
 # A folder, and a file, that may not be written; as another user where the tests are root's.
@@ -184,14 +184,14 @@ begin
 [ $? = 0 ] && whole
 verdict standard-input-table $?
 begin
-ends 4 "${star[@]}" check "$plan" -o /dev/stdout </dev/null
 "${star[@]}" check "$plan" >>"$plan" 2>"$work/all"
 [ $? = 4 ] && kept
 verdict standard-output $?
-"${star[@]}" mend "$plan" -o /dev/stdout >>"$plan" 2>"$work/all"
+"${star[@]}" mend "$plan" -o /proc/self/fd/1 >>"$plan" 2>"$work/all"
 [ $? = 4 ] && kept
 verdict standard-output-table $?
-for words in 'check --json' 'mend --json' "mend --json -o $plan" "mend -o $plan"; do
+for words in 'check --json' 'mend --json' "mend --json -o $plan" "mend -o $plan" \
+    'check --json --bad' 'quote --json'; do
     begin
     "${star[@]}" $words "$plan" >>"$plan" 2>"$work/all"
     [ $? = 4 ] && kept
@@ -226,13 +226,16 @@ ends 0 "${star[@]}" mend "$plan" -o "$folder/pipe"
 wait $!
 cmp -s "$work/after" "$work/read" && kept pipe && [ -p "$folder/pipe" ]
 verdict pipe $?
-for name in /dev/stdout /dev/fd/1 /proc/self/fd/1; do
+ln -s /proc/self/fd/1 "$links/stdout" # as /dev/stdout is, which a wrong console would replace
+for name in "$links/stdout" /dev/fd/1 /proc/self/fd/1; do
     begin
-    { echo before; "${star[@]}" mend "$plan" -o $name 2>/dev/null; echo after; } >"$folder/list"
+    { echo before; "${star[@]}" mend "$plan" -o "$name" 2>/dev/null; echo after; } >"$folder/list"
     kept list && cmp -s "$folder/list" <(echo before; cat "$work/after"; echo after)
     verdict "open: $name" $?
 done
-ends 0 "${star[@]}" check $yard -o /dev/null
+[ -L "$links/stdout" ]
+verdict open-link $?
+ends 0 "${star[@]}" check $yard -o "$work/null" && [ -c "$work/null" ]
 verdict null $?
 
 # Streams that are closed do not end in the plan.
@@ -280,7 +283,7 @@ if cc -shared -fPIC -o "$library" tests/failing.c 2>/dev/null; then
         begin
         failing fsync 0
         export FAILING_RUN="$change; cp '$plan' '$work/other'"
-        ends 5 preloaded && stands "$work/other" && says 'plan.txt: it was changed after it was read'
+        ends 5 preloaded && stands "$work/other" && says 'plan.txt: it was changed after it was'
         verdict "changed: $change" $?
     done
     begin

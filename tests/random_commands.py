@@ -16,6 +16,7 @@ import random
 import resource
 import shutil
 import signal
+import stat
 import subprocess
 import sys
 import tempfile
@@ -85,6 +86,14 @@ def content(dice):
     return mark + (end.join(lines) + dice.choice((end, end, ""))).encode("latin-1")
 
 
+def device(name, minor):
+    """A device of the case's own: a wrong console, run by root, would replace the system's."""
+    if os.getuid() == 0:
+        os.mknod(name, 0o666 | stat.S_IFCHR, os.makedev(1, minor))
+    else:
+        os.symlink("/dev/full" if minor == 7 else "/dev/null", name)
+
+
 def fill(dice, folder):
     """The files of a case."""
     os.mkdir(folder)
@@ -100,6 +109,9 @@ def fill(dice, folder):
     os.symlink("within/new", folder + "/dangling")
     os.symlink("nowhere/new", folder + "/lost")
     os.symlink("loop", folder + "/loop")
+    os.symlink("/proc/self/fd/1", folder + "/stdout")
+    device(folder + "/full", 7)
+    device(folder + "/null", 3)
     os.chmod(folder + "/other", dice.choice((0o600, 0o644, 0o664, 0o755)))
 
 
@@ -133,7 +145,7 @@ def command_line(dice):
     if not set(words) & set(TABLES + ["--table"]) and dice.random() < 0.7:
         usual = ("other", "new", "new", "dangling")
     odd = ("hard", "link", "within/far", "dangling", "lost", "loop", "within", "nowhere/new",
-           "/dev/full", "/dev/null", "/dev/stdout", "-", "", None)
+           "full", "null", "stdout", "-", "", None)
     return words, dice.choice(usual if dice.random() < 0.7 else odd)
 
 
@@ -169,7 +181,7 @@ def run(star, words, folder, stdin, limit=None, kill=None):
 
 def target_of(folder, output):
     """The name in the folder that an output stands for; None for one outside it or none."""
-    if not output or output.startswith("/dev/") or output == "-":
+    if not output or output in ("full", "null", "stdout", "-"):
         return None
     path = os.path.realpath(os.path.join(folder, output))
     return os.path.relpath(path, folder) if not os.path.isdir(path) else None

@@ -5,6 +5,13 @@ star=("$@") passed=0 failed=0 work=$(mktemp -d)
 trap 'rm -rf "$work"' EXIT
 yard=console/examples/yard.txt dear=console/examples/yard-dear.txt grant=console/examples/grant.txt street=console/examples/street.stp struck=console/examples/struck.txt
 
+# Devices of the tests' own: a wrong console that is run by root would replace those of the system.
+device() { # NAME MAJOR MINOR
+    if [ "$(id -u)" != 0 ]; then ln -s "/dev/$1" "$work/$1"; else mknod "$work/$1" c "$2" "$3"; fi
+}
+device full 1 7
+device null 1 3
+
 verdict() { # NAME STATUS: counts a test whose last command ended with STATUS
     if [ "$2" = 0 ]; then passed=$((passed + 1)); else
         echo "console $1 failed:"
