@@ -85,7 +85,7 @@ export class Picture {
     });
     this.groups.left.append(...this.lines);
     this.discs = Array.from({ length: p.n }, (_, v) => {
-      const d = `M${this.at.x[v]} ${this.at.y[v]}h0`;
+      const d = `M${this.at.x[v]} ${this.at.y[v]}h0.0001`; // a length of 0 is drawn in many ways
       return svg('g', {}, svg('path', { class: 'rim', d }), svg('path', { class: 'disc', d }));
     });
     this.groups.discs.append(...this.discs);
