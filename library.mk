@@ -42,6 +42,10 @@ wheel: checked $(SHARED)
 
 manual3: $(PAGES)
 
+# Ten tasks with the library, networkx and LEMON, side by side.
+tasks: $(SHARED)
+	$(PYTHON) bench/tasks/compare.py $(BUILD)
+
 all: $(SHARED) $(PAGES)
 outside: $(BUILD)/table_test $(BUILD)/table_test_faulty $(SHARED) $(PAGES)
 
@@ -63,4 +67,4 @@ uninstall-library:
 	rm -f $(DESTDIR)$(PREFIX)/lib/libstar.so* $(PACKAGE)/starConfig.cmake $(PACKAGE)/starConfigVersion.cmake
 	rm -f $(MANUALS3)/libstar.3 $(patsubst %,$(MANUALS3)/%.3,$(shell sed -n -f include/names.sed include/star.h))
 
-.PHONY: shared manual3 wheel install-library uninstall-library
+.PHONY: shared manual3 tasks wheel install-library uninstall-library

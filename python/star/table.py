@@ -147,13 +147,13 @@ junctions, or two equal ends
 
     @plan.setter
     def plan(self, rows: Iterable[int]) -> None:
-        wanted = [_word(row) for row in rows]
-        used = set(self._used())
-        for row in wanted:
-            if row not in used:
-                raise Refused(18, row, "row %d is not in use" % row)
-        ctypes.memset(ctypes.addressof(self._t) + _MARK, 0, lib.MAX_ROWS)
-        self.mark(*wanted)
+        used = int.from_bytes(bytes(self._t.in_use), "little") << 1
+        marks = bytearray(lib.MAX_ROWS)
+        for row in rows:
+            if not (row > 0 and used >> row & 1):
+                raise Refused(18, 0, "row %d is not in use" % row)
+            marks[row - 1] = 1
+        ctypes.memmove(ctypes.addressof(self._t) + _MARK, bytes(marks), lib.MAX_ROWS)
 
     def mark(self, *rows: int, on: bool = True) -> None:
         """Marks rows, or takes their marks away.
@@ -163,7 +163,7 @@ junctions, or two equal ends
         """
         for row in rows:
             if not lib.mark(self._at, _word(row), bool(on)):
-                raise Refused(18, row, "row %d is not in use" % row)
+                raise Refused(18, 0, "row %d is not in use" % row)
 
     def __len__(self) -> int:
         return len(self._used())
@@ -382,8 +382,8 @@ junctions, or two equal ends
         v = lib.mend(self._at, records)
         if v.kind == lib.REFUSED:
             raise Refused(v.number, v.place)
-        steps = tuple(Step(_KINDS[r.kind], r.out or None, r.into or None)
-                      for r in records[:v.steps])
+        told = struct.iter_unpack("=3I", ctypes.string_at(records, 12 * v.steps))
+        steps = tuple(Step(_KINDS[kind], out or None, into or None) for kind, out, into in told)
         return Mended(v.total, bytes(self._t.mark), steps)
 
     def outlets(self, junction: Hashable, count: int) -> Plan:
@@ -400,21 +400,22 @@ junctions, or two equal ends
 
     def districts(self, ends: Sequence[int]) -> Districts:
         """Marks a least network made from the least rows of each district alone. A district is a
-        run of rows; ends has the last row of each, and closes with the table's last row.
+        run of rows; ends has the last row of each, and closes with the table's last row, which may
+        be struck.
 
         >>> yard = Table(4, [(1, 2, 5), (2, 3, 3), (3, 4, 5), (1, 4, 4), (1, 3, 6)])
         >>> yard.districts([2, 5])
         Districts(total=12, forests=((1, 2), (3, 4)), rows=(1, 2, 4))
         """
         given = [_word(end) for end in ends]
-        last = max(self._used(), default=0)
-        ends = [lib.MAX_ROWS if k == len(given) - 1 and end == last else end
-                for k, end in enumerate(given)]
+        last = int.from_bytes(bytes(self._t.in_use), "little").bit_length()
+        entered = max(last, len(bytes(self._t.left).rstrip(b"\0")))
+        ends = given[:-1] + [lib.MAX_ROWS if last <= end <= entered else end for end in given[-1:]]
         forests = lib.Column()
         v = lib.districts(self._at, (ctypes.c_uint32 * len(ends))(*ends), len(ends), forests)
         if v.kind == lib.REFUSED:
             raise Refused(v.number, v.place)
-        chosen = rows_of(bytes(forests))
+        chosen = rows_of(ctypes.string_at(forests, last))
         starts = [0] + given[:-1]
         parts = tuple(tuple(r for r in chosen if a < r <= b) for a, b in zip(starts, given))
         return Districts(v.total, bytes(self._t.mark), parts)

@@ -91,6 +91,14 @@ class Refusals(unittest.TestCase):
         self.assertEqual((again.number, str(again)), (11, str(caught.exception)))
         self.assertIsInstance(again, ValueError)
 
+    def test_districts_with_struck_rows(self):
+        t = star.Table(4, YARD)
+        t.strike(5)
+        for last in (4, 5):
+            self.assertEqual(t.districts([2, last]).forests, ((1, 2), (3, 4)))
+        for last in (3, 6, 2**32 + 5):
+            self.refused(14, 0, t.districts, [2, last])
+
     def test_full(self):
         pairs = [(u, v, 1) for u in range(1, 60) for v in range(u + 1, 60)][:1024]
         t = star.Table(59, pairs)
