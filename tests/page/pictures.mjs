@@ -22,7 +22,7 @@ async function run() {
   await b.go(path.resolve(html));
   await open(b, 'yard-dear.txt');
   await b.value('star.app.select(3)');
-  await b.picture(path.join(folder, 'page-yard.png'));
+  await b.picture(path.join(folder, 'yard.png'));
   await b.close();
 }
 
