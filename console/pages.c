@@ -52,7 +52,7 @@ const struct keys KEYS[] = {
 };
 
 const struct operand OPERANDS[] = {
-    {"FILE", "a table, or an STP file where no plan is asked for; -: standard input"},
+    {"FILE", "a table, or an STP file if no plan is needed; - is standard input"},
     {"TRENCH", "the number of a trench, by its place in the file, from 1 on"},
     {"JUNCTION", "the number of a junction, from 1 on"},
     {"LEFT", "the junction at one end of the trench"},
