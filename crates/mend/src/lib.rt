@@ -22,7 +22,7 @@ ghost use Rattle.table.specs.Loads.{loadedRow};
 ghost use Rattle.drawings.specs.Mend.{claimCauses, fewRecords, redrawn, unmended, mend, mendMarks, mendList};
 ghost use Rattle.record.specs.declared.Record.{Record};
 ghost use Rattle.recordlist.specs.steps.Stored.{storedTo};
-ghost use Rattle.mend.specs.Answers.{answerOf};
+ghost use Rattle.mend.specs.Answers.{answerOf, countOf};
 ghost use Rattle.groups.specs.steps.Machine.{stateOf, visits};
 ghost use Rattle.mend.specs.steps.Machine.{pathOf, outOf, swapped, swapAt};
 use checks::row_byte;
@@ -301,7 +301,7 @@ fn redraw(
     requires { ⌜ orElse (refusal (claimCauses (tableOf n m whole (component rows) (now left) (now right) (now weight) (now mark)))) (fewRecords m records) ≡ none ⌝ }
     ensures { λ r.
         let c = tableOf n m whole (component rows) (now (left .entry)) (now (right .entry)) (now (weight .entry)) (now (mark .entry)) in
-        ⌜ (answerOf (r .answer) ≡ mend c records) × (now (mark .exit) ≡ mendMarks c records) × ((l : List Record) → length l ≡ records → storedTo (r .count) (r .list) l ≡ mendList c l) ⌝ }
+        ⌜ (answerOf (r .answer) ≡ mend c records) × (now (mark .exit) ≡ mendMarks c records) × ((l : List Record) → length l ≡ records → storedTo (r .count) (r .list) l ≡ mendList c l) × (r .count ≡ countOf (answerOf (r .answer))) ⌝ }
 {
     let used = rows_among(m, rows);
     let marked = claim::claim_rows(mark, used);
@@ -346,7 +346,7 @@ pub fn mend_claim_rows(
 ) -> Mending
     ensures { λ r.
         let c = tableOf n m whole (component rows) (now (left .entry)) (now (right .entry)) (now (weight .entry)) (now (mark .entry)) in
-        ⌜ (answerOf (r .answer) ≡ mend c records) × (now (mark .exit) ≡ mendMarks c records) × ((l : List Record) → length l ≡ records → storedTo (r .count) (r .list) l ≡ mendList c l) ⌝ }
+        ⌜ (answerOf (r .answer) ≡ mend c records) × (now (mark .exit) ≡ mendMarks c records) × ((l : List Record) → length l ≡ records → storedTo (r .count) (r .list) l ≡ mendList c l) × (r .count ≡ countOf (answerOf (r .answer))) ⌝ }
 {
     if let Outcome::Refused(refusal) = mend_check(
         n,
@@ -375,7 +375,7 @@ pub fn mend_claim(
 ) -> Mending
     ensures { λ r.
         let c = callOf n (now (left .entry)) (now (right .entry)) (now (weight .entry)) (now (mark .entry)) in
-        ⌜ (answerOf (r .answer) ≡ mend c records) × (now (mark .exit) ≡ mendMarks c records) × ((l : List Record) → length l ≡ records → storedTo (r .count) (r .list) l ≡ mendList c l) ⌝ }
+        ⌜ (answerOf (r .answer) ≡ mend c records) × (now (mark .exit) ≡ mendMarks c records) × ((l : List Record) → length l ≡ records → storedTo (r .count) (r .list) l ≡ mendList c l) × (r .count ≡ countOf (answerOf (r .answer))) ⌝ }
 {
     let m = left.len();
     mend_claim_rows(n, m, true, rows_to(m), left, right, weight, mark, records)
@@ -393,7 +393,7 @@ pub fn work_mend_claim(
 ) -> Mending
     ensures { λ r.
         let c = workOf n (now (words .entry)) (now (left .entry)) (now (right .entry)) (now (weight .entry)) (now (mark .entry)) in
-        ⌜ (answerOf (r .answer) ≡ mend c records) × (now (mark .exit) ≡ mendMarks c records) × ((l : List Record) → length l ≡ records → storedTo (r .count) (r .list) l ≡ mendList c l) ⌝ }
+        ⌜ (answerOf (r .answer) ≡ mend c records) × (now (mark .exit) ≡ mendMarks c records) × ((l : List Record) → length l ≡ records → storedTo (r .count) (r .list) l ≡ mendList c l) × (r .count ≡ countOf (answerOf (r .answer))) ⌝ }
 {
     let whole = words.len() == WORDS;
     mend_claim_rows(

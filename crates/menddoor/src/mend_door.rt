@@ -76,7 +76,7 @@ fn tell(answer: &mut [u8], m: Mending) -> Told
 }
 
 // Mending of a plain table through the door, but for the lent list, which has so many records.
-pub fn mend_answer(
+fn mend_answer(
     n: u32,
     left: &[u8],
     right: &[u8],
@@ -97,7 +97,7 @@ pub fn mend_answer(
 }
 
 // Mending of a working table through the door, but for the lent list, which has so many records.
-pub fn work_mend_answer(
+fn work_mend_answer(
     n: u32,
     words: &[u64],
     left: &[u8],

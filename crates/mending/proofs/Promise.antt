@@ -4,6 +4,7 @@ use Prim.Native.Nat.{ℕ, _≤_}
 use borrow.Author.Tests.{not-false}
 use lib.IntN.{ℤ}
 use mathlib.Core.Bool.{Bool, true, false, not}
+use mathlib.Core.Logic.{inl, inr}
 use mathlib.Core.Option.{none, some}
 use mathlib.Core.Path.{_≡_, refl, sym, subst}
 use native.Mathlib.Omega.{arith}
@@ -17,8 +18,14 @@ use Rattle.mending.proofs.Gaps.{Filled, filled-after, filled-tree, fill
 use Rattle.mending.proofs.Rings.{Kept, kept-after}
 use Rattle.mending.proofs.Visits.{visited-after, visited-good}
 use Rattle.mending.specs.Mending.{Drawing, ringless, gapless, exchanged, unjoined, mended}
-use Rattle.mending.specs.Promise.{Mends, Mendings}
+use Rattle.mending.specs.Promise.{OneOrder, Mends, Mendings}
 use Rattle.rowset.proofs.Laws.{any-none, none-any}
+
+pub one-order : OneOrder
+one-order c d (inl x) (inl y) = omega arith
+one-order c d (inl x) (inr (e, y)) = omega arith
+one-order c d (inr (e, x)) (inl y) = omega arith
+one-order c d (inr (e, x)) (inr (f, y)) = omega arith
 
 module _ (g : Graph) (ok : Sound g) (w : ℕ → ℤ) (M : ℕ → Bool) (inside : Inside g M) where
   kept : Kept g ok w M inside (g .m) (ringless g M)

@@ -39,6 +39,10 @@ visitedRow c = cond (eqb (c .kind) 1) (c .out) (c .into)
 abbrev pub Earlier : Record → Record → Type 0
 Earlier c d = (c .kind < d .kind) ⊎ ((c .kind ≡ d .kind) × (visitedRow c < visitedRow d))
 
+-- of two records at most one is earlier than the other
+abbrev pub OneOrder : Type 0
+OneOrder = (c d : Record) → Earlier c d → Earlier d c → ⊥
+
 -- each record of a list is earlier than those after it
 unfoldable pub InOrder : List Record → Type 0
 InOrder [] = Unit

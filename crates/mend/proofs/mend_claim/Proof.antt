@@ -8,10 +8,11 @@ use Rattle.mend.proofs.mend_claim.Tie as tie
 returns : tie.Need-returns
 returns c =
     let a = c .before .before .before .before .before .before .before .before .before .args in
-    let (answer, marks, list) = rw (c .before .before .before .before .rows-to .ensures) at (c .before .before .mend-claim-rows .ensures) in (
+    let (answer, marks, list, count) = rw (c .before .before .before .before .rows-to .ensures) at (c .before .before .mend-claim-rows .ensures) in (
       answer ∙ plain-mend (a .n) (a .left .now) (a .right .now) (a .weight .now) (a .mark .now) (a .records),
       marks ∙ plain-marks (a .n) (a .left .now) (a .right .now) (a .weight .now) (a .mark .now) (a .records),
       λ l e. list l e ∙ plain-list (a .n) (a .left .now) (a .right .now) (a .weight .now) (a .mark .now) l,
+      count,
     )
 
 pub mend-claim-spec : {M : Type 1} → statement M

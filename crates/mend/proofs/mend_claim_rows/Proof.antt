@@ -5,14 +5,15 @@ use mathlib.Core.Path.{sym, _∙_, ap}
 use Rattle.recordlist.specs.steps.Stored.{storedTo}
 use Rattle.refusal.specs.Outcomes.{refusalOf}
 use Rattle.mend.proofs.Answers.{call-refused}
+use Rattle.mend.specs.Answers.{countOf}
 use Rattle.mend.proofs.mend_claim_rows.Statement.{statement}
 use Rattle.mend.proofs.mend_claim_rows.Tie as tie
 
 returns : tie.Need-returns
-unfolding refusalOf storedTo
+unfolding refusalOf storedTo countOf
 returns c =
     let (answer, marks, list) = call-refused _ _ _ (sym (c .before .before .before .before .mend-check .ensures) ∙ ap refusalOf (c .before .before .refusal .given .1)) in
-    (c .refused .ensures .0 ∙ answer, marks, λ l e. rw (c .refused .ensures .1) (list l e))
+    (c .refused .ensures .0 ∙ answer, marks, λ l e. rw (c .refused .ensures .1) (list l e), c .refused .ensures .1 ∙ sym (ap countOf (c .refused .ensures .0)))
 
 redraw-requires : tie.Need-redraw-requires
 unfolding refusalOf

@@ -8,7 +8,7 @@ use Rattle.groups.proofs.Steps.{bounded-few}
 use Rattle.recordlist.specs.steps.Stored.{storedTo}
 use Rattle.refusal.specs.Outcomes.{refusalOf}
 use Rattle.mend.proofs.Answers.{few-rows, no-tree, loads, mended}
-use Rattle.mend.specs.Answers.{answerOf}
+use Rattle.mend.specs.Answers.{answerOf, countOf}
 use Rattle.mend.proofs.redraw.Statement.{statement}
 use Rattle.mend.proofs.redraw.Tie as tie
 
@@ -16,12 +16,12 @@ tree-paths-requires : tie.Need-tree-paths-requires
 tree-paths-requires c κs = few-rows _ (c .before .before .before .before .before .before .before .before .before .before .args .records) (c .before .before .before .before .before .before .before .before .before .before .pre)
 
 returns : tie.Need-returns
-unfolding refusalOf storedTo
+unfolding refusalOf storedTo countOf
 returns c =
     let m = few-rows _ (c .before .before .before .before .before .before .before .before .before .before .before .before .before .before .before .args .records) (c .before .before .before .before .before .before .before .before .before .before .before .before .before .before .before .pre) in
     let j = rw (bounded-few (c .before .before .before .before .before .before .before .before .before .before .before .before .before .before .before .args .m) m) at (c .before .before .before .before .before .before .two-passes .ensures) in
     let (answer, marks, list) = no-tree _ (c .before .before .before .before .before .before .before .before .before .before .before .before .before .before .before .args .records) (c .before .before .before .before .before .before .before .before .before .before .before .before .before .before .before .pre) _ _ (c .before .before .before .before .before .before .before .before .before .before .rows-among .ensures) (c .before .before .before .before .before .before .before .before .claim-rows .ensures) _ refl _ (j .0) _ refl _ (ap refusalOf (sym (c .before .enum-told2 .given .1)) ∙ c .before .before .before .before .tree-paths .ensures .0) in
-    (c .no-tree .ensures .0 ∙ answer, marks, λ l e. rw (c .no-tree .ensures .1) (list l e))
+    (c .no-tree .ensures .0 ∙ answer, marks, λ l e. rw (c .no-tree .ensures .1) (list l e), c .no-tree .ensures .1 ∙ sym (ap countOf (c .no-tree .ensures .0)))
 
 exchange-rows-requires : tie.Need-exchange-rows-requires
 unfolding refusalOf
@@ -38,12 +38,12 @@ cast-count c =
     search (needs, k)
 
 returns-2 : tie.Need-returns-2
-unfolding refusalOf answerOf
+unfolding refusalOf answerOf countOf
 returns-2 c =
     let m = few-rows _ (c .before .before .before .before .before .before .before .before .before .before .before .before .before .before .before .before .before .before .before .before .before .before .args .records) (c .before .before .before .before .before .before .before .before .before .before .before .before .before .before .before .before .before .before .before .before .before .before .pre) in
     let j = rw (bounded-few (c .before .before .before .before .before .before .before .before .before .before .before .before .before .before .before .before .before .before .before .before .before .before .args .m) m) at (c .before .before .before .before .before .before .before .before .before .before .before .before .before .two-passes .ensures) in
     let (answer, marks, list) = mended _ (c .before .before .before .before .before .before .before .before .before .before .before .before .before .before .before .before .before .before .before .before .before .before .args .records) (c .before .before .before .before .before .before .before .before .before .before .before .before .before .before .before .before .before .before .before .before .before .before .pre) _ _ (c .before .before .before .before .before .before .before .before .before .before .before .before .before .before .before .before .before .rows-among .ensures) (c .before .before .before .before .before .before .before .before .before .before .before .before .before .before .before .claim-rows .ensures) _ refl _ (j .0) _ refl _ (ap refusalOf (sym (c .before .before .before .before .before .before .before .before .enum-told .given .1)) ∙ c .before .before .before .before .before .before .before .before .before .before .before .tree-paths .ensures .0) (c .before .before .before .before .before .before .before .before .before .before .before .tree-paths .ensures .1) _ _ (j .1 .0) (j .1 .1 .0) _ (c .before .before .before .before .before .exchange-rows .ensures .0) in
-    (answer, c .before .before .write-marks .ensures ∙ marks, list)
+    (answer, c .before .before .write-marks .ensures ∙ marks, list, refl)
 
 pub redraw-spec : {M : Type 1} → statement M
 redraw-spec =
