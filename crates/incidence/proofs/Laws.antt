@@ -1,4 +1,4 @@
--- Laws of the columns of rows: a row that comes to a column (rows-put, no-place), the rows that MATCH with each number gives, row by row (each-none, each-put, each-skip, each-all),
+-- Laws of the columns of rows: a row that comes to a column (rows-put, no-place, put-inside, puts-more), the words of a column (width-one, width-four, width-sixteen), the rows that MATCH with each number gives, row by row (each-none, each-put, each-skip, each-all),
 -- and a column as a slice (column-rows). Assumes nothing.
 use Prim.Native.Nat.{ℕ, zero, suc, _+_, _-_, _*_, _/_, _%_, _^_, _<_, _≤_}
 use mathlib.Core.Bool.{Bool, true, false, _&&_, _||_, and-false, and-true, or-false, and-eq-true-iff}
@@ -9,15 +9,15 @@ use native.Mathlib.Decide.{ℕ-discrete, decLe}
 use native.Mathlib.Nat.{div-eq-of-lt-le, mul-comm, mul-suc, mul-le-mul, mul-le-mul-left}
 use native.Mathlib.Omega.{arith}
 use lib.Bits.{bitOr}
-use lib.Dec.{leb, eqb}
+use lib.Dec.{leb, ltb, eqb}
 use lib.ListN.{length, getD, take, drop, set, replicate, length-set, length-replicate, length-drop, List·getD-eq-default}
 use lib.Pow.{shl-exact}
 use lib.Seq.{getD-set-same, getD-set-other, getD-take, getD-drop, length-take-le}
-use borrow.Author.Tests.{leb-true, eqb-true, le-leb, lt-leb, eq-eqb, ne-eqb}
-use Rattle.rowset.proofs.Laws.{both-inside, both-subset, clash}
+use borrow.Author.Tests.{leb-true, eqb-true, le-leb, lt-leb, lt-ltb, le-ltb, eq-eqb, ne-eqb}
+use Rattle.rowset.proofs.Laws.{upwards, any-some, none-any, both-inside, both-subset, clash}
 use Rattle.rowset.proofs.Members.{same-truth}
 use Rattle.rowset.specs.Searches.{equalTo}
-use Rattle.rowset.specs.Sets.{empty, upTo, both, either}
+use Rattle.rowset.specs.Sets.{empty, upTo, both, either, any}
 use Rattle.rowset.specs.Words.{columnWords, inWords}
 use Rattle.slice.proofs.Bits.{bit-set, bit-of-zero}
 use Rattle.slice.proofs.Sets.{upTo-inside, upTo-bounds, upTo-below, upTo-above}
@@ -26,7 +26,7 @@ use Rattle.slice.specs.Slices.{size, bit, component}
 use Rattle.lent.specs.steps.Rows.{NonePast}
 use Rattle.loads.proofs.Numbers.{none-stored}
 use Rattle.inplace.proofs.Joining.{joined}
-use Rattle.incidence.specs.steps.Rows.{placesAt, rowsAt, MatchedEach, Bytes, Blank, EachMatch}
+use Rattle.incidence.specs.steps.Rows.{placesAt, rowsAt, MatchedEach, withBit, rowPut, rowsPut, columnWidth, Bytes, Blank, EachMatch}
 
 -- ── A row comes to a column ──
 
@@ -34,11 +34,7 @@ use Rattle.incidence.specs.steps.Rows.{placesAt, rowsAt, MatchedEach, By
 mask : (k : ℕ) → k < 64 → (1 * 2 ^ k) % 2 ^ 64 ≡ 2 ^ k
 mask k h = shl-exact 1 k 64 (omega arith) (omega arith) ∙ omega arith
 
--- the words l with bit c of word p set
-abbrev pub withBit : List ℕ → ℕ → ℕ → List ℕ
-withBit l p c = set l p (bitOr (getD l p 0) ((1 * 2 ^ c) % 2 ^ 64))
-
--- their bits
+-- the bits of words with one bit set
 set-bit : (l : List ℕ) (p x b c : ℕ) → p < length l → c < 64 → bit (getD (withBit l p c) x 0) b ≡ (bit (getD l x 0) b || (eqb x p && eqb b c))
 set-bit l p x b c inside small = by-cases (ℕ-discrete x p) here other
   where
@@ -132,6 +128,71 @@ small-product q v b hq hv = mul-le-mul hq (omega arith)
 -- in columns that are too wide, and in one that does not lie inside, no row has a place
 pub too-wide : (q : ℕ) (l : List ℕ) (v i : ℕ) → 16 < q → placesAt q l v i ≡ true → ⊥
 too-wide q l v i h e = let b = place-bounds q l v i e in omega (arith, b)
+
+-- the words afterwards
+module _ (q : ℕ) (l : List ℕ) (v i : ℕ) where
+  pub put-wide : 16 < q → l ≡ rowPut q l v i
+  unfolding rowPut
+  put-wide h = rw (lt-ltb columnWords q h)
+
+  pub put-past : q ≤ 16 → q ≤ (i - 1) / 64 → l ≡ rowPut q l v i
+  unfolding rowPut
+  put-past few h = rw (le-ltb columnWords q few, le-leb q ((i - 1) / 64) h)
+
+  pub put-outside : q ≤ 16 → (i - 1) / 64 < q → length l ≤ q * v + (i - 1) / 64 → l ≡ rowPut q l v i
+  unfolding rowPut
+  put-outside few h out = rw (le-ltb columnWords q few, lt-leb q ((i - 1) / 64) h, le-leb (length l) (q * v + (i - 1) / 64) out)
+
+  pub put-inside : q ≤ 16 → (i - 1) / 64 < q → q * v + (i - 1) / 64 < length l → withBit l (q * v + (i - 1) / 64) ((i - 1) % 64) ≡ rowPut q l v i
+  unfolding rowPut
+  put-inside few h room = rw (le-ltb columnWords q few, lt-leb q ((i - 1) / 64) h, lt-leb (length l) (q * v + (i - 1) / 64) room)
+
+-- row by row
+module _ (q : ℕ) (f : ℕ → ℕ) (rows : ℕ → Bool) (l : List ℕ) where
+  pub puts-none : l ≡ rowsPut q f rows l 0
+  unfolding rowsPut
+  puts-none = refl
+
+  pub puts-more : (i x : ℕ) (m n : List ℕ) → m ≡ rowsPut q f rows l i → rows (i + 1) ≡ true → x ≡ f (i + 1) → n ≡ rowPut q m x (i + 1) → n ≡ rowsPut q f rows l (i + 1)
+  unfolding rowsPut
+  puts-more i x m n e r p h =
+      let s : i + 1 ≡ suc i = omega arith in
+      let there : rows (suc i) ≡ true = rw s at r in
+      let number : x ≡ f (suc i) = rw s at p in
+      let put : n ≡ rowPut q m x (suc i) = rw s at h in
+      put ∙ ap₂ (λ (t : List ℕ) (y : ℕ). rowPut q t y (suc i)) e number ∙ rw (s, there)
+
+  pub puts-skip : (i : ℕ) (m : List ℕ) → m ≡ rowsPut q f rows l i → rows (i + 1) ≡ false → m ≡ rowsPut q f rows l (i + 1)
+  unfolding rowsPut
+  puts-skip i m e r =
+      let s : i + 1 ≡ suc i = omega arith in
+      let none : rows (suc i) ≡ false = rw s at r in
+      e ∙ rw (s, none)
+
+  pub puts-all : (i : ℕ) (m : List ℕ) → i ≤ 1024 → ((k : ℕ) → i < k → rows k ≡ false) → m ≡ rowsPut q f rows l i → m ≡ rowsPut q f rows l size
+  unfolding rowsPut
+  puts-all i m h past e = upwards (λ (k : ℕ). m ≡ rowsPut q f rows l k) i size h e (λ k g u p. p ∙ rw (past (suc k) (omega arith)))
+
+-- ── The words of a column ──
+
+module _ (P : ℕ → Bool) (r : ℕ) (top : r ≤ size) (there : 0 < r → P r ≡ true) (past : (i : ℕ) → r < i → P i ≡ false) where
+  none-beyond : (k : ℕ) → r ≤ k → any size (λ i. ltb k i && P i) ≡ false
+  none-beyond k h = none-any size (λ i. ltb k i && P i) (λ i lo hi. by-cases (decLe i k) (λ u. rw (le-ltb k i u)) (λ u. rw (past i (omega arith)) (and-false (ltb k i))))
+
+  some-beyond : (k : ℕ) → k < r → any size (λ i. ltb k i && P i) ≡ true
+  some-beyond k h = any-some size r (λ i. ltb k i && P i) (omega arith) top (and-eq-true-iff _ _ .1 (lt-ltb k r h, there (omega arith)))
+
+  pub width-one : r ≤ 64 → 1 ≡ columnWidth P
+  unfolding columnWidth
+  width-one h = rw (none-beyond 64 h)
+
+  pub width-four : 64 < r → r ≤ 256 → 4 ≡ columnWidth P
+  unfolding columnWidth
+  width-four l h = rw (some-beyond 64 l, none-beyond 256 h)
+
+  pub width-sixteen : 256 < r → 16 ≡ columnWidth P
+  unfolding columnWidth
+  width-sixteen l = rw (some-beyond 64 (omega arith), some-beyond 256 l)
 
 -- ── The rows that MATCH gives ──
 

@@ -5,11 +5,13 @@ ghost use mathlib.Core.Bool.{_&&_, _||_};
 ghost use mathlib.Core.Path.{_≡_};
 ghost use lib.Dec.{eqb};
 ghost use lib.ListN.{length};
+ghost use mathlib.Core.List.{List};
 ghost use Rattle.lent.specs.steps.Rows.{NonePast};
 ghost use Rattle.rowset.specs.Sets.{either};
 ghost use Rattle.rowset.specs.Words.{inWords};
+ghost use Rattle.slice.specs.Slices.{size};
 ghost use Rattle.table.specs.Loads.{loadedRow};
-ghost use Rattle.incidence.specs.steps.Rows.{placesAt, rowsAt, MatchedEach, Bytes};
+ghost use Rattle.incidence.specs.steps.Rows.{placesAt, rowsAt, MatchedEach, rowPut, rowsPut, columnWidth, Bytes};
 
 // The components in a word, and the words of a slice.
 const BITS: usize = 64;
@@ -25,7 +27,7 @@ pub const OF_SIXTEEN: usize = 4096;
 
 // The words that a column takes for the rows of a slice: one, four or sixteen.
 pub fn words_of(rows: &[u64; COLUMN]) -> usize
-    ensures { λ r. ⌜ (r ≤ 16) × NonePast r (inWords (now (rows .entry))) ⌝ }
+    ensures { λ r. ⌜ (r ≤ 16) × NonePast r (inWords (now (rows .entry))) × (r ≡ columnWidth (inWords (now (rows .entry)))) ⌝ }
 {
     let end = inplace::last_row(rows);
     if end <= BITS {
@@ -41,7 +43,7 @@ pub fn words_of(rows: &[u64; COLUMN]) -> usize
 fn put_at(at: &mut [u64], words: usize, v: u32, i: usize)
     requires { ⌜ (1 ≤ i) × (i ≤ 1024) ⌝ }
     ensures rows { λ r. ⌜ ((u k : ℕ) → rowsAt words (now (at .exit)) u k ≡ (rowsAt words (now (at .entry)) u k || (placesAt words (now (at .entry)) u k && (eqb u v && eqb k i)))) ⌝ }
-    ensures size { λ r. ⌜ length (now (at .exit)) ≡ length (now (at .entry)) ⌝ }
+    ensures words { λ r. ⌜ (length (now (at .exit)) ≡ length (now (at .entry))) × (now (at .exit) ≡ rowPut words (now (at .entry)) v i) ⌝ }
 {
     if COLUMN < words {
         return;
@@ -57,7 +59,7 @@ fn put_at(at: &mut [u64], words: usize, v: u32, i: usize)
     at[place] = at[place] | (1 << ((i - 1) % BITS));
 }
 
-// MATCH with each byte: the rows of a slice come to the column of their left end in `lefts`, and to that of their right end in `rights`. Both ends of each row are bytes.
+// MATCH with each byte: the rows of a slice come to the column of their left end in `lefts`, and to that of their right end in `rights`. Both ends of each row are bytes. The last clause says every word afterwards.
 pub fn match_each(
     left: &[u8],
     right: &[u8],
@@ -68,7 +70,12 @@ pub fn match_each(
 )
     ensures lefts { λ r. ⌜ MatchedEach words (loadedRow 1 (now (left .entry))) (inWords (now (rows .entry))) (now (lefts .entry)) (now (lefts .exit)) ⌝ }
     ensures rights { λ r. ⌜ MatchedEach words (loadedRow 1 (now (right .entry))) (inWords (now (rows .entry))) (now (rights .entry)) (now (rights .exit)) ⌝ }
-    ensures bytes { λ r. ⌜ Bytes (loadedRow 1 (now (left .entry))) (inWords (now (rows .entry))) × Bytes (loadedRow 1 (now (right .entry))) (inWords (now (rows .entry))) ⌝ }
+    ensures words { λ r.
+        let put : (ℕ → ℕ) → List ℕ → List ℕ = λ f l. rowsPut words f (inWords (now (rows .entry))) l size in
+        ⌜ Bytes (loadedRow 1 (now (left .entry))) (inWords (now (rows .entry)))
+          × Bytes (loadedRow 1 (now (right .entry))) (inWords (now (rows .entry)))
+          × (now (lefts .exit) ≡ put (loadedRow 1 (now (left .entry))) (now (lefts .entry)))
+          × (now (rights .exit) ≡ put (loadedRow 1 (now (right .entry))) (now (rights .entry))) ⌝ }
 {
     let end = inplace::last_row(rows);
     let mut i = 0;

@@ -9,7 +9,7 @@ ghost use Rattle.matrix.specs.Matrix.{matrixColumn};
 ghost use Rattle.slice.specs.Slices.{component};
 ghost use Rattle.table.specs.Tables.{column};
 ghost use Rattle.lent.specs.steps.Column.{kept};
-ghost use Rattle.lent.specs.steps.Rows.{rowsOf, NonePast, mask, narrowed};
+ghost use Rattle.lent.specs.steps.Rows.{rowsOf, NonePast, wordsUsed, mask, narrowed};
 
 // The number of columns of a table, the words of a column and of a table, and the bits of a word.
 const WIDTH: usize = 32;
@@ -72,7 +72,7 @@ pub fn keep(z: Slice, c: Slice, b: bool) -> Slice
 
 // How many words of z are read: past them z has no row. A multiple of four, so that a loop over them is compiled without a rest.
 pub fn words_used(z: &[u64; COLUMN]) -> usize
-    ensures { λ r. ⌜ (r ≤ 16) × NonePast r (rowsOf (now (z .entry))) ⌝ }
+    ensures { λ r. ⌜ (r ≤ 16) × NonePast r (rowsOf (now (z .entry))) × (r ≡ wordsUsed (now (z .entry))) ⌝ }
 {
     let mut k = COLUMN;
     while 0 < k {

@@ -13,8 +13,8 @@ grow-forest-requires c κs =
     let entry = m .before .before .before .before .before .before .before .before .before .before in
     let (blank-left, blank-right, past) = entry .pre in
     let low = from-one (entry .args .t5 .words) in
-    let (lefts, (rights, (left-bytes, right-bytes))) = m .match-each .ensures in
-    (each-match _ _ _ _ _ blank-left low past left-bytes lefts, each-match _ _ _ _ _ blank-right low past right-bytes rights)
+    let (lefts, (rights, each)) = m .match-each .ensures in
+    (each-match _ _ _ _ _ blank-left low past (each .0) lefts, each-match _ _ _ _ _ blank-right low past (each .1) rights)
 
 pub forest-in-spec : {M : Type 1} → statement M
 forest-in-spec = tie.close (tie.spec (λ c κs. search needs) grow-forest-requires (λ c. search needs) (λ c. search needs) (λ c. search needs))

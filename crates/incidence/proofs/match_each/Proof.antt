@@ -9,8 +9,8 @@ use native.Mathlib.Omega.{arith}
 use Rattle.rowset.specs.Sets.{upTo, both}
 use Rattle.rowset.specs.Words.{inWords}
 use Rattle.table.specs.Loads.{loadedRow}
-use Rattle.incidence.specs.steps.Rows.{MatchedEach, Bytes}
-use Rattle.incidence.proofs.Laws.{each-none, each-put, each-skip, each-all, from-one, bytes-none, bytes-more, bytes-skip, bytes-all}
+use Rattle.incidence.specs.steps.Rows.{MatchedEach, rowsPut, Bytes}
+use Rattle.incidence.proofs.Laws.{each-none, each-put, each-skip, each-all, puts-none, puts-more, puts-skip, puts-all, from-one, bytes-none, bytes-more, bytes-skip, bytes-all}
 use Rattle.incidence.proofs.match_each.Statement.{statement}
 use Rattle.incidence.proofs.match_each.Tie as tie
 
@@ -22,12 +22,14 @@ Inv-loop left right rows words lefts₀ rights₀ end i₀ lefts rights i =
     × MatchedEach words (loadedRow 1 right) (both (upTo i) (inWords rows)) rights₀ rights
     × (length lefts ≡ length lefts₀)
     × (length rights ≡ length rights₀)
+    × (lefts ≡ rowsPut words (loadedRow 1 left) (inWords rows) lefts₀ i)
+    × (rights ≡ rowsPut words (loadedRow 1 right) (inWords rows) rights₀ i)
 
 abbrev μ-loop : tie.MeasureT-loop
 μ-loop left right rows words lefts₀ rights₀ end i₀ lefts rights i = end - i
 
 loop-holds : tie.Need-loop-holds Inv-loop μ-loop
-loop-holds c = (omega arith, c .last-row .ensures .0, (bytes-none _ _, bytes-none _ _), each-none _ _ _ _, each-none _ _ _ _, refl, refl)
+loop-holds c = (omega arith, c .last-row .ensures .0, (bytes-none _ _, bytes-none _ _), each-none _ _ _ _, each-none _ _ _ _, refl, refl, puts-none _ _ _ _, puts-none _ _ _ _)
 
 loop-again : tie.Need-loop-again Inv-loop μ-loop
 loop-again c =
@@ -45,8 +47,10 @@ loop-again c =
       (bytes-more _ _ _ _ (l .inv .2 .0) (left .end-at .ensures .0) (left .end-at .ensures .1), bytes-more _ _ _ _ (l .inv .2 .1) (right .end-at2 .ensures .0) (right .end-at2 .ensures .1)),
       each-put _ _ _ _ _ _ _ _ (l .inv .3) (l .inv .5) there (left .end-at .ensures .0) (first .put-at .ensures .0),
       each-put _ _ _ _ _ _ _ _ (l .inv .4) (l .inv .6) there (right .end-at2 .ensures .0) (second .put-at2 .ensures .0),
-      first .put-at .ensures .1 ∙ l .inv .5,
-      second .put-at2 .ensures .1 ∙ l .inv .6,
+      first .put-at .ensures .1 .0 ∙ l .inv .5,
+      second .put-at2 .ensures .1 .0 ∙ l .inv .6,
+      puts-more _ _ _ _ (l .i) _ _ _ (l .inv .7) there (left .end-at .ensures .0) (first .put-at .ensures .1 .1),
+      puts-more _ _ _ _ (l .i) _ _ _ (l .inv .8) there (right .end-at2 .ensures .0) (second .put-at2 .ensures .1 .1),
     )
 
 loop-again-2 : tie.Need-loop-again-2 Inv-loop μ-loop
@@ -55,7 +59,7 @@ loop-again-2 c =
     let test = row .before .before in
     let l = test .before .loop in
     let none = sym (row .row-in .ensures) ∙ c .if1 .left in
-    (omega (arith, test .loop-test .taken), l .inv .1, (bytes-skip _ _ _ (l .inv .2 .0) none, bytes-skip _ _ _ (l .inv .2 .1) none), each-skip _ _ _ _ _ _ (l .inv .3) none, each-skip _ _ _ _ _ _ (l .inv .4) none, l .inv .5, l .inv .6)
+    (omega (arith, test .loop-test .taken), l .inv .1, (bytes-skip _ _ _ (l .inv .2 .0) none, bytes-skip _ _ _ (l .inv .2 .1) none), each-skip _ _ _ _ _ _ (l .inv .3) none, each-skip _ _ _ _ _ _ (l .inv .4) none, l .inv .5, l .inv .6, puts-skip _ _ _ _ (l .i) _ (l .inv .7) none, puts-skip _ _ _ _ (l .i) _ (l .inv .8) none)
 
 returns : tie.Need-returns Inv-loop μ-loop
 returns c =
@@ -64,7 +68,7 @@ returns c =
       each-all _ _ _ _ (l .i) _ (from-one _) (λ k h. past k (omega arith)) (l .inv .3),
       (
         each-all _ _ _ _ (l .i) _ (from-one _) (λ k h. past k (omega arith)) (l .inv .4),
-        (bytes-all _ _ (l .i) (from-one _) (λ k h. past k (omega arith)) (l .inv .2 .0), bytes-all _ _ (l .i) (from-one _) (λ k h. past k (omega arith)) (l .inv .2 .1)),
+        (bytes-all _ _ (l .i) (from-one _) (λ k h. past k (omega arith)) (l .inv .2 .0), bytes-all _ _ (l .i) (from-one _) (λ k h. past k (omega arith)) (l .inv .2 .1), puts-all _ _ _ _ (l .i) _ (omega (arith, l .inv .0, l .inv .1)) (λ k h. past k (omega arith)) (l .inv .7), puts-all _ _ _ _ (l .i) _ (omega (arith, l .inv .0, l .inv .1)) (λ k h. past k (omega arith)) (l .inv .8)),
       ),
     )
 

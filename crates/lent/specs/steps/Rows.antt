@@ -1,10 +1,11 @@
 -- A set of rows as the words of a slice, while a search narrows it in place.
 -- Assumes nothing.
-use Prim.Native.Nat.{ℕ, _+_, _*_, _<_}
+use Prim.Native.Nat.{ℕ, zero, suc, _+_, _*_, _/_, _<_}
 use mathlib.Core.Bool.{Bool, false, cond, _&&_}
 use mathlib.Core.List.{List}
 use mathlib.Core.Path.{_≡_}
-use lib.Dec.{leb}
+use lib.Dec.{leb, eqb}
+use lib.ListN.{getD}
 use Rattle.matrix.specs.Matrix.{hasColumn, matrixColumn}
 use Rattle.slice.specs.Slices.{component}
 use Rattle.lent.specs.steps.Column.{kept}
@@ -16,6 +17,14 @@ rowsOf l = component (record { words = l })
 -- no row of P stands past the first n words
 abbrev pub NonePast : ℕ → (ℕ → Bool) → Type 0
 NonePast n P = (i : ℕ) → 64 * n < i → P i ≡ false
+
+-- of the first k words those up to the last that is not 0, and on to a multiple of four
+unfoldable pub lastWord : List ℕ → ℕ → ℕ
+lastWord l zero = 0
+lastWord l (suc k) = cond (eqb (getD l k 0) 0) (lastWord l k) (suc k)
+
+abbrev pub wordsUsed : List ℕ → ℕ
+wordsUsed l = (lastWord l 16 + 3) / 4 * 4
 
 -- the word whose exclusive or with a word of a column has a 1 for each row whose bit is b
 unfoldable pub mask : Bool → ℕ
