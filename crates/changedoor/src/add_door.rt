@@ -4,6 +4,7 @@ use answer::write_answer;
 use working::Added;
 ghost use mathlib.Core.Path.{_≡_};
 ghost use Rattle.answer.specs.Records.{fieldsOf};
+ghost use Rattle.packing.specs.Bytes.{AddCall};
 ghost use Rattle.star.specs.Door.{doorReturns};
 ghost use Rattle.working.specs.Answers.{answerOf};
 ghost use Rattle.worktable.specs.Door.{addFields, addDoor, addDoorTable};
@@ -33,7 +34,7 @@ pub fn of_added(x: Added) -> Record
     }
 }
 
-// Adding a row through the door: a and b are its ends, price the 32 bits of its price.
+// Adding a row through the door: a and b are its ends, price the 32 bits of its price. `means` says what the bytes and the table are worth.
 #[no_mangle]
 pub extern "C" fn star_add(
     words: &mut [u64],
@@ -49,6 +50,7 @@ pub extern "C" fn star_add(
     ensures returned { λ r. ⌜ r ≡ doorReturns (now (answer .entry)) ⌝ }
     ensures answered { λ r. ⌜ now (answer .exit) ≡ addDoor (working (now (words .entry)) (now (left .entry)) (now (right .entry)) (now (weight .entry)) (now (numbers .entry))) (now (answer .entry)) ⌝ }
     ensures table { λ r. ⌜ working (now (words .exit)) (now (left .exit)) (now (right .exit)) (now (weight .exit)) (now (numbers .exit)) ≡ addDoorTable (working (now (words .entry)) (now (left .entry)) (now (right .entry)) (now (weight .entry)) (now (numbers .entry))) a b price (now (answer .entry)) ⌝ }
+    ensures means { λ r. ⌜ AddCall (working (now (words .entry)) (now (left .entry)) (now (right .entry)) (now (weight .entry)) (now (numbers .entry))) a b price (now (answer .entry)) (now (answer .exit)) (working (now (words .exit)) (now (left .exit)) (now (right .exit)) (now (weight .exit)) (now (numbers .exit))) r ⌝ }
 {
     if answer.len() != 16 {
         return 0;

@@ -2,15 +2,18 @@
 use answer::of_outcome;
 use answer::write_answer;
 ghost use mathlib.Core.Path.{_≡_};
+ghost use Rattle.packing.specs.Bytes.{CarryCall};
 ghost use Rattle.star.specs.Door.{doorReturns};
 ghost use Rattle.worktable.specs.Door.{carryDoor, carryDoorMarks};
 
 // Carrying through the door: each byte goes to its row's new position, and 0 stands elsewhere, where nothing is refused.
+// `means` says what the bytes and the claim are worth: a claim that passed passes again.
 #[no_mangle]
 pub extern "C" fn star_carry(numbers: &[u32], mark: &mut [u8], answer: &mut [u8]) -> u32
     ensures returned { λ r. ⌜ r ≡ doorReturns (now (answer .entry)) ⌝ }
     ensures answered { λ r. ⌜ now (answer .exit) ≡ carryDoor (now (numbers .entry)) (now (mark .entry)) (now (answer .entry)) ⌝ }
     ensures marks { λ r. ⌜ now (mark .exit) ≡ carryDoorMarks (now (numbers .entry)) (now (mark .entry)) (now (answer .entry)) ⌝ }
+    ensures means { λ r. ⌜ CarryCall (now (numbers .entry)) (now (mark .entry)) (now (answer .entry)) (now (answer .exit)) (now (mark .exit)) r ⌝ }
 {
     if answer.len() != 16 {
         return 0;

@@ -2,11 +2,13 @@
 use answer::of_outcome;
 use answer::write_answer;
 ghost use mathlib.Core.Path.{_≡_};
+ghost use Rattle.packing.specs.Bytes.{MergeCall};
 ghost use Rattle.star.specs.Door.{doorReturns};
 ghost use Rattle.worktable.specs.Door.{mergeDoor, mergeDoorTable};
 ghost use Rattle.worktable.specs.Tables.{working};
 
 // MERGE through the door: the table is packed and the numbers are filled where nothing is refused.
+// `means` says what the bytes and the table are worth: what moved where, and that no least total changes.
 #[no_mangle]
 pub extern "C" fn star_merge(
     words: &mut [u64],
@@ -19,6 +21,7 @@ pub extern "C" fn star_merge(
     ensures returned { λ r. ⌜ r ≡ doorReturns (now (answer .entry)) ⌝ }
     ensures answered { λ r. ⌜ now (answer .exit) ≡ mergeDoor (working (now (words .entry)) (now (left .entry)) (now (right .entry)) (now (weight .entry)) (now (numbers .entry))) (now (answer .entry)) ⌝ }
     ensures table { λ r. ⌜ working (now (words .exit)) (now (left .exit)) (now (right .exit)) (now (weight .exit)) (now (numbers .exit)) ≡ mergeDoorTable (working (now (words .entry)) (now (left .entry)) (now (right .entry)) (now (weight .entry)) (now (numbers .entry))) (now (answer .entry)) ⌝ }
+    ensures means { λ r. ⌜ MergeCall (working (now (words .entry)) (now (left .entry)) (now (right .entry)) (now (weight .entry)) (now (numbers .entry))) (now (answer .entry)) (now (answer .exit)) (working (now (words .exit)) (now (left .exit)) (now (right .exit)) (now (weight .exit)) (now (numbers .exit))) r ⌝ }
 {
     if answer.len() != 16 {
         return 0;

@@ -1,3 +1,4 @@
+pub mod Bytes
 pub mod Carrying
 pub mod Packing
 pub mod Trials

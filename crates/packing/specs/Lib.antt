@@ -1,2 +1,3 @@
+pub mod Bytes
 pub mod Packing
 pub mod Trials

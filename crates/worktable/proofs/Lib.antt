@@ -1,3 +1,4 @@
+pub mod Trials
 pub mod Packing
 pub mod Words
 pub mod Tables
@@ -6,4 +7,4 @@ pub mod Columns
 pub mod Rows
 pub mod Meaning
 pub mod Carrying
-pub mod Trials
+pub mod Refusing

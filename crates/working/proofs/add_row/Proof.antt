@@ -9,7 +9,7 @@ use Rattle.star.specs.Refusals.{maxRows}
 use Rattle.working.specs.Answers.{answerOf}
 use Rattle.worktable.specs.Changes.{unadded, addedAt, newRow}
 use Rattle.worktable.specs.Tables.{Working, working, inUse}
-use Rattle.working.proofs.Refusing.{add-full, add-wrong, add-done, unadded-answer, added-answer, unadded-table, added-table}
+use Rattle.worktable.proofs.Refusing.{add-full, add-wrong, add-done, unadded-answer, added-answer, unadded-table, added-table}
 use Rattle.working.proofs.Tables.{row-added}
 use Rattle.worktable.proofs.Tables.{wrong, sizes-sized, Room, room-made}
 use Rattle.working.proofs.add_row.Statement.{statement}

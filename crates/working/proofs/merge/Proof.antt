@@ -5,7 +5,7 @@ use mathlib.Core.Option.{some}
 use mathlib.Core.Path.{_≡_, sym, ap, _∙_}
 use Rattle.refusal.specs.Outcomes.{refusalOf}
 use Rattle.worktable.specs.Tables.{Working, working}
-use Rattle.working.proofs.Refusing.{merge-wrong, merge-done, unmerged, merged-packed}
+use Rattle.worktable.proofs.Refusing.{merge-wrong, merge-done, unmerged, merged-packed}
 use Rattle.worktable.proofs.Tables.{wrong, sizes-sized}
 use Rattle.working.proofs.merge.Statement.{statement}
 use Rattle.working.proofs.merge.Tie as tie

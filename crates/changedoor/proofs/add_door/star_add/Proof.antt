@@ -6,21 +6,22 @@ use mathlib.Core.Path.{refl, ap, _∙_}
 use native.Mathlib.Omega.{arith}
 use Rattle.changedoor.proofs.add_door.star_add.Statement.{statement}
 use Rattle.changedoor.proofs.add_door.star_add.Tie as tie
+use Rattle.packing.proofs.Bytes.{add-call}
 use Rattle.star.specs.Door.{answerAfter, wellLent, doorReturns}
 use Rattle.worktable.specs.Door.{addFields, addDoor, addDoorTable}
 
 returns : tie.Need-returns
 unfolding doorReturns wellLent answerAfter addDoor addDoorTable
-returns c = rw (ne-eqb (length (c .before .before .before .before .before .before .before .args .answer .now)) 16 (λ e. omega arith)) (refl, (refl, refl))
+returns c = add-call (rw (ne-eqb (length (c .before .before .before .before .before .before .before .args .answer .now)) 16 (λ e. omega arith)) (refl, (refl, refl)))
 
 returns-2 : tie.Need-returns-2
 unfolding doorReturns wellLent addDoor addDoorTable
 returns-2 c =
     let done = c .before .before .before .before .before .before .before .before .before .before .before .before .before .before .before .add-row .ensures in
-    rw (eq-eqb (length (c .before .before .before .before .before .before .before .before .before .before .before .before .before .before .before .before .before .before .before .before .before .before .before .before .before .before .before .before .args .answer .now)) 16 (omega arith)) (
+    add-call (rw (eq-eqb (length (c .before .before .before .before .before .before .before .before .before .before .before .before .before .before .before .before .before .before .before .before .before .before .before .before .before .before .before .before .args .answer .now)) 16 (omega arith)) (
       refl,
       (c .before .before .write-answer .ensures ∙ ap (answerAfter _) (c .before .before .before .before .of-added .ensures ∙ ap addFields (done .0)), done .1),
-    )
+    ))
 
 pub star-add-spec : {M : Type 1} → statement M
 star-add-spec =

@@ -6,21 +6,22 @@ use mathlib.Core.Path.{refl, ap, _∙_}
 use native.Mathlib.Omega.{arith}
 use Rattle.changedoor.proofs.strike_door.star_strike.Statement.{statement}
 use Rattle.changedoor.proofs.strike_door.star_strike.Tie as tie
+use Rattle.packing.proofs.Bytes.{strike-call}
 use Rattle.star.specs.Door.{answerAfter, wellLent, doorReturns, outcomeFields}
 use Rattle.worktable.specs.Door.{strikeDoor, strikeDoorWords}
 
 returns : tie.Need-returns
 unfolding doorReturns wellLent answerAfter strikeDoor strikeDoorWords
-returns c = rw (ne-eqb (length (c .before .before .before .args .answer .now)) 16 (λ e. omega arith)) (refl, (refl, refl))
+returns c = strike-call (rw (ne-eqb (length (c .before .before .before .args .answer .now)) 16 (λ e. omega arith)) (refl, (refl, refl)))
 
 returns-2 : tie.Need-returns-2
 unfolding doorReturns wellLent strikeDoor strikeDoorWords
 returns-2 c =
     let done = c .before .before .before .before .before .before .before .strike .ensures in
-    rw (eq-eqb (length (c .before .before .before .before .before .before .before .before .before .before .before .before .args .answer .now)) 16 (omega arith)) (
+    strike-call (rw (eq-eqb (length (c .before .before .before .before .before .before .before .before .before .before .before .before .args .answer .now)) 16 (omega arith)) (
       refl,
       (c .before .before .write-answer .ensures ∙ ap (answerAfter _) (c .before .before .before .before .of-outcome .ensures ∙ ap outcomeFields (done .0)), done .1),
-    )
+    ))
 
 pub star-strike-spec : {M : Type 1} → statement M
 star-strike-spec =

@@ -11,7 +11,7 @@ use native.Mathlib.Omega.{arith}
 use Rattle.refusal.specs.Outcomes.{refusalOf}
 use Rattle.worktable.proofs.Carrying.{carry-lengths}
 use Rattle.worktable.specs.Carrying.{broughtTo, wrongCarry, carriedClaim}
-use Rattle.working.proofs.Refusing.{carry-wrong, carry-done, uncarried, carried}
+use Rattle.worktable.proofs.Refusing.{carry-wrong, carry-done, uncarried, carried}
 use Rattle.working.proofs.carry.carry.Statement.{statement}
 use Rattle.working.proofs.carry.carry.Tie as tie
 
