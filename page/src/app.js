@@ -235,6 +235,28 @@ export class App {
     return '';
   }
 
+  /** Marks the network that a door has built, or says why it has not.
+   * @param {string} label @param {import('./core.js').Answer & {mark: Uint8Array}} answer */
+  take(label, answer) {
+    if (answer.kind !== PASSED) return this.refused(answer.number, answer.out);
+    this.selected = -1;
+    this.change(label, (p) => {
+      p.mark = answer.mark;
+    });
+    return '';
+  }
+
+  /** @param {number} junction @param {number} count */
+  outlets(junction, count) {
+    const label = `${count} trenches at junction ${junction}`;
+    return this.take(label, this.core.outlets(this.plan, junction, count));
+  }
+
+  /** @param {number[]} ends the last trench of each district */
+  districts(ends) {
+    return this.take(`districts ${ends.join(' ')}`, this.core.districts(this.plan, ends));
+  }
+
   mendStart() {
     const { kind, steps } = this.core.mend(this.plan);
     if (kind !== PASSED) return;

@@ -4,8 +4,8 @@
 
 /** @typedef {import('./plan.js').Plan} Plan */
 /** An answer's sixteen bytes, as include/star.h has them.
- * @typedef {{kind: number, number: number, out: number, in: number, only: boolean,
- * amount: number}} Answer */
+ * @typedef {{result: number, kind: number, number: number, out: number, in: number,
+ *   only: boolean, amount: number}} Answer */
 /** @typedef {{kind: number, out: number, in: number}} Step */
 
 export const MAX_JUNCTIONS = 255;
@@ -109,6 +109,7 @@ export class Core {
     const { memory, view, answer } = this;
     if (taken === 0 && memory[answer] !== REFUSED) throw Error(`${door} took nothing`);
     return {
+      result: taken >>> 0,
       kind: memory[answer],
       number: memory[answer + 1],
       out: view.getUint16(answer + 2, true),
@@ -223,6 +224,35 @@ export class Core {
       steps.push({ kind, out, in: into });
     }
     return { ...answer, mark: this.newMarks(p), steps };
+  }
+
+  /** A network that is least among those with exactly t rows at a junction.
+   * @param {Plan} p @param {number} junction @param {number} t */
+  outlets(p, junction, t) {
+    this.put(p);
+    const answer = this.ask(
+      'star_work_outlets', p.n, ...this.table(), ...this.marks(), junction, t);
+    return { ...answer, mark: this.newMarks(p) };
+  }
+
+  /** A least network from the least rows of each run, given by its last row, counted from 1.
+   * @param {Plan} p @param {number[]} ends */
+  districts(p, ends) {
+    this.put(p);
+    const last = ends.map((end, k) => (k === ends.length - 1 && end === p.m ? MAX_ROWS : end));
+    last.forEach((end, k) => this.view.setUint32(this.numbers + 4 * k, end, true));
+    const lent = [this.numbers, BigInt(last.length), this.second, BigInt(MAX_ROWS)];
+    const answer = this.ask('star_work_districts', p.n, ...this.table(), ...lent, ...this.marks());
+    return { ...answer, mark: this.newMarks(p) };
+  }
+
+  /** Which of two plans over one table costs less: 1 or 2, 0 where one of them is refused.
+   * @param {Plan} p @param {Uint8Array} second */
+  which(p, second) {
+    this.put(p);
+    this.memory.set(second.subarray(0, MAX_ROWS), this.second);
+    const lent = [...this.marks(), this.second, BigInt(MAX_ROWS)];
+    return this.ask('star_work_which', p.n, ...this.table(), ...lent);
   }
 
   /** Where a new row goes, and how the others are numbered then.

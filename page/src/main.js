@@ -10,6 +10,7 @@ import { Lesson, lessonShow } from './lesson.js';
 import { List } from './list.js';
 import { mendSetOff, mendShow } from './mend.js';
 import { Picture } from './picture.js';
+import { plansDistricts, plansOutlets, plansWhich } from './plans.js';
 import { Pointer } from './pointer.js';
 import { Price } from './price.js';
 import { verdictShow } from './verdict.js';
@@ -54,6 +55,9 @@ class Page {
       print: () => window.print(),
       theme: () => this.theme(),
       add: () => byId('add').showModal(),
+      plans: () => this.plans(),
+      outlets: () => plansOutlets(app),
+      districts: () => plansDistricts(app),
       class: () => this.classStart(),
       'lesson-next': () => app.lesson && app.lesson.next(),
       'lesson-leave': () => app.lesson && app.lesson.leave(),
@@ -109,6 +113,10 @@ class Page {
       if (text) this.open(fileBytes(text), e.target.value);
       e.target.value = '';
     });
+    byId('which-file').addEventListener('change', async (/** @type {any} */ e) => {
+      const [file] = e.target.files;
+      if (file) plansWhich(this.app, new Uint8Array(await file.arrayBuffer()), file.name);
+    });
     byId('find').addEventListener('input', () => this.find());
     byId('mend-range').addEventListener('input', () => {
       this.app.mendTo(Number(byId('mend-range').value));
@@ -158,6 +166,12 @@ class Page {
     const rows = [app.selected, ...setOff.under.map(([row]) => row)];
     const [net, card] = ['net', 'card'].map((id) => byId(id).getBoundingClientRect());
     this.picture.reveal(rows, Math.max(0, net.bottom - card.top));
+  }
+
+  plans() {
+    if (this.app.mending || !this.app.judgement.drawn) return;
+    byId('plans-said').replaceChildren();
+    byId('plans').showModal();
   }
 
   classStart() {

@@ -158,6 +158,16 @@ const CHANGES = {
     app.settlePrice(row);
     return ['price', file, String(row + 1), '-12'];
   },
+  outlets(app) {
+    const [at, count_] = [1 + rnd(app.plan.n), 1 + rnd(3)];
+    app.outlets(at, count_);
+    return ['outlets', '--table', file, String(at), String(count_)];
+  },
+  districts(app) {
+    const ends = [...new Set([1 + rnd(app.plan.m), app.plan.m])].sort((a, b) => a - b);
+    app.districts(ends);
+    return ['districts', '--table', file, ...ends.map(String)];
+  },
   add(app) {
     const [a, b] = [1 + rnd(Math.min(255, app.plan.n + 1)), 1 + rnd(app.plan.n)];
     app.add(a, b, -7);
@@ -169,7 +179,7 @@ const CHANGES = {
  * is the file after the change is undone.
  * @param {App} app @param {string} text */
 function sameChange(app, text) {
-  const how = pick(['mend', 'build', 'mark', 'strike', 'price', 'add', 'add']);
+  const how = pick(Object.keys(CHANGES));
   const rows = app.plan.m;
   const words = CHANGES[rows > 0 ? how : 'add'](app, rows > 0 ? rnd(rows) : 0);
   const told = star(...words);

@@ -229,6 +229,34 @@ const GROUPS = {
     check('undo of add', (await saved()) === bytesOf(file));
   },
 
+  async plans() {
+    const [mine, theirs] = [example('office-a.txt'), example('office-b.txt')];
+    await choose(mine);
+    await press('plans');
+    const { root } = await b.send('DOM.getDocument');
+    const asked = { nodeId: root.nodeId, selector: '#which-file' };
+    const { nodeId } = await b.send('DOM.querySelector', asked);
+    await b.send('DOM.setFileInputFiles', { files: [theirs], nodeId });
+    for (let k = 0; k < 50 && (await textOf('plans-said')) === ''; k++) await b.frame();
+    const said = await textOf('plans-said');
+    check('which', said.includes('office-b.txt stands: it costs 17') && said.includes('costs 19'));
+    await b.value("document.getElementById('plans').close()");
+    await choose(example('yard.txt'));
+    await press('plans');
+    await b.value("document.getElementById('outlets-count').value = 3");
+    await press('outlets');
+    check('outlets', (await textOf('plans-said')).includes('the total is 15'));
+    await b.value("document.getElementById('districts-ends').value = '2 5'");
+    await press('districts');
+    check('districts', (await textOf('plans-said')).includes('the total is 12'));
+    await b.value("document.getElementById('plans').close()");
+    const districts = star('districts', '--table', example('yard.txt'), '2', '5');
+    check('its file', (await saved()) === districts);
+    await press('undo');
+    const outlets = star('outlets', '--table', example('yard.txt'), '1', '3');
+    check('undo of districts', (await saved()) === outlets);
+  },
+
   async prices() {
     await choose(example('yard.txt'));
     await b.value(`star.app.select(4);
