@@ -43,6 +43,38 @@ static int once_named(const struct table *t, const char *word, uint32_t *trench)
     return EXIT_USAGE;
 }
 
+/* The trenches that are named, and those of them whose lines say already what they are to say, with
+   how that is told. */
+static struct {
+    unsigned named[STAR_MAX_ROWS], same[STAR_MAX_ROWS];
+    const char *says[STAR_MAX_ROWS];
+    size_t count, sames;
+} changed;
+
+static void note_same(uint32_t trench, const char *says) {
+    changed.same[changed.sames] = (unsigned)trench;
+    changed.says[changed.sames++] = says;
+}
+
+static int changed_json(const struct options *with) {
+    struct output own;
+    struct json j;
+    if (!json_beside(&j, &own, with, "written")) return EXIT_UNWRITTEN;
+    json_numbers(&j, "trenches", changed.named, changed.count);
+    json_numbers(&j, "same", changed.same, changed.sames);
+    return json_beside_end(&j, &own);
+}
+
+/* What is told of a file that was written, by the status of that. */
+static int tell_changed(int status, const struct options *with) {
+    size_t i;
+    if (status != 0) return status;
+    if (with->json) return changed_json(with);
+    for (i = 0; i < changed.sames; i++)
+        fprintf(stderr, "trench %u %s\n", changed.same[i], changed.says[i]);
+    return EXIT_PASSED;
+}
+
 /* Changes a trench in the table; the line follows. Refuses in words where it cannot be. */
 typedef int change_one(struct table *t, uint32_t trench, const char *word);
 
@@ -55,7 +87,9 @@ static int change_each(struct table *t, const struct options *with, const char *
         uint32_t trench;
         status = once_named(t, with->words[i], &trench);
         if (status == 0) status = one(t, trench, with->words[i]);
-        if (status == 0) edit.change[trench - 1] = (uint8_t)change;
+        if (status != 0) return status;
+        edit.change[trench - 1] = (uint8_t)change;
+        changed.named[changed.count++] = (unsigned)trench;
     }
     return status;
 }
@@ -68,11 +102,6 @@ static int in_use(const struct table *t, uint32_t trench, const char *word) {
     return refused(&words);
 }
 
-/* Tells that a line says already what it is to say. */
-static void tell_same(uint32_t trench, const char *what) {
-    fprintf(stderr, "trench %u %s already\n", (unsigned)trench, what);
-}
-
 static int strike(struct table *t, uint32_t trench, const char *word) {
     struct message words = {{0}, 0};
     if (table_strike(t, trench).kind == STAR_PASSED) return 0;
@@ -82,33 +111,33 @@ static int strike(struct table *t, uint32_t trench, const char *word) {
 
 int command_strike(struct table *t, const struct options *with, struct output *o) {
     int status = change_each(t, with, "strike", CHANGE_STRUCK, strike);
-    return status == 0 ? edit_write(o, t, &edit) : status;
+    return tell_changed(status == 0 ? edit_write(o, t, &edit) : status, with);
 }
 
 static int mark(struct table *t, uint32_t trench, const char *word) {
     int status = in_use(t, trench, word);
     if (status != 0) return status;
-    if (t->mark[trench - 1] == 1) tell_same(trench, "is marked");
+    if (t->mark[trench - 1] == 1) note_same(trench, "is marked already");
     t->mark[trench - 1] = 1;
     return 0;
 }
 
 int command_mark(struct table *t, const struct options *with, struct output *o) {
     int status = change_each(t, with, "mark", CHANGE_MARK, mark);
-    return status == 0 ? edit_write(o, t, &edit) : status;
+    return tell_changed(status == 0 ? edit_write(o, t, &edit) : status, with);
 }
 
 static int unmark(struct table *t, uint32_t trench, const char *word) {
     int status = in_use(t, trench, word);
     if (status != 0) return status;
-    if (t->mark[trench - 1] == 0) tell_same(trench, "is unmarked");
+    if (t->mark[trench - 1] == 0) note_same(trench, "is unmarked already");
     t->mark[trench - 1] = 0;
     return 0;
 }
 
 int command_unmark(struct table *t, const struct options *with, struct output *o) {
     int status = change_each(t, with, "unmark", CHANGE_MARK, unmark);
-    return status == 0 ? edit_write(o, t, &edit) : status;
+    return tell_changed(status == 0 ? edit_write(o, t, &edit) : status, with);
 }
 
 int command_price(struct table *t, const struct options *with, struct output *o) {
@@ -123,10 +152,11 @@ int command_price(struct table *t, const struct options *with, struct output *o)
     if (status == 0) status = in_use(t, trench, with->words[0]);
     if (status != 0) return status;
     own = t->weight + PRICE_BYTES * (trench - 1);
-    if (memcmp(own, price, PRICE_BYTES) == 0) tell_same(trench, "has this price");
+    if (memcmp(own, price, PRICE_BYTES) == 0) note_same(trench, "has this price already");
     memcpy(own, price, PRICE_BYTES);
     edit.change[trench - 1] = CHANGE_PRICE;
-    return edit_write(o, t, &edit);
+    changed.named[changed.count++] = (unsigned)trench;
+    return tell_changed(edit_write(o, t, &edit), with);
 }
 
 /* ---- Trenches that come in: unstrike, add ---- */
@@ -146,7 +176,7 @@ static int unstrike(struct table *t, uint32_t trench, const char *word) {
         refusal_of_asked(&words, t, trench, word);
         return refused(&words);
     }
-    if (!t->struck[trench - 1]) fprintf(stderr, "trench %u is not struck\n", (unsigned)trench);
+    if (!t->struck[trench - 1]) note_same(trench, "is not struck");
     return 0;
 }
 
@@ -156,7 +186,7 @@ int command_unstrike(struct table *t, const struct options *with, struct output 
     int status = change_each(t, with, "unstrike", CHANGE_UNSTRUCK, unstrike);
     if (status != 0) return status;
     for (i = table_next(t, 0); i <= t->m; i = table_next(t, i)) edit.change[i - 1] = CHANGE_NONE;
-    return write_sound(o, t, &notes);
+    return tell_changed(write_sound(o, t, &notes), with);
 }
 
 /* Tells the numbers of trenches that have new ones. */
@@ -202,7 +232,8 @@ static int new_trench(const struct options *with, struct trench *new, struct mes
     return 0;
 }
 
-static int add_json(const struct table *t, const struct options *with, size_t at, const struct message *notes) {
+static int add_json(const struct table *t, const struct options *with, size_t at,
+                    const struct message *notes) {
     struct output own;
     struct json j;
     if (!json_beside(&j, &own, with, "written")) return EXIT_UNWRITTEN;

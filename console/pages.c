@@ -318,7 +318,7 @@ const struct page PAGES[] = {
     {
         .name = "strike",
         .words = "FILE TRENCH..",
-        .options = "",
+        .options = "--json",
         .line = "write the file with these trenches struck",
         .does = "Writes the file with 'struck' before the lines of the trenches named. All "
                 "else stands as it did, comments too. A trench that is struck already, or a "
@@ -328,11 +328,13 @@ const struct page PAGES[] = {
         .output = "# The yard: four junctions, five trenches. Junction, junction, price, mark.\n"
                   "1 2 5 0\n2 3 3 1\nstruck 3 4 5 1\n1 4 4 1\n1 3 6 0\n",
         .statuses = "0 written\n2 the table or what was asked was refused, and nothing was written",
+        .keys = "trenches: the numbers of the trenches that are named\n"
+                "same: an empty list",
     },
     {
         .name = "unstrike",
         .words = "FILE TRENCH..",
-        .options = "",
+        .options = "--json",
         .line = "write the file with these struck no longer",
         .does = "Writes the file without 'struck' before the lines of the trenches named, "
                 "which have the prices and marks of their lines again. All else stands as it "
@@ -344,11 +346,13 @@ const struct page PAGES[] = {
         .output = "# The yard with the street between junctions 3 and 4 blocked: its trench is struck. It keeps its number and is left out of everything.\n"
                   "1 2 5 1\n2 3 3 1\n3 4 5 0  # blocked until spring\n1 4 4 1\n1 3 6 0\n",
         .statuses = "0 written\n2 the table or what was asked was refused, and nothing was written",
+        .keys = "trenches: the numbers of the trenches that are named\n"
+                "same: those of them that were not struck",
     },
     {
         .name = "mark",
         .words = "FILE TRENCH..",
-        .options = "",
+        .options = "--json",
         .line = "write the file with these trenches marked",
         .does = "Writes the file with the mark 1 in the lines of the trenches named, which "
                 "are then trenches of the plan. All else stands as it did, comments too. A "
@@ -358,11 +362,13 @@ const struct page PAGES[] = {
         .output = "# The yard: four junctions, five trenches. Junction, junction, price, mark.\n"
                   "1 2 5 1\n2 3 3 1\n3 4 5 1\n1 4 4 1\n1 3 6 0\n",
         .statuses = "0 written\n2 the table or what was asked was refused, and nothing was written",
+        .keys = "trenches: the numbers of the trenches that are named\n"
+                "same: those of them that were marked already",
     },
     {
         .name = "unmark",
         .words = "FILE TRENCH..",
-        .options = "",
+        .options = "--json",
         .line = "write the file with these marked no longer",
         .does = "Writes the file with the mark 0 in the lines of the trenches named. It takes "
                 "and refuses what mark does.",
@@ -370,11 +376,13 @@ const struct page PAGES[] = {
         .output = "# The yard: four junctions, five trenches. Junction, junction, price, mark.\n"
                   "1 2 5 0\n2 3 3 1\n3 4 5 0\n1 4 4 1\n1 3 6 0\n",
         .statuses = "0 written\n2 the table or what was asked was refused, and nothing was written",
+        .keys = "trenches: the numbers of the trenches that are named\n"
+                "same: those of them that were not marked",
     },
     {
         .name = "price",
         .words = "FILE TRENCH PRICE",
-        .options = "",
+        .options = "--json",
         .line = "write the file with a trench's new price",
         .does = "Writes the file with the price PRICE in the line of one trench. All else "
                 "stands as it did, comments too. A trench that is struck, or a number that no "
@@ -384,6 +392,8 @@ const struct page PAGES[] = {
         .output = "# The yard: four junctions, five trenches. Junction, junction, price, mark.\n"
                   "1 2 5 0\n2 3 3 1\n3 4 5 1\n1 4 9 1\n1 3 6 0\n",
         .statuses = "0 written\n2 the table or what was asked was refused, and nothing was written",
+        .keys = "trenches: the numbers of the trenches that are named\n"
+                "same: the trench, where it had this price already",
     },
     {
         .name = "add",

@@ -317,11 +317,19 @@ def merge(o, words):
     return renumbered(o)
 
 
+def changed(o, words):
+    """The trenches that were so already."""
+    says = {"mark": "is marked already", "unmark": "is unmarked already",
+            "unstrike": "is not struck", "price": "has this price already"}
+    return "".join("trench %d %s\n" % (i, says[o["command"]]) for i in o["same"])
+
+
 WORDS = {"check": check, "build": build, "explain": explain, "digs": digs, "quote": quote,
          "breaking": breaking, "which": which, "stretch": stretch, "add": add, "merge": merge,
-         "districts": districts, "mend": mend, "outlets": outlets}
+         "districts": districts, "mend": mend, "outlets": outlets, "strike": changed,
+         "unstrike": changed, "mark": changed, "unmark": changed, "price": changed}
 TOLD = {"passed", "cheaper", "built", "told", "mended", "written"}
-WRITING = {"mend", "add", "merge"}
+WRITING = {"mend", "add", "merge", "strike", "unstrike", "mark", "unmark", "price"}
 
 
 def documented(command):
@@ -416,7 +424,9 @@ def randomly():
         asked = [["check", "-"], ["build", "-"], ["explain", "-", "--all"], ["explain", "-", i],
                  ["quote", "-", i, str(random.randrange(-99, 99))], ["breaking", "-", i],
                  ["stretch", "-", str(a), str(b)], ["mend", "-", "--steps"], ["digs", "-"],
-                 ["add", "-", str(a), str(b), "7"], ["merge", "-"],
+                 ["add", "-", str(a), str(b), "7"], ["merge", "-"], ["strike", "-", i],
+                 ["unstrike", "-", i], ["mark", "-", i, "1"], ["unmark", "-", "1", i],
+                 ["price", "-", i, "3"],
                  ["outlets", "-", str(a), str(random.randrange(4))],
                  ["districts", "-", str(1 + m // 2), str(m)]]
         for words in asked:
@@ -465,7 +475,8 @@ def faults():
     yard = "console/examples/yard.txt"
     for words in (["check", "--tabel", yard], ["check", yard, yard], ["quote", yard, "x", "1"],
                   ["explain", yard, "1", "2"], ["build", yard, "--table"], ["mend", yard],
-                  ["add", yard, "2", "4", "7"], ["merge", yard],
+                  ["add", yard, "2", "4", "7"], ["merge", yard], ["mark", yard, "1"],
+                  ["mark", yard, "1", "1", "-o", "new.txt"],
                   ["check", yard, "--certificate"], ["check", yard, "-o"], ["outlets", yard, "1"]):
         words.insert(1, "--json")
         out, err, status = star(*words)
@@ -485,7 +496,7 @@ def faults():
             written = text.read()
     same = written == star("check", yard, "--json")[0]
     holds("to a file", written and same and not out and not err)
-    for command in ("draw", "dot", "page", "table", "strike"):
+    for command in ("draw", "dot", "page", "table"):
         out, err, status = star(command, yard, "--json")
         holds("no object: " + command, status == 4 and b"unknown option" in err and not out)
     with open("/dev/full", "wb") as full:
