@@ -4,7 +4,7 @@
 #include "layout.h"
 #include "picture.h"
 
-enum { LINE = 18, LETTER = 8, SAMPLE = 26 };
+enum { LINE = 18, LETTER = 8, SAMPLE = 26, BESIDE = 32 };
 
 void picture_letters(FILE *to, const char *text, size_t len) {
     for (; len > 0; text++, len--)
@@ -119,12 +119,13 @@ void picture_svg(FILE *to, const struct picture *p) {
     static struct layout l;
     const char *words = p->words.text;
     size_t left_out;
-    double y;
+    double y, wide; /* words in a box keep away from its side */
     uint32_t v;
     layout_sheet(&l, p->t);
     left_out = place_labels(&l, p);
     y = l.height + LINE;
-    head(to, words, l.width, verdict(NULL, words, l.width, y) + 2 * LINE + (p->refused ? 5 : 0), l.dot);
+    wide = l.width - (p->refused ? BESIDE : 0);
+    head(to, words, l.width, verdict(NULL, words, wide, y) + 2 * LINE + (p->refused ? 5 : 0), l.dot);
     trenches(to, p, &l);
     labels(to, p, &l);
     for (v = 1; v <= p->t->n; v++) {
@@ -133,8 +134,8 @@ void picture_svg(FILE *to, const struct picture *p) {
     }
     if (p->refused)
         fprintf(to, "<rect class=\"refused\" x=\"5\" y=\"%.0f\" width=\"%.0f\" height=\"%.0f\"/>\n",
-                y - LINE + 2, l.width - 10, verdict(NULL, words, l.width, y) - y + 5);
-    y = verdict(to, words, l.width, y) + (p->refused ? 5 : 0);
+                y - LINE + 2, l.width - 10, verdict(NULL, words, wide, y) - y + 5);
+    y = verdict(to, words, wide, y) + (p->refused ? 5 : 0);
     key(to, p, y);
     fprintf(to, "<text class=\"key\" x=\"12\" y=\"%.0f\">A label has the trench's number and its price.", y + LINE);
     if (left_out > 0) fprintf(to, " %zu of %zu found no room: 'star table' lists every trench in order.", left_out, table_used(p->t));

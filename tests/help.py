@@ -105,6 +105,9 @@ def made(folder):
             own = text.read()
         again = subprocess.run([program], input=own, capture_output=True)
         holds(name + " is as 'make manual' makes it", again.returncode == 0 and again.stdout == own)
+    with open(os.path.join(ROOT, "docs/GUIDE.md")) as text:
+        guide = text.read()
+    holds("the guide has the list of commands", "made by make manual: list of commands" in guide)
     with open(os.path.join(ROOT, "console/star.1")) as text:
         manual = text.read()
     holds("seven sections of the manual page are made", manual.count("made by make manual: ") == 7)
