@@ -62,7 +62,7 @@ for tried in 'gcc c c99' 'gcc c c11' 'clang c c99' 'clang c c11' 'g++ c++ c++98'
 done
 for file in include/*.c; do holds "strict $file" "$compiler" -std=c99 "${strict[@]}" -fPIC -Iinclude -c -o "$work/part.o" "$file"; done
 
-# Packages: pkg-config and CMake find it where it was moved to, the shared and the static one.
+# Packages: pkg-config and CMake, with the lines of docs/C.md, find it where it was moved to, the shared and the static one.
 if has pkg-config; then
     export PKG_CONFIG_PATH=$to/lib/pkgconfig
     holds pkg-config-version pkg-config --exact-version="$version" star
@@ -71,19 +71,12 @@ if has pkg-config; then
 fi
 if has cmake; then
     mkdir "$work/cmake"
-    cat >"$work/cmake/CMakeLists.txt" <<'TEXT'
-cmake_minimum_required(VERSION 3.13)
-project(short C)
-find_package(star 0.9 REQUIRED)
-add_executable(short ../short.c)
-target_link_libraries(short star::star)
-add_executable(short_static ../short.c)
-target_link_libraries(short_static star::static)
-TEXT
+    cp "$work/short.c" "$work/cmake/plan.c"
+    { printf 'cmake_minimum_required(VERSION 3.13)\nproject(plan C)\n'; sed -n '/^```cmake$/,/^```$/{/^```/d;p}' docs/C.md; } >"$work/cmake/CMakeLists.txt"
     holds cmake cmake -S "$work/cmake" -B "$work/cmake/build" -DCMAKE_PREFIX_PATH="$to"
     holds cmake-build cmake --build "$work/cmake/build"
-    holds cmake-run "$work/cmake/build/short"
-    holds cmake-static env -u LD_LIBRARY_PATH "$work/cmake/build/short_static"
+    holds cmake-run "$work/cmake/build/plan"
+    holds cmake-static env -u LD_LIBRARY_PATH "$work/cmake/build/plan_static"
     sed -i 's/star 0.9 REQUIRED/star 1.0 REQUIRED/' "$work/cmake/CMakeLists.txt"
     holds cmake-version fails cmake -S "$work/cmake" -B "$work/cmake/later" -DCMAKE_PREFIX_PATH="$to"
 fi

@@ -21,7 +21,7 @@ static char *whole_file(const char *name, size_t *len) {
 static double timed(int64_t (*task)(void)) {
     double best = 1e9;
     int k, i;
-    for (k = 0; k < 9; k++) {
+    for (k = 0; k < 25; k++) {
         clock_t began = clock();
         for (i = 0; i < 100; i++) task();
         double one = (double)(clock() - began) / CLOCKS_PER_SEC * 1e6 / 100;
