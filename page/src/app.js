@@ -10,14 +10,15 @@ import { stpCoordinates } from './stp.js';
 
 /** @typedef {import('./plan.js').Plan} Plan */
 /** @typedef {import('./core.js').Step} Step */
-/** @typedef {{file: import('./file.js').File, plan: Plan}} State */
+/** `coordinates` are those of the junctions, where the file has them.
+ * @typedef {{file: import('./file.js').File, plan: Plan, name: string,
+ * coordinates: number[][] | null}} State */
 /** @typedef {'open' | 'change' | 'show'} Told */
 
 export class App {
   /** @param {import('./core.js').Core} core */
   constructor(core) {
     this.core = core;
-    this.name = '';
     this.selected = -1;
     this.hot = -1;
     this.saved = true;
@@ -25,18 +26,23 @@ export class App {
     this.mending = null;
     /** @type {import('./lesson.js').Lesson | null} */
     this.lesson = null;
-    /** @type {number[][] | null} */
-    this.coordinates = null;
     /** @type {((told: Told) => void)[]} */
     this.listeners = [];
-    const { file, plan } = fileRead('junctions 1\n');
     /** @type {History<State>} */
-    this.history = new History({ file, plan });
-    this.judgement = judge(core, plan);
+    this.history = new History({ ...fileRead('junctions 1\n'), name: '', coordinates: null });
+    this.judgement = judge(core, this.plan);
   }
 
   get plan() {
     return this.history.now.plan;
+  }
+
+  get name() {
+    return this.history.now.name;
+  }
+
+  get coordinates() {
+    return this.history.now.coordinates;
   }
 
   /** The plan as it is shown: while it is mended, with the marks of the step. */
@@ -56,12 +62,14 @@ export class App {
     for (const listener of this.listeners) listener(told);
   }
 
-  /** Opens a table file or an STP text.
+  /** Opens a table file or an STP text; the plan before it can be had again by undoing.
    * @param {Uint8Array} bytes @param {string} name
    * @returns {string} what is wrong with it, or nothing */
   open(bytes, name) {
     let text = fileText(bytes);
     let coordinates = null;
+    /** @type {State} */
+    let state;
     try {
       if (fileIsStp(text)) {
         const body = fileBody(text);
@@ -70,24 +78,23 @@ export class App {
         coordinates = stpCoordinates(body, read.n);
         text = fileOfRows(read.n, read.rows);
       }
-      const { file, plan } = fileRead(text);
-      this.history = new History({ file, plan });
+      state = { ...fileRead(text), name, coordinates };
     } catch (fault) {
       if (fault instanceof FileFault) return fault.message.replace(/^/gm, `${name}:`);
       throw fault;
     }
-    this.lesson = null;
-    this.coordinates = coordinates;
+    if (this.lesson) this.lesson.leave();
+    if (this.name === '') this.history = new History(state);
+    else this.history.change(`open ${name}`, state);
     this.saved = true;
-    this.show(this.history, name);
+    this.show(this.history);
     return '';
   }
 
   /** Shows a plan with all that was done to it.
-   * @param {History<State>} history @param {string} name */
-  show(history, name) {
+   * @param {History<State>} history */
+  show(history) {
     this.history = history;
-    this.name = name;
     this.mending = null;
     this.selected = -1;
     this.hot = -1;
@@ -111,33 +118,33 @@ export class App {
   change(label, edit) {
     const plan = planCopy(this.plan);
     edit(plan);
-    this.keep(label, { file: this.history.now.file, plan });
+    this.keep(label, { ...this.history.now, plan });
   }
 
   /** @param {string} label @param {State} state */
   keep(label, state) {
-    const rows = this.plan.m;
+    const { file } = this.history.now;
     this.history.change(label, state);
-    this.moved(rows);
+    this.moved(file);
   }
 
   /** After the state has moved.
-   * @param {number} rows how many there were */
-  moved(rows) {
+   * @param {import('./file.js').File} file the one before: another one has other trenches */
+  moved(file) {
     this.saved = false;
     this.judgement = judge(this.core, this.plan);
     if (this.selected >= this.plan.m) this.selected = -1;
-    this.tell(rows === this.plan.m ? 'change' : 'open');
+    this.tell(file === this.history.now.file ? 'change' : 'open');
   }
 
   undo() {
-    const rows = this.plan.m;
-    if (!this.mending && this.history.undo() !== '') this.moved(rows);
+    const { file } = this.history.now;
+    if (!this.mending && this.history.undo() !== '') this.moved(file);
   }
 
   redo() {
-    const rows = this.plan.m;
-    if (!this.mending && this.history.redo() !== '') this.moved(rows);
+    const { file } = this.history.now;
+    if (!this.mending && this.history.redo() !== '') this.moved(file);
   }
 
   /** Turns the mark of a row.
@@ -193,7 +200,7 @@ export class App {
     const { kind, number } = struck ? this.sound(plan) : this.core.strike(this.plan, i + 1);
     if (kind !== PASSED) return this.refused(number, i + 1);
     const label = `${struck ? 'restore' : 'strike'} trench ${i + 1}`;
-    this.keep(label, { file: this.history.now.file, plan });
+    this.keep(label, { ...this.history.now, plan });
     return '';
   }
 
@@ -209,8 +216,8 @@ export class App {
   previewPrice(i, price) {
     const plan = planCopy(this.plan);
     plan.price[i] = price;
-    this.history.preview({ file: this.history.now.file, plan });
-    this.moved(plan.m);
+    this.history.preview({ ...this.history.now, plan });
+    this.moved(this.history.now.file);
   }
 
   /** @param {number} i */
@@ -227,7 +234,7 @@ export class App {
     const answer = this.core.add(plan, a, b, price);
     if (answer.kind !== PASSED) return this.refused(answer.number, answer.out);
     const text = fileAdd(file, plan, answer.amount, a, b, price);
-    const state = fileRead(text);
+    const state = { ...this.history.now, ...fileRead(text) };
     const { kind, number, out } = this.sound(state.plan);
     if (kind !== PASSED) return this.refused(number, out);
     this.selected = answer.amount - 1;

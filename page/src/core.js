@@ -5,7 +5,7 @@
 /** @typedef {import('./plan.js').Plan} Plan */
 /** An answer's sixteen bytes, as include/star.h has them.
  * @typedef {{result: number, kind: number, number: number, out: number, in: number,
- *   only: boolean, amount: number}} Answer */
+ * only: boolean, amount: number}} Answer */
 /** @typedef {{kind: number, out: number, in: number}} Step */
 
 export const MAX_JUNCTIONS = 255;

@@ -87,10 +87,10 @@ function fileTrench(line, own, all) {
  * @param {string} text @returns {{file: File, plan: Plan}} */
 export function fileRead(text) {
   if (text.length > MOST_BYTES) {
-    throw new FileFault('it has more than 16777216 bytes, far more than 1024 trenches need');
+    throw new FileFault(' it has more than 16777216 bytes, far more than 1024 trenches need');
   }
   if (/^(\xff\xfe|\xfe\xff)/.test(text)) {
-    throw new FileFault('it is UTF-16 text; save it as UTF-8 or ASCII');
+    throw new FileFault(' it is UTF-16 text; save it as UTF-8 or ASCII');
   }
   const body = fileBody(text);
   const mark = text.slice(0, text.length - body.length);

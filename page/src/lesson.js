@@ -25,9 +25,7 @@ export class Lesson {
     this.kind = 0;
     this.given = '';
     this.scores = KINDS.map(() => ({ right: 0, of: 0 }));
-    this.kept = {
-      history: app.history, name: app.name, saved: app.saved, coordinates: app.coordinates,
-    };
+    this.kept = { history: app.history, saved: app.saved };
     this.exercise = exerciseMake(app.core, 0, seed);
     this.answer = exerciseAnswer(app.core, this.exercise);
   }
@@ -51,8 +49,9 @@ export class Lesson {
     this.exercise = exerciseMake(app.core, kind, seed);
     this.answer = exerciseAnswer(app.core, this.exercise);
     app.saved = true;
-    app.coordinates = null;
-    app.show(new History(fileRead(lessonText(this.exercise.plan))), `Exercise ${seed}`);
+    const name = `Exercise ${seed}`;
+    const state = { ...fileRead(lessonText(this.exercise.plan)), name, coordinates: null };
+    app.show(new History(state));
   }
 
   /** The next kind, and after the last one the first with another seed. */
@@ -76,8 +75,7 @@ export class Lesson {
     const { app, kept } = this;
     app.lesson = null;
     app.saved = kept.saved;
-    app.coordinates = kept.coordinates;
-    app.show(kept.history, kept.name);
+    app.show(kept.history);
   }
 
   /** What the picture sets off before an answer is given. */

@@ -98,6 +98,9 @@ class Page {
       if (this.app.lesson) this.app.lesson.start(this.app.lesson.kind, seed);
     });
     document.addEventListener('keydown', (e) => this.key(e));
+    addEventListener('beforeunload', (e) => {
+      if (!this.app.saved && !this.app.lesson) e.preventDefault();
+    });
     document.addEventListener('dragover', (e) => e.preventDefault());
     document.addEventListener('drop', (/** @type {any} */ e) => {
       e.preventDefault();

@@ -34,6 +34,7 @@ export class Browser {
     this.log = [];
     /** @type {Map<string, () => void>} */
     this.hopes = new Map();
+    this.asked = ''; // the last question that the browser asked, as before a page is left
     let rest = '';
     /** @type {any} */ (this.process.stdio[4]).on('data', (/** @type {Buffer} */ data) => {
       const parts = (rest + data).split('\0');
@@ -60,6 +61,10 @@ export class Browser {
     if (method === 'Log.entryAdded') this.log.push(`log ${params.entry.text}`);
     if (method === 'Network.requestWillBeSent' && !params.request.url.startsWith('blob:')) {
       this.log.push(`request ${params.request.url.slice(0, 80)}`);
+    }
+    if (method === 'Page.javascriptDialogOpening') {
+      this.asked = params.type;
+      this.send('Page.handleJavaScriptDialog', { accept: true });
     }
     const hope = this.hopes.get(method);
     if (hope) hope();

@@ -8,6 +8,7 @@ import os from 'node:os';
 import path from 'node:path';
 import { fileURLToPath } from 'node:url';
 import { browserMake } from './browser.mjs';
+import { contrastBelow } from './contrast.mjs';
 import { overlaps } from './overlaps.mjs';
 import { tablesFor } from './tables.mjs';
 
@@ -205,6 +206,26 @@ const GROUPS = {
     await press('strike');
     await press('strike');
     check('restore', (await saved()) === bytesOf(file));
+  },
+
+  async opens() {
+    await choose(example('yard-dear.txt'));
+    await press('swap');
+    const swapped = await b.value('star.app.text()');
+    await choose(example('old.txt'));
+    check('another file', (await textOf('name')) === 'old.txt');
+    await press('undo');
+    check('undo of opening', (await b.value('star.app.text()')) === swapped &&
+      (await textOf('name')).startsWith('yard-dear.txt') && (await shows()));
+    await press('redo');
+    check('redo of opening', (await textOf('head')).includes('No network') && (await shows()));
+    const wide = path.join(folder, 'wide.txt');
+    fs.writeFileSync(wide, '\xff\xfe1\x002\x00', 'latin1');
+    await choose(wide);
+    check('UTF-16', (await textOf('fault')) ===
+      spawnSync(console_, ['check', wide], { encoding: 'latin1' }).stderr.trim()
+        .replace(`${folder}/`, ''));
+    await choose(example('yard.txt'));
   },
 
   async adds() {
@@ -415,19 +436,32 @@ const GROUPS = {
     await b.go(path.resolve(html));
   },
 
+  async contrast() {
+    for (const theme of ['light', 'dark']) {
+      await b.value(`document.documentElement.dataset.theme = '${theme}'`);
+      const low = await b.value(`(${contrastBelow})()`);
+      check(`contrast of ${theme}: ${low.join(', ')}`, low.length === 0);
+    }
+    await b.value("delete document.documentElement.dataset.theme");
+  },
+
   async clicks() {
-    await choose(example('city.txt'));
-    const time = await b.value(`(() => {
-      const times = [];
-      for (let k = 0; k < 21; k++) {
-        const before = performance.now();
-        star.app.toggle(k);
-        times.push(performance.now() - before);
-      }
-      return times.sort((x, y) => x - y)[10];
-    })()`);
-    console.log(`a click at 255 junctions and 1,024 trenches: ${time.toFixed(1)} ms of script`);
-    check('the script of a click', time < 60);
+    const times = [];
+    for (const name of ['yard.txt', 'city.txt']) {
+      await choose(example(name));
+      times.push(await b.value(`(() => {
+        const times = [];
+        for (let k = 0; k < 20; k++) {
+          const before = performance.now();
+          star.app.toggle(k % star.app.plan.m);
+          times.push(performance.now() - before);
+        }
+        return times.sort((x, y) => x - y)[5];
+      })()`));
+    }
+    const [small, large] = times.map((time) => time.toFixed(2));
+    console.log(`the script of a click: ${small} ms at the yard, ${large} ms at 1,024 trenches`);
+    check('the script of a click', times[1] < 40 * Math.max(times[0], 0.5));
   },
 };
 
