@@ -37,6 +37,7 @@ class Page {
     this.price = new Price(this.app);
     this.playing = 0;
     this.found = 0;
+    this.last = ''; // the file that was opened last, or could not be
     this.acts = this.actions();
     this.app.listeners.push((told) => this.update(told));
     this.listen();
@@ -253,6 +254,7 @@ class Page {
   /** @param {Uint8Array} bytes @param {string} name */
   open(bytes, name) {
     this.fault(this.app.open(bytes, name));
+    this.last = name;
   }
 
   /** Says what is wrong, or nothing.

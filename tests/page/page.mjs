@@ -42,12 +42,13 @@ const bytesOf = (file) => fs.readFileSync(file, 'latin1');
 /** Chooses a file, as the button Open does.
  * @param {string} file */
 async function choose(file) {
+  await b.value("star.last = ''");
   const { root } = await b.send('DOM.getDocument');
   const found = await b.send('DOM.querySelector', { nodeId: root.nodeId, selector: '#file' });
   await b.send('DOM.setFileInputFiles', { files: [file], nodeId: found.nodeId });
   const name = JSON.stringify(path.basename(file));
-  const opened = `star.app.name === ${name} || !document.getElementById('fault').hidden`;
-  for (let k = 0; k < 200 && !(await b.value(opened)); k++) await b.frame();
+  const opened = `star.last === ${name}`;
+  for (let k = 0; k < 400 && !(await b.value(opened)); k++) await b.frame();
   await b.frame();
 }
 
