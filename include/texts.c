@@ -43,9 +43,9 @@ static struct star_imported read_lines(struct star_table *t, struct span text) {
     struct star_imported i = {STAR_PASSED, 0, 0, 0, 0};
     struct table found;
     struct span rest = text, line;
+    struct message fault = {{0}, 0};
     memset(&found, 0, sizeof found);
     while (text_line(&rest, &line)) {
-        struct message fault = {{0}, 0};
         size_t place = (size_t)(line.at - text.at);
         if (!table_read(&found, line, &fault)) return refused(STAR_BAD_TEXT, place);
     }
