@@ -4,12 +4,15 @@ import { LIGHTER, MAX_JUNCTIONS, PASSED, REFUSED } from './core.js';
 import { detourDearest, detourRows } from './detour.js';
 import { judgeExchanged } from './judge.js';
 import { layoutRandom } from './layout.js';
-import { planOf } from './plan.js';
+import { planCopy, planOf } from './plan.js';
 import { ends, money, trench } from './words.js';
 
 /** @typedef {import('./core.js').Core} Core */
 /** @typedef {import('./plan.js').Plan} Plan */
 /** @typedef {(below: number) => number} Random */
+/** Gives the table of an exercise: of so many junctions, so many trenches more than a ring of them
+ * has, and prices up to one; or the class's own.
+ * @typedef {(n: number, more: number, dearest: number) => Plan} Tables */
 /** A question about a plan. `row` is the trench that it asks about, -1 for none; `second` has the
  * marks of another plan, where there is one.
  * @typedef {{kind: number, plan: Plan, row: number, second: Uint8Array | null, ask: string,
@@ -17,6 +20,7 @@ import { ends, money, trench } from './words.js';
 /** @typedef {{right: string, core: string, page: string}} Answered */
 
 const TRIES = 500;
+const OWN_TRIES = 60;
 export const KINDS = ['Count', 'Detour', 'Equal', 'Limit'];
 
 /** Junctions on a ring, and some more trenches, in any order.
@@ -51,9 +55,10 @@ function exerciseTown(rnd, n, more, dearest) {
 const exerciseRows = (p, mark) => [...p.mark.keys()].filter((i) => p.mark[i] === mark);
 
 /** A least network with one mark moved, so that it is none; or as it is.
- * @param {Core} core @param {Random} rnd @param {boolean} network @returns {Exercise | null} */
-function exerciseCount(core, rnd, network) {
-  const plan = exerciseTown(rnd, 6 + rnd(4), 2, 9);
+ * @param {Core} core @param {Tables} tables @param {Random} rnd @param {boolean} network
+ * @returns {Exercise | null} */
+function exerciseCount(core, tables, rnd, network) {
+  const plan = tables(6 + rnd(4), 2, 9);
   plan.mark = core.mst1(plan).mark;
   if (!network) {
     const [marked, left] = [exerciseRows(plan, 1), exerciseRows(plan, 0)];
@@ -75,9 +80,10 @@ function exerciseCount(core, rnd, network) {
 }
 
 /** A trench that costs less than its detour in all, and more or less than its dearest.
- * @param {Core} core @param {Random} rnd @param {boolean} saves @returns {Exercise | null} */
-function exerciseDetour(core, rnd, saves) {
-  const plan = exerciseTown(rnd, 6 + rnd(3), 3, 14);
+ * @param {Core} core @param {Tables} tables @param {Random} rnd @param {boolean} saves
+ * @returns {Exercise | null} */
+function exerciseDetour(core, tables, rnd, saves) {
+  const plan = tables(6 + rnd(3), 3, 14);
   plan.mark = core.mst1(plan).mark;
   if (saves) {
     const [marked, left] = [exerciseRows(plan, 1), exerciseRows(plan, 0)];
@@ -111,9 +117,10 @@ function exerciseDetour(core, rnd, saves) {
 }
 
 /** Two plans of one price: both cheapest, or neither.
- * @param {Core} core @param {Random} rnd @param {boolean} both @returns {Exercise | null} */
-function exerciseEqual(core, rnd, both) {
-  const plan = exerciseTown(rnd, 5 + rnd(3), 2, 5);
+ * @param {Core} core @param {Tables} tables @param {Random} rnd @param {boolean} both
+ * @returns {Exercise | null} */
+function exerciseEqual(core, tables, rnd, both) {
+  const plan = tables(5 + rnd(3), 2, 5);
   plan.mark = core.mst1(plan).mark;
   const second = both ? exerciseOther(core, plan) : exerciseDearer(core, plan);
   if (!second) return null;
@@ -166,8 +173,8 @@ function exerciseDearer(core, plan) {
   return null;
 }
 
-/** @param {Core} core @param {Random} rnd @returns {Exercise} */
-function exerciseLimit(core, rnd) {
+/** @param {Core} core @param {Tables} tables @param {Random} rnd @returns {Exercise} */
+function exerciseLimit(core, tables, rnd) {
   const numbers = [MAX_JUNCTIONS - 1, MAX_JUNCTIONS, MAX_JUNCTIONS + 1, 2 * MAX_JUNCTIONS + 2];
   numbers.push(...numbers.splice(0, rnd(numbers.length)));
   return {
@@ -182,18 +189,38 @@ function exerciseLimit(core, rnd) {
 
 const MAKERS = [exerciseCount, exerciseDetour, exerciseEqual, exerciseLimit];
 
-/** The exercise of a kind and a seed.
- * @param {Core} core @param {number} kind @param {number} seed */
-export function exerciseMake(core, kind, seed) {
+/** The exercise of a kind and a seed, from the class's own table where there is one; null where
+ * that table has none of this kind.
+ * @param {Core} core @param {number} kind @param {number} seed @param {Plan | null} own */
+export function exerciseFrom(core, kind, seed, own) {
   const random = layoutRandom(seed * 4 + kind);
   /** @param {number} below */
   const rnd = (below) => Math.floor(random() * below);
   const turn = rnd(2) === 0;
-  for (let k = 0; k < TRIES; k++) {
-    const exercise = MAKERS[kind](core, rnd, turn);
+  /** @type {Tables} */
+  const tables = (n, more, dearest) => {
+    return own ? planCopy(own) : exerciseTown(rnd, n, more, dearest);
+  };
+  for (let k = 0; k < (own ? OWN_TRIES : TRIES); k++) {
+    const exercise = MAKERS[kind](core, tables, rnd, turn);
     if (exercise) return exercise;
   }
-  throw Error(`no exercise of kind ${kind} from seed ${seed}`);
+  return null;
+}
+
+/** Whether exercises can be made of a table: it is joined, and no trench of it is struck.
+ * @param {Core} core @param {Plan} p */
+export function exerciseFits(core, p) {
+  return !p.struck.includes(1) && p.n > 2 && core.mst1(p).kind === PASSED;
+}
+
+/** The exercise of a kind and a seed: from the class's own table, where it has one.
+ * @param {Core} core @param {number} kind @param {number} seed @param {Plan | null} [own] */
+export function exerciseMake(core, kind, seed, own = null) {
+  const first = own && exerciseFrom(core, kind, seed, own);
+  const exercise = first || exerciseFrom(core, kind, seed, null);
+  if (!exercise) throw Error(`no exercise of kind ${kind} from seed ${seed}`);
+  return exercise;
 }
 
 /** @param {Core} core @param {Exercise} e @returns {Answered} */

@@ -1,7 +1,7 @@
 // A class: exercises in the order of a lesson, answers hidden until one is given, a score. The plan
 // that was open is kept meanwhile.
 import { bold, button, byId, coreSays, html, pageSays, svg } from './dom.js';
-import { KINDS, exerciseAnswer, exerciseMake } from './exercises.js';
+import { KINDS, exerciseAnswer, exerciseFits, exerciseMake } from './exercises.js';
 import { fileOfRows, fileRead } from './file.js';
 import { History } from './history.js';
 import { setOffNone } from './why.js';
@@ -9,6 +9,8 @@ import { money } from './words.js';
 
 /** @typedef {import('./app.js').App} App */
 /** @typedef {import('./exercises.js').Exercise} Exercise */
+
+const MOST_SEEDS = 1000000;
 
 /** A plan as a table file.
  * @param {import('./plan.js').Plan} p */
@@ -26,6 +28,7 @@ export class Lesson {
     this.given = '';
     this.scores = KINDS.map(() => ({ right: 0, of: 0 }));
     this.kept = { history: app.history, saved: app.saved };
+    this.own = false; // whether exercises are made of the table that was open
     this.exercise = exerciseMake(app.core, 0, seed);
     this.answer = exerciseAnswer(app.core, this.exercise);
   }
@@ -46,12 +49,18 @@ export class Lesson {
     this.kind = kind;
     this.seed = seed;
     this.given = '';
-    this.exercise = exerciseMake(app.core, kind, seed);
+    this.exercise = exerciseMake(app.core, kind, seed, this.own ? this.table() : null);
     this.answer = exerciseAnswer(app.core, this.exercise);
     app.saved = true;
     const name = `Exercise ${seed}`;
     const state = { ...fileRead(lessonText(this.exercise.plan)), name, coordinates: null };
     app.show(new History(state));
+  }
+
+  /** The table that was open, where exercises can be made of it. */
+  table() {
+    const { plan } = this.kept.history.now;
+    return exerciseFits(this.app.core, plan) ? plan : null;
   }
 
   /** The next kind, and after the last one the first with another seed. */
@@ -164,4 +173,27 @@ export function lessonShow(app) {
     button('lesson-leave', 'Leave the class'),
   );
   byId('lesson-seed').value = lesson.seed;
+  byId('lesson-own').checked = lesson.own;
+  byId('lesson-own').disabled = !lesson.table();
+}
+
+/** @param {App} app */
+export function lessonListen(app) {
+  byId('lesson').addEventListener('click', (/** @type {any} */ e) => {
+    const { lesson } = app;
+    const asked = e.target.closest('[data-kind], [data-answer]');
+    if (!lesson || !asked) return;
+    if (asked.dataset.kind) lesson.start(Number(asked.dataset.kind), lesson.seed);
+    else lesson.give(asked.dataset.answer);
+  });
+  byId('lesson-seed').addEventListener('change', (/** @type {any} */ e) => {
+    const seed = Math.max(1, Math.min(MOST_SEEDS, Math.trunc(Number(e.target.value)) || 1));
+    if (app.lesson) app.lesson.start(app.lesson.kind, seed);
+  });
+  byId('lesson-own').addEventListener('change', (/** @type {any} */ e) => {
+    const { lesson } = app;
+    if (!lesson) return;
+    lesson.own = e.target.checked;
+    lesson.start(lesson.kind, lesson.seed);
+  });
 }

@@ -6,7 +6,7 @@ import { digsShow } from './digs.js';
 import { byId, html } from './dom.js';
 import { EXAMPLES } from './examples.js';
 import { fileBytes } from './file.js';
-import { Lesson, lessonShow } from './lesson.js';
+import { Lesson, lessonListen, lessonShow } from './lesson.js';
 import { List } from './list.js';
 import { mendSetOff, mendShow } from './mend.js';
 import { Picture } from './picture.js';
@@ -88,16 +88,8 @@ class Page {
     document.addEventListener('click', (/** @type {any} */ e) => {
       const button = e.target.closest('[data-act]');
       if (button && !button.disabled) this.acts[button.dataset.act]();
-      const { lesson } = this.app;
-      const asked = e.target.closest('[data-kind], [data-answer]');
-      if (!lesson || !asked) return;
-      if (asked.dataset.kind) lesson.start(Number(asked.dataset.kind), lesson.seed);
-      else lesson.give(asked.dataset.answer);
     });
-    byId('lesson-seed').addEventListener('change', (/** @type {any} */ e) => {
-      const seed = Math.max(1, Math.min(1000000, Math.trunc(Number(e.target.value)) || 1));
-      if (this.app.lesson) this.app.lesson.start(this.app.lesson.kind, seed);
-    });
+    lessonListen(this.app);
     document.addEventListener('keydown', (e) => this.key(e));
     addEventListener('beforeunload', (e) => {
       if (!this.app.saved && !this.app.lesson) e.preventDefault();

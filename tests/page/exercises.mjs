@@ -4,7 +4,9 @@
 import fs from 'node:fs';
 import { coreOpen } from '../../page/src/core.js';
 import { detourRows } from '../../page/src/detour.js';
-import { KINDS, exerciseAnswer, exerciseMake } from '../../page/src/exercises.js';
+import { KINDS, exerciseAnswer, exerciseFits } from '../../page/src/exercises.js';
+import { exerciseFrom, exerciseMake } from '../../page/src/exercises.js';
+import { fileRead, fileText } from '../../page/src/file.js';
 import { planRows } from '../../page/src/plan.js';
 
 const [, , module, seeds] = process.argv;
@@ -49,6 +51,27 @@ const KIND = [
   (core, e, right) => right === '255',
 ];
 
+/** Exercises from a class's own tables.
+ * @param {import('../../page/src/core.js').Core} core */
+function own(core) {
+  for (const name of ['yard.txt', 'city.txt', 'grant.txt']) {
+    const text = fs.readFileSync(new URL(`../../console/examples/${name}`, import.meta.url));
+    const { plan } = fileRead(fileText(text));
+    let made = 0;
+    for (let k = 0; k < 30; k++) {
+      const e = exerciseFrom(core, k % 3, k, plan);
+      if (!e) continue;
+      made++;
+      const { right } = exerciseAnswer(core, e);
+      /** @param {any} p */
+      const columns = (p) => [p.left, p.right, p.price].join();
+      const same = columns(e.plan) === columns(plan);
+      check(`${name} ${k}`, same && KIND[k % 3](core, e, right));
+    }
+    check(`${name}: exercises of its own`, exerciseFits(core, plan) && made >= 10);
+  }
+}
+
 /** @param {import('../../page/src/core.js').Core} core */
 function run(core) {
   KINDS.forEach((name, kind) => {
@@ -66,6 +89,7 @@ function run(core) {
     check(`${name}: no choice is always right`, most < 0.7 * Number(seeds));
     console.log(`${name}: the right choice is ${JSON.stringify(rights)}`);
   });
+  own(core);
   console.log(`${passed} passed, ${failed} failed`);
   process.exit(failed ? 1 : 0);
 }

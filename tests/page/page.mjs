@@ -365,6 +365,10 @@ const GROUPS = {
     await b.frame();
     check('a wrong answer', (await textOf('lesson-said')).includes('Not so'));
     check('a score of both', (await textOf('lesson-tabs')).includes('1/2'));
+    await b.value("star.app.lesson.start(0, 9); document.getElementById('lesson-own').click()");
+    await b.frame();
+    const own = await b.value('star.app.plan.m');
+    check('an exercise from the own table', own === 5 && (await b.value('star.app.asked')));
     await press('lesson-leave');
     check('the plan is back', kept === (await b.value('star.app.text()')));
     await press('undo');
