@@ -16,6 +16,8 @@ for one in python3 /usr/bin/python3; do
     fi
 done
 
+python=$("$python" -c 'import sys; print(sys.executable)')
+
 if ! make -s wheel >"$work/said" 2>&1; then
     tail -n 5 "$work/said"
     echo "0 passed, 1 failed"
@@ -23,7 +25,7 @@ if ! make -s wheel >"$work/said" 2>&1; then
 fi
 wheel=(target/c/wheel/star_tables-*.whl)
 if "$python" -m pip --version >/dev/null 2>&1; then
-    PATH=/nowhere "$(command -v "$python")" -m pip install -q --no-index --no-deps --root-user-action=ignore --target "$work/site" "${wheel[@]}" >"$work/said" 2>&1
+    PATH=/nowhere "$python" -m pip install -q --no-index --no-deps --root-user-action=ignore --target "$work/site" "${wheel[@]}" >"$work/said" 2>&1
     installed=$?
 else
     echo "skipped: pip is not installed; the wheel is unpacked"

@@ -126,10 +126,11 @@ def from_geojson(text: str, price: str = "price", **how) -> Table:
         geometry, properties = feature.get("geometry") or {}, feature.get("properties") or {}
         if geometry.get("type") == "Point" and "name" in properties:
             names[_place(geometry["coordinates"])] = properties["name"]
-    for place, feature in enumerate(features, 1):
+    for feature in features:
         geometry, properties = feature.get("geometry") or {}, feature.get("properties") or {}
         if geometry.get("type") == "Point":
             continue
+        place = len(rows) + 1
         if geometry.get("type") != "LineString" or len(geometry["coordinates"]) < 2:
             raise Unfit(place, "it is neither a Point nor a LineString of two points or more")
         if price not in properties:

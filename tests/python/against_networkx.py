@@ -236,6 +236,23 @@ class AgainstNetworkx(unittest.TestCase):
         if table:
             self.assertEqual(self.edges(star.Table.from_csv(t.to_csv())), self.edges(t))
 
+    def test_graphs(self):
+        g = nx.MultiGraph()
+        g.add_node("alone", pos=(1.5, 2))
+        for price in (7.5, 7.25):
+            g.add_edge("a", ("b", 1), price=price)
+        self.assertRaises(star.Unfit, star.Table.from_networkx, g, unit=0.25)
+        t = star.Table.from_networkx(g, unit=0.25, parallel="cheapest")
+        self.assertEqual((t.junctions, [r.price for r in t.rows]), (("alone", "a", ("b", 1)), [29]))
+        self.assertEqual(t.places, {"alone": (1.5, 2)})
+        self.assertEqual(t.to_networkx().edges["a", ("b", 1)]["price"], 7.25)
+        self.assertEqual(star.Table.from_networkx(t.to_networkx(), unit=0.25), t)
+        self.assertRaises(ValueError, star.Table.from_networkx, nx.DiGraph([(1, 2)]))
+        self.assertRaises(star.Unfit, star.Table.from_networkx, nx.Graph([(1, 2)]))
+        many = nx.path_graph(256)
+        nx.set_edge_attributes(many, 1, "price")
+        self.assertEqual(refusal(star.Table.from_networkx, many), 1)
+
     def edges(self, t):
         return {(frozenset((r.left, r.right)), r.price, r.marked) for r in t.rows}
 

@@ -108,6 +108,15 @@ class Refusals(unittest.TestCase):
         self.assertEqual(len(t), 1024)
 
 
+class Version(unittest.TestCase):
+    def test_one_version(self):
+        for name, before, after in (("python/pyproject.toml", 'version = "', '"'),
+                                    ("debian/changelog", "star (", ")")):
+            with open(os.path.join(HERE, "..", "..", *name.split("/")), encoding="utf-8") as file:
+                text = file.read()
+            self.assertEqual(text.split(before)[1].split(after)[0], star.__version__)
+
+
 class Forms(unittest.TestCase):
     def test_answers_do_not_change(self):
         t = star.Table(4, YARD)
@@ -181,7 +190,12 @@ class Forms(unittest.TestCase):
         for k, change in ((1, {"type": "Polygon", "coordinates": []}), (2, None)):
             wrong = json.loads(json.dumps(STREETS))
             wrong["features"][k]["geometry"] = change
-            self.assertRaises(star.Unfit, star.Table.from_geojson, json.dumps(wrong), unit=0.01)
+            with self.assertRaises(star.Unfit) as caught:
+                star.Table.from_geojson(json.dumps(wrong), unit=0.01)
+            self.assertEqual(caught.exception.place, k)
+        with self.assertRaises(star.Unfit) as caught:
+            star.Table.from_geojson(json.dumps(STREETS))
+        self.assertEqual(caught.exception.place, 1)
 
     def test_pandas(self):
         try:
