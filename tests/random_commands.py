@@ -229,7 +229,7 @@ def judged(words, output, plain, before, after, done, target, killed):
 
 
 def without_object(words):
-    """The command line that writes a file to standard output: with --json an object stands there."""
+    """The command line that writes a file to standard output; with --json it is an object."""
     writes = words[:1] and words[0] in TABLES[1:]
     return [word for word in words if word != "--json"] if writes else words
 
