@@ -8,7 +8,9 @@
 # make documents the same, what the documents' examples print, and their pictures
 # make bench     times the doors against other libraries, where they are installed, and plots the times (target/c/bench.svg)
 # make counts    the instructions of each call of the bench, by callgrind
-# make install PREFIX=DIR     the header, the library, the console, its manual page, the pkg-config file: if they are proved here or are of the record
+# make shared    the shared library; make wheel the Python package, if the core is proved here or is of the record
+# make tasks     ten tasks with the library, networkx and LEMON, side by side: lines and microseconds
+# make install PREFIX=DIR     the header, the libraries, the console, manual pages, star.pc, a CMake package: if they are proved here or are of the record
 # make uninstall PREFIX=DIR   removes these files
 CC ?= cc
 CXX ?= c++

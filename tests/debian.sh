@@ -43,6 +43,7 @@ holds manual [ -s "$usr/share/man/man3/star_cst.3.gz" ]
 
 # A core that is not of the record is not packaged.
 echo '// changed' >>"$work/star/crates/door/src/lib.rt"
-holds changed bash -c "! (cd '$work/star' && dpkg-buildpackage -b -us -uc -nc)"
+holds changed bash -c "! (cd '$work/star' && dpkg-buildpackage -b -us -uc -nc) >'$work/changed' 2>&1"
+holds changed-said grep -q 'the sources of door differ' "$work/changed"
 echo "$passed passed, $failed failed"
 [ "$failed" = 0 ]

@@ -6,7 +6,7 @@ from typing import Union
 from . import _library as lib
 from .answers import Refused
 from .formats import from_csv, from_geojson, to_csv, to_geojson
-from .table import Table
+from .table import Table, check_junctions
 
 Path = Union[str, "os.PathLike[str]"]
 _READERS = {".csv": from_csv, ".tsv": from_csv, ".geojson": from_geojson, ".json": from_geojson}
@@ -31,6 +31,7 @@ def from_text(text: Union[str, bytes]) -> Table:
         if i.number == 12 and i.place < len(data):
             words += " (line %d)" % (data[:i.place].count(b"\n") + 1)
         raise Refused(i.number, i.place, words)
+    check_junctions(i.n)
     return table
 
 

@@ -16,6 +16,12 @@ _LEFT, _RIGHT, _WEIGHT, _MARK = (getattr(lib.CTable, name).offset
                                  for name in ("left", "right", "weight", "mark"))
 
 
+def check_junctions(n: int) -> None:
+    """Refuses a number of junctions that no table has."""
+    if not 1 <= n <= lib.MAX_JUNCTIONS:
+        raise Refused(1, 0, _TOO_MANY % n if n > 1 else "")
+
+
 def price_of(price: int) -> int:
     """A price that four bytes hold, or ValueError."""
     price = index(price)
@@ -72,8 +78,7 @@ junctions, or two equal ends
             if len(self._numbers) != len(self._names):
                 raise ValueError("two junctions have one name")
             n = len(self._names)
-        if not 1 <= n <= lib.MAX_JUNCTIONS:
-            raise Refused(1, 0, _TOO_MANY % n if n > 1 else "")
+        check_junctions(n)
         self._matrix: Optional[ctypes.Array] = None
         self._t = lib.CTable()
         self._at = ctypes.byref(self._t)

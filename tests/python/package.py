@@ -47,6 +47,9 @@ class Refusals(unittest.TestCase):
         many = self.refused(1, 0, star.Table, range(300))
         self.assertIn("300 junctions", many.words)
         self.assertIn("districts", many.words)
+        for text in ("", "junctions 0\n", "junctions 256\n", "junctions 4294967295\n", "1 300 5\n"):
+            self.refused(1, 0, star.Table.from_text, text)
+        self.refused(2, 0, star.Table.from_text, "1 2 5\n" * 1025)
         self.refused(2, 0, star.Table, 4, YARD * 300)
         self.refused(4, 3, star.Table(3, YARD[:2] + [(3, 4, 1)]).build)
         self.refused(4, 2, star.Table(3, [(1, 2, 1), (300, 2, 1)]).build)
