@@ -220,6 +220,13 @@ const GROUPS = {
       (await textOf('name')).startsWith('yard-dear.txt') && (await shows()));
     await press('redo');
     check('redo of opening', (await textOf('head')).includes('No network') && (await shows()));
+    await b.value(`(() => {
+      const dropped = new DataTransfer();
+      dropped.items.add(new File(['1 2 7 1\\n'], 'dropped.txt'));
+      document.dispatchEvent(new DragEvent('drop', { dataTransfer: dropped }));
+    })()`);
+    for (let k = 0; k < 50 && (await textOf('name')) !== 'dropped.txt'; k++) await b.frame();
+    check('a file that is dropped', (await textOf('totals')).startsWith('7 total'));
     const wide = path.join(folder, 'wide.txt');
     fs.writeFileSync(wide, '\xff\xfe1\x002\x00', 'latin1');
     await choose(wide);
