@@ -79,7 +79,7 @@ def make(words):
     return done.returncode, done.stdout + done.stderr
 
 
-def session(block, folder, document):
+def commands(block, folder, document):
     """The block with what its commands print now."""
     out = []
     for line in block.splitlines():
@@ -104,7 +104,7 @@ def console(document, write):
         os.makedirs(os.path.join(folder, 'target'))
         os.symlink(BUILD, os.path.join(folder, 'target/c'))
         for block in blocks(text, 'console'):
-            now = session(block, folder, document)
+            now = commands(block, folder, document)
             if write:
                 text = text.replace(f'```console\n{block}```', f'```console\n{now}```')
             else:
