@@ -1,14 +1,13 @@
 -- The causes of Promise.antt that concern the table are the ones that a call is refused for: numbers 1 to 4 and 15, in their order. Accepted tables are the same.
 -- Assumes nothing.
-use Prim.Native.Nat.{ℕ, zero, suc, _+_, _*_, _-_, _≤_, _<_}
-use borrow.Author.Tests.{ltb-true, ltb-false, le-ltb, eqb-true, eqb-false, eq-eqb, ne-eqb, not-false}
+use Prim.Native.Nat.{ℕ, zero, suc, _*_, _-_, _≤_, _<_}
+use borrow.Author.Tests.{ltb-false, le-ltb, eqb-true, eqb-false, eq-eqb, ne-eqb, not-false}
 use lib.Dec.{eqb, ltb}
 use lib.ListN.{length}
-use mathlib.Core.Bool.{Bool, true, false, not, _&&_, _||_, and-eq-true-iff, false≢true}
+use mathlib.Core.Bool.{Bool, true, false, not, _||_, and-eq-true-iff, false≢true}
 use mathlib.Core.List.{List, [], _∷_, _++_}
-use mathlib.Core.Logic.{_⊎_, inl, inr}
 use mathlib.Core.Option.{Option, none, some}
-use mathlib.Core.Path.{_≡_, refl, sym, ap, _∙_, subst}
+use mathlib.Core.Path.{_≡_, refl, sym, ap, subst}
 use native.Mathlib.Omega.{arith}
 use Rattle.demand3.proofs.Demand3.{apart}
 use Rattle.promise.proofs.Trees.{call, row-there, row-here}
@@ -16,12 +15,12 @@ use Rattle.promise.specs.Promise as P
 use Rattle.refusal.specs.declared.Refusal.{Refusal}
 use Rattle.rowset.proofs.Laws.{clash, any-found, any-none, uppermost-none, uppermost-some}
 use Rattle.rowset.specs.Bytes.{inRow}
-use Rattle.rowset.specs.Sets.{any, uppermost}
+use Rattle.rowset.specs.Sets.{uppermost}
 use Rattle.star.proofs.Accepted.{pair-same, same-pair, row-used, used-row}
 use Rattle.star.proofs.Claims.{inRow-byte}
 use Rattle.star.specs.Accepted.{Row, Vertex, SamePair}
 use Rattle.star.specs.Call.{Call, used}
-use Rattle.star.specs.Refusals.{maxVertices, cause, causeAt, badVertices, tooManyRows, badLengths, wrongEnds, wrongRow, badEnds, badRow, samePair, repeatsAbove, repeats, repeatedRow, tableCauses, orElse, refusal}
+use Rattle.star.specs.Refusals.{maxVertices, cause, causeAt, badVertices, tooManyRows, badLengths, wrongEnds, wrongRow, badEnds, badRow, repeatsAbove, repeats, repeatedRow, tableCauses, orElse, refusal}
 use Rattle.star.specs.Refusals as Refusals
 
 -- a disjunction that fails, and one of two that fail

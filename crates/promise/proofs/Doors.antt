@@ -3,9 +3,9 @@
 use Prim.Native.Nat.{ℕ, suc, _-_, _/_, _%_, _^_, _<_}
 use lib.Dec.{eqb}
 use lib.ListN.{length}
-use mathlib.Core.Bool.{Bool, true}
+use mathlib.Core.Bool.{true}
 use mathlib.Core.List.{List}
-use mathlib.Core.Path.{_≡_, refl, sym, ap, _∙_}
+use mathlib.Core.Path.{_≡_}
 use native.Mathlib.Omega.{arith}
 use Rattle.promise.proofs.Kept.{cst-kept, other-kept, mst1-kept}
 use Rattle.promise.specs.Promise as P

@@ -1,36 +1,34 @@
 -- The promise is kept: of every call through the doors of the checker and the builder, whatever the columns and the lent answer hold.
 -- Assumes nothing.
-use Prim.Native.Nat.{ℕ, zero, suc, _+_, _*_, _-_, _/_, _%_, _^_, _≤_, _<_}
+use Prim.Native.Nat.{ℕ, zero, suc, _+_, _*_, _-_, _%_, _≤_, _<_}
 use borrow.Author.Tests.{eqb-true, eqb-false, lt-ltb, le-ltb}
-use lib.Dec.{eqb, ltb}
-use lib.IntN.{ℤ, pos, _+ℤ_, _-ℤ_}
-use lib.ListN.{length, getD, set}
+use lib.IntN.{pos, _+ℤ_, _-ℤ_}
+use lib.ListN.{length, set}
 use lib.Signed.{_≤ℤ_}
-use mathlib.Core.Bool.{Bool, true, false, cond}
+use mathlib.Core.Bool.{Bool, true, false}
 use mathlib.Core.List.{List, [], _∷_}
 use mathlib.Core.Logic.{_↔_}
-use mathlib.Core.Option.{Option, none, some}
+use mathlib.Core.Option.{none, some}
 use mathlib.Core.Path.{_≡_, refl, sym, ap, _∙_, subst}
 use native.Mathlib.Decide.{decLt, ℕ-discrete}
 use native.Mathlib.Omega.{arith}
-use Rattle.demand3.proofs.Bytes.{Standing, standing, accepted, turned, cst-turned, other-turned, mst1-turned, marks-turned, unbuilt-fields, cst-door-means, other-door-means, mst1-door-means}
+use Rattle.demand3.proofs.Bytes.{standing, accepted, turned, cst-turned, other-turned, mst1-turned, unbuilt-fields, cst-door-means, other-door-means, mst1-door-means}
 use Rattle.demand3.specs.Bytes.{Written, CheckedMeans, OtherMeans, BuiltMeans, CstCall, OtherCall}
-use Rattle.demand3.specs.Demand3.{ClaimTree, LeastClaim, WorthExchange, ZeroOrOne, Fault, bad-byte, bad-count, cut-off}
-use Rattle.demand3.specs.Only.{NoOther, EqualExchange}
+use Rattle.demand3.specs.Demand3.{ClaimTree, ZeroOrOne, Fault, bad-byte, bad-count, cut-off}
+use Rattle.demand3.specs.Only.{NoOther}
 use Rattle.promise.proofs.Causes.{turned-first, accepted-first, accepted-here, accepted-there}
 use Rattle.promise.proofs.Trees.{number-little, amount-read, call, row-there, row-here, walk-there, walk-here, weight-same, count-there, count-here, tree-there, tree-here, least-here, least-there}
 use Rattle.promise.specs.Promise as P
 use Rattle.refusal.specs.declared.Refusal.{Refusal}
-use Rattle.rowset.proofs.Integers.{up, down, eq-parts, pos-parts, minus, parts-le}
+use Rattle.rowset.proofs.Integers.{eq-parts, pos-parts, minus, parts-le}
 use Rattle.rowset.specs.Bytes.{little, inRow}
-use Rattle.rowset.specs.Integers.{fromBits}
 use Rattle.star.proofs.Accepted.{accepted-means}
 use Rattle.star.proofs.Claims.{inRow-byte, marked-byte}
-use Rattle.star.specs.Accepted.{Row, Vertex, AcceptedTable}
-use Rattle.star.specs.Call.{Call, marked, claimWeight, withClaim, exchanged}
+use Rattle.star.specs.Accepted.{Row, AcceptedTable}
+use Rattle.star.specs.Call.{Call, marked, claimWeight, exchanged}
 use Rattle.star.specs.Cst.{Answer, refused, passed, lighter, cst, EqualRows, equalRows}
 use Rattle.star.specs.Door.{Fields, fields, builtFields, fieldsBeside, otherFields, readBack, doorReturns, cstDoor, mst1Door, otherDoor, mst1DoorMarks}
-use Rattle.star.specs.Mst1.{BuildAnswer, unbuilt, treeBuilt, mst1, mst1Marks}
+use Rattle.star.specs.Mst1.{BuildAnswer, unbuilt, treeBuilt, mst1}
 use Rattle.star.specs.Refusals.{tableCauses, refusal, Accepted}
 
 -- ── What is read of sixteen bytes ──
@@ -196,7 +194,7 @@ module _ (t : P.Table) (uses : ℕ → Bool) (agree : (k : ℕ) → k < t .m →
   -- an exchange
   module _ (c a : List ℕ) (x : Fields) (w : Written a x) where
     exchange-here : (out into : ℕ) → x .out ≡ out → x .into ≡ into → Row (of c) out → Row (of c) into → marked c out ≡ true → marked c into ≡ false
-        → ClaimTree (of c) → ClaimTree (of (exchanged c out into)) → (d : List ℕ) × P.Exchange t c a d × (d ≡ exchanged c out into)
+        → ClaimTree (of c) → ClaimTree (of (exchanged c out into)) → (d : List ℕ) × P.Exchange t c a d × (P.weight t d ≡ claimWeight (of (exchanged c out into)))
     exchange-here zero into o i p q m u s r = absurd (omega (arith, p .0))
     exchange-here (suc k) zero o i p q m u s r = absurd (omega (arith, q .0))
     exchange-here (suc k) (suc l) o i p q m u s r = (
@@ -213,7 +211,7 @@ module _ (t : P.Table) (uses : ℕ → Bool) (agree : (k : ℕ) → k < t .m →
         made = refl;
         tree = tree-here t uses agree _ (subst (λ b. ClaimTree (of b)) (exchange-bytes c k l) r);
       },
-      sym (exchange-bytes c k l),
+      sym (weight-same t uses agree (set (set c k 0) l 1)) ∙ ap (λ b. claimWeight (of b)) (sym (exchange-bytes c k l)),
     )
 
   -- ── The checker ──
@@ -293,14 +291,10 @@ module _ (t : P.Table) (uses : ℕ → Bool) (agree : (k : ℕ) → k < t .m →
     saves : P.at a 0 ≡ 2 → (d : List ℕ) × P.Exchange t c a d × (P.weight t d +ℤ P.amount a ≡ P.weight t c) × (pos 1 ≤ℤ P.amount a) × (P.at a 1 ≡ 0) × (P.at a 6 ≡ 0)
     saves k =
         let (saving, amount, worth) = says (taken-table (λ z. omega arith)) .exchange (kind-of k) in
-        let (d, exchange, same) = exchange-here c a x w _ _ refl refl (worth .out-row) (worth .in-row) (worth .out-marked) (worth .in-unmarked) (worth .claim-tree) (worth .tree) in (
+        let (d, exchange, weighs) = exchange-here c a x w _ _ refl refl (worth .out-row) (worth .in-row) (worth .out-marked) (worth .in-unmarked) (worth .claim-tree) (worth .tree) in (
           d,
           exchange,
-          ap (λ z. P.weight t d +ℤ z) (amount-is a x w ∙ amount)
-              ∙ ap (λ l. P.weight t l +ℤ pos saving) same
-              ∙ ap (λ z. z +ℤ pos saving) (sym (weight-same t uses agree (exchanged c (x .out) (x .into))))
-              ∙ worth .weight
-              ∙ weight-same t uses agree c,
+          ap (λ z. z +ℤ P.amount a) weighs ∙ ap (λ z. claimWeight (of (exchanged c (x .out) (x .into))) +ℤ z) (amount-is a x w ∙ amount) ∙ worth .weight ∙ weight-same t uses agree c,
           subst (λ z. pos 1 ≤ℤ z) (sym (amount-is a x w ∙ amount)) (parts-le (omega (arith, pos-parts 1, pos-parts saving, worth .positive))),
           number-read a x w ∙ shape .taken (λ z. omega (arith, kind-of k)),
           only-read a x w ∙ shape .light (kind-of k),
@@ -388,8 +382,8 @@ module _ (t : P.Table) (uses : ℕ → Bool) (agree : (k : ℕ) → k < t .m →
           let s = told e (in-words c g) in
           let worth = s .another (kind-here e k) (sym (only-read after x w) ∙ o) in
           let claim : ClaimTree (of c) = s .checked .passed .0 (kind-here e k) .tree in
-          let (d, exchange, same) = exchange-here c after x w _ _ refl refl (worth .out-row) (worth .in-row) (worth .out-marked) (worth .in-unmarked) claim (worth .tree) in
-          (d, exchange, ap (P.weight t) same ∙ sym (weight-same t uses agree (exchanged c (x .out) (x .into))) ∙ worth .weight ∙ weight-same t uses agree c)
+          let (d, exchange, weighs) = exchange-here c after x w _ _ refl refl (worth .out-row) (worth .in-row) (worth .out-marked) (worth .in-unmarked) claim (worth .tree) in
+          (d, exchange, weighs ∙ worth .weight ∙ weight-same t uses agree c)
 
   -- ── The builder ──
 

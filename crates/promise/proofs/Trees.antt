@@ -1,13 +1,12 @@
 -- Rows, walks, spanning trees and weights of Promise.antt are those of the columns of a call, plain or working.
 -- Assumes nothing.
-use Prim.Native.Nat.{ℕ, zero, suc, _+_, _*_, _-_, _/_, _%_, _^_, _≤_, _<_}
+use Prim.Native.Nat.{ℕ, zero, suc, _+_, _*_, _%_, _^_, _≤_, _<_}
 use borrow.Author.Tests.{eqb-true, eq-eqb, lt-ltb, le-ltb}
 use lib.Dec.{eqb, ltb}
 use lib.IntN.{ℤ, pos, natAbs, _+ℤ_, _-ℤ_}
-use lib.ListN.{length, getD}
-use mathlib.Core.Bool.{Bool, true, false, cond, _&&_, and-eq-true-iff}
+use lib.ListN.{getD}
+use mathlib.Core.Bool.{Bool, true, false, cond, _&&_}
 use mathlib.Core.List.{List}
-use mathlib.Core.Logic.{_↔_}
 use mathlib.Core.Path.{_≡_, refl, sym, ap, _∙_, subst}
 use native.Mathlib.Decide.{decLt}
 use native.Mathlib.Omega.{arith}
@@ -15,16 +14,15 @@ use Rattle.demand3.specs.Demand3.{ClaimTree, LeastClaim}
 use Rattle.graph.specs.Graph.{Graph, stay, ahead}
 use Rattle.graph.specs.Graph as G
 use Rattle.promise.specs.Promise as P
-use Rattle.rowset.proofs.Laws.{in-upTo, upTo-in}
+use Rattle.rowset.proofs.Laws.{in-upTo}
 use Rattle.rowset.proofs.Members.{both-in, in-both}
 use Rattle.rowset.specs.Bytes.{little, inRow}
 use Rattle.rowset.specs.Integers.{fromBits, total}
-use Rattle.rowset.specs.Sets.{count, sum, both, upTo}
-use Rattle.rowset.specs.Words.{inWords}
+use Rattle.rowset.specs.Sets.{count, sum, both}
 use Rattle.star.proofs.Accepted.{row-used, used-row}
 use Rattle.star.proofs.Claims.{inRow-byte, marked-byte, marked-zero}
-use Rattle.star.specs.Accepted.{Row, Vertex}
-use Rattle.star.specs.Call.{Call, tableOf, used, graphOf, weightOf, marked, claimed, claimWeight, withClaim}
+use Rattle.star.specs.Accepted.{Row}
+use Rattle.star.specs.Call.{Call, tableOf, used, graphOf, weightOf, claimed, claimWeight}
 
 -- numbers in bytes, and the signed number of a word
 pub number-little : (b : List ℕ) (k j : ℕ) → P.number b k j ≡ little b k j
