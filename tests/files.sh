@@ -251,6 +251,10 @@ failing() { # CALL WITH [NUMBER]: sets what fails
     export FAILING=$1 FAILING_WITH=$2 FAILING_CALL=${3:-1}
 }
 preloaded() { LD_PRELOAD=$library "${star[@]}" mend "$plan" -o "$plan"; }
+# The same with no signal ignored, as a shell hands INT and QUIT to what it runs in the background.
+listening() {
+    env --default-signal=INT,TERM,HUP,QUIT LD_PRELOAD="$library" "${star[@]}" mend "$plan" -o "$plan"
+}
 library=$work/failing.so
 if cc -shared -fPIC -o "$library" tests/failing.c 2>/dev/null; then
     for call in mkstemp write fchmod fsync rename; do
@@ -263,7 +267,7 @@ if cc -shared -fPIC -o "$library" tests/failing.c 2>/dev/null; then
         for signal in INT TERM HUP QUIT; do
             begin
             failing $call -$(kill -l $signal)
-            ends $((128 + $(kill -l $signal))) preloaded
+            ends $((128 + $(kill -l $signal))) listening
             [ $status -gt 128 ] && { kept || { [ $call = rename ] && whole; }; }
             verdict "signal: $call $signal" $?
         done
