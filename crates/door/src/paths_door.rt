@@ -2,10 +2,12 @@
 use answer::of_outcome;
 use answer::write_answer;
 ghost use mathlib.Core.Path.{_≡_};
+ghost use Rattle.pathbytes.specs.Bytes.{PathsCall};
 ghost use Rattle.star.specs.Call.{callOf};
 ghost use Rattle.star.specs.Door.{doorReturns, pathsDoor, pathsDoorMatrix};
 
 // MatrixPath through the door: the matrix is filled where nothing is refused, and stays as it is otherwise.
+// `means` says what the bytes and the matrix are worth: the rows on the way from s to each vertex.
 #[no_mangle]
 pub extern "C" fn star_paths(
     n: u32,
@@ -24,6 +26,9 @@ pub extern "C" fn star_paths(
     ensures filled { λ r.
         let c = callOf n (now (left .entry)) (now (right .entry)) (now (weight .entry)) (now (mark .entry)) in
         ⌜ now (matrix .exit) ≡ pathsDoorMatrix c s (now (matrix .entry)) (now (answer .entry)) ⌝ }
+    ensures means { λ r.
+        let c = callOf n (now (left .entry)) (now (right .entry)) (now (weight .entry)) (now (mark .entry)) in
+        ⌜ PathsCall c s (now (matrix .entry)) (now (answer .entry)) (now (answer .exit)) (now (matrix .exit)) r ⌝ }
 {
     if answer.len() != 16 {
         return 0;

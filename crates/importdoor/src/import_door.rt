@@ -4,6 +4,7 @@ use answer::write_answer;
 use stp::Imported;
 ghost use mathlib.Core.Path.{_≡_};
 ghost use Rattle.answer.specs.Records.{fieldsOf};
+ghost use Rattle.importbytes.specs.Bytes.{ImportCall};
 ghost use Rattle.star.specs.Door.{doorReturns};
 ghost use Rattle.steinlib.specs.Door.{importFields, importDoor, leftDoor, rightDoor, weightDoor};
 ghost use Rattle.stp.specs.Answers.{answerOf};
@@ -33,6 +34,7 @@ pub fn of_imported(x: Imported) -> Record
 }
 
 // The import through the door: the columns are written where the text is taken, and stay as they are otherwise.
+// `means` says what the bytes and the columns are worth: what was read is an accepted table.
 #[no_mangle]
 pub extern "C" fn star_import(
     text: &[u8],
@@ -46,6 +48,7 @@ pub extern "C" fn star_import(
     ensures lefts { λ r. ⌜ now (left .exit) ≡ leftDoor (now (text .entry)) (now (left .entry)) (now (right .entry)) (now (weight .entry)) (now (answer .entry)) ⌝ }
     ensures rights { λ r. ⌜ now (right .exit) ≡ rightDoor (now (text .entry)) (now (left .entry)) (now (right .entry)) (now (weight .entry)) (now (answer .entry)) ⌝ }
     ensures weights { λ r. ⌜ now (weight .exit) ≡ weightDoor (now (text .entry)) (now (left .entry)) (now (right .entry)) (now (weight .entry)) (now (answer .entry)) ⌝ }
+    ensures means { λ r. ⌜ ImportCall (now (text .entry)) (now (left .entry)) (now (right .entry)) (now (weight .entry)) (now (answer .entry)) (now (answer .exit)) (now (left .exit)) (now (right .exit)) (now (weight .exit)) r ⌝ }
 {
     if answer.len() != 16 {
         return 0;

@@ -73,9 +73,9 @@ pub fn match_each(
     ensures words { λ r.
         let put : (ℕ → ℕ) → List ℕ → List ℕ = λ f l. rowsPut words f (inWords (now (rows .entry))) l size in
         ⌜ Bytes (loadedRow 1 (now (left .entry))) (inWords (now (rows .entry)))
-          × Bytes (loadedRow 1 (now (right .entry))) (inWords (now (rows .entry)))
-          × (now (lefts .exit) ≡ put (loadedRow 1 (now (left .entry))) (now (lefts .entry)))
-          × (now (rights .exit) ≡ put (loadedRow 1 (now (right .entry))) (now (rights .entry))) ⌝ }
+        × Bytes (loadedRow 1 (now (right .entry))) (inWords (now (rows .entry)))
+        × (now (lefts .exit) ≡ put (loadedRow 1 (now (left .entry))) (now (lefts .entry)))
+        × (now (rights .exit) ≡ put (loadedRow 1 (now (right .entry))) (now (rights .entry))) ⌝ }
 {
     let end = inplace::last_row(rows);
     let mut i = 0;

@@ -6,19 +6,20 @@ use mathlib.Core.Path.{refl, ap, _∙_}
 use native.Mathlib.Omega.{arith}
 use Rattle.door.proofs.paths_door.star_paths.Statement.{statement}
 use Rattle.door.proofs.paths_door.star_paths.Tie as tie
+use Rattle.pathbytes.proofs.Bytes.{paths-call}
 use Rattle.star.specs.Door.{answerAfter, wellLent, doorReturns, outcomeFields, pathsDoor, pathsDoorMatrix}
 
 returns : tie.Need-returns
 unfolding doorReturns wellLent pathsDoor answerAfter pathsDoorMatrix
-returns c = rw (ne-eqb (length (c .before .before .before .before .before .before .before .args .answer .now)) 16 (λ e. omega arith)) (refl, (refl, refl))
+returns c = paths-call (rw (ne-eqb (length (c .before .before .before .before .before .before .before .args .answer .now)) 16 (λ e. omega arith)) (refl, (refl, refl)))
 
 returns-2 : tie.Need-returns-2
 unfolding doorReturns wellLent pathsDoor pathsDoorMatrix
 returns-2 c =
-    rw (eq-eqb (length (c .before .before .before .before .before .before .before .before .before .before .before .before .before .before .before .before .args .answer .now)) 16 (omega arith)) (
+    paths-call (rw (eq-eqb (length (c .before .before .before .before .before .before .before .before .before .before .before .before .before .before .before .before .args .answer .now)) 16 (omega arith)) (
       refl,
       (c .before .before .write-answer .ensures ∙ ap (answerAfter _) (c .before .before .before .before .of-outcome .ensures ∙ ap outcomeFields (c .before .before .before .before .before .before .before .matrix-path .ensures .0)), c .before .before .before .before .before .before .before .matrix-path .ensures .1),
-    )
+    ))
 
 pub star-paths-spec : {M : Type 1} → statement M
 star-paths-spec =

@@ -6,20 +6,21 @@ use mathlib.Core.Path.{refl, ap, _∙_}
 use native.Mathlib.Omega.{arith}
 use Rattle.importdoor.proofs.import_door.star_import.Statement.{statement}
 use Rattle.importdoor.proofs.import_door.star_import.Tie as tie
+use Rattle.importbytes.proofs.Bytes.{import-call}
 use Rattle.star.specs.Door.{answerAfter, wellLent, doorReturns}
 use Rattle.steinlib.specs.Door.{importFields, importDoor, leftDoor, rightDoor, weightDoor}
 
 returns : tie.Need-returns
 unfolding doorReturns wellLent importDoor answerAfter leftDoor rightDoor weightDoor
-returns c = rw (ne-eqb (length (c .before .before .before .before .before .before .args .answer .now)) 16 (λ e. omega arith)) (refl, (refl, (refl, (refl, refl))))
+returns c = import-call (rw (ne-eqb (length (c .before .before .before .before .before .before .args .answer .now)) 16 (λ e. omega arith)) (refl, (refl, (refl, (refl, refl)))))
 
 returns-2 : tie.Need-returns-2
 unfolding doorReturns wellLent importDoor leftDoor rightDoor weightDoor
 returns-2 c =
-    rw (eq-eqb (length (c .before .before .before .before .before .before .before .before .before .before .before .before .before .before .before .before .before .before .before .before .before .args .answer .now)) 16 (omega arith)) (
+    import-call (rw (eq-eqb (length (c .before .before .before .before .before .before .before .before .before .before .before .before .before .before .before .before .before .before .before .before .before .args .answer .now)) 16 (omega arith)) (
       refl,
       (c .before .before .write-answer .ensures ∙ ap (answerAfter _) (c .before .before .before .before .of-imported .ensures ∙ ap importFields (c .before .before .before .before .before .before .before .before .before .before .before .import .ensures .0)), c .before .before .before .before .before .before .before .before .before .before .before .import .ensures .1),
-    )
+    ))
 
 pub star-import-spec : {M : Type 1} → statement M
 star-import-spec =
