@@ -38,10 +38,10 @@ module _ (h : Held) (r t : ℕ) {U : ℕ → Bool} {w : ℕ → ℤ} {whole : Bo
   same-starts = rw (eu, ew) at s
 
   -- there is no tree
-  pub makes-none : whole ≡ false → {left : Bool} {remaining : ℕ → Bool} → Makes h r t false left remaining
-  makes-none e = record { joins = sym e ∙ same-starts .all; ends = λ q. clash q refl }
+  pub makes-none : whole ≡ false → {left : Bool} {remaining : ℕ → Bool} → left ≡ false → remaining ≡ empty → Makes h r t false left remaining
+  makes-none e l q = record { joins = sym e ∙ same-starts .all; ends-not = λ _. (l, q); ends = λ z. clash z refl }
 
   -- there is one, and exchanges are made on it
   pub makes-some : whole ≡ true → {at : ℕ → Bool} → at ≡ both U (touches (graphIn (loadedRow 1 (h .left)) (loadedRow 1 (h .right)) U (h .n)) r) → {left : Bool} {remaining : ℕ → Bool}
       → Ends (reducedFrom (record { left = h .left; right = h .right; price = priceIn (h .weight); weight = w; at = at }) U chosen r (h .n) t) left remaining → Makes h r t true left remaining
-  makes-some e is-at ends = record { joins = sym e ∙ same-starts .all; ends = λ q. rw (is-at, eu, ew, same-starts .rows) at ends }
+  makes-some e is-at ends = record { joins = sym e ∙ same-starts .all; ends-not = λ q. clash refl q; ends = λ q. rw (is-at, eu, ew, same-starts .rows) at ends }

@@ -13,7 +13,7 @@ ghost use Rattle.rowset.specs.Searches.{largest};
 ghost use Rattle.rowset.specs.Sets.{both, uppermost};
 ghost use Rattle.slice.specs.Slices.{size, component, written};
 ghost use Rattle.reductions.specs.steps.Columns.{givenOf, pickOf, priceIn};
-ghost use Rattle.reductions.specs.steps.Exchanges.{numberOf, between, dearest, filled, costs, keptAs, swapped, firstState, exchangesTo, Ends};
+ghost use Rattle.reductions.specs.steps.Exchanges.{numberOf, between, dearest, filled, costs, keptAs, swapped, firstState, exchangesTo, lastState, Ends};
 use checks::row_byte;
 use claim::flipped_weight;
 use slice::SIZE;
@@ -241,9 +241,12 @@ fn exchanges(
     cost: &mut [u64],
 ) -> Reduced
     requires { ⌜ length (now out) ≡ length (now cost) ⌝ }
-    ensures { λ r.
+    ensures left { λ r.
         let x = givenOf (now (left .entry)) (now (right .entry)) (now (weight .entry)) (now (weights .entry)) first (component at) in
         ⌜ Ends (exchangesTo x n k (record { chosen = component tree; own = now (own .entry); out = now (out .entry); cost = now (cost .entry) })) (r .whole) (component (r .chosen)) ⌝ }
+    ensures own { λ r.
+        let x = givenOf (now (left .entry)) (now (right .entry)) (now (weight .entry)) (now (weights .entry)) first (component at) in
+        ⌜ now (own .exit) ≡ lastState x n k (record { chosen = component tree; own = now (own .entry); out = now (out .entry); cost = now (cost .entry) }) .own ⌝ }
 {
     let mut chosen = tree;
     let mut i = 0;
@@ -266,7 +269,7 @@ fn exchanges(
     }
 }
 
-// The tree after k exchanges of least cost, each for a row of a slice, which has no row at r, and for one of the rows at r. The path matrix lent is the tree's from r.
+// The tree after k exchanges of least cost, each for a row of a slice, which has no row at r, and for one of the rows at r. The path matrix lent is the tree's from r, and afterwards that after the last exchange that was made.
 pub fn reduce(
     n: usize,
     left: &[u8],
@@ -280,9 +283,12 @@ pub fn reduce(
     tree: Slice,
     own: &mut [u64],
 ) -> Reduced
-    ensures { λ r.
+    ensures left { λ r.
         let x = givenOf (now (left .entry)) (now (right .entry)) (now (weight .entry)) (now (weights .entry)) first (component at) in
         ⌜ Ends (exchangesTo x n k (firstState x (component rest) (component tree) (now (own .entry)))) (r .whole) (component (r .chosen)) ⌝ }
+    ensures own { λ r.
+        let x = givenOf (now (left .entry)) (now (right .entry)) (now (weight .entry)) (now (weights .entry)) first (component at) in
+        ⌜ now (own .exit) ≡ lastState x n k (firstState x (component rest) (component tree) (now (own .entry))) .own ⌝ }
 {
     let mut out = [0usize; SIZE];
     let mut cost = [NONE; SIZE];

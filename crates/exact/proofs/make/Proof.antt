@@ -1,6 +1,7 @@
 -- `exact::make` meets its contract: there is no tree, or exchanges are made on the start. Assumes nothing.
 use borrow.Author.Needs.{needs}
 use borrow.Author.Tests.{not-true, not-false}
+use mathlib.Core.Path.{refl}
 use Rattle.loads.proofs.Numbers.{zeros, length-put}
 use Rattle.loads.proofs.Signs.{sign-integer}
 use Rattle.exact.proofs.Makes.{makes-none, makes-some}
@@ -13,7 +14,7 @@ returns c =
     let rows = start .before .before in
     let sign = rows .before in
     let prices = sign .before .before in
-    makes-none _ _ _ (rows .rows-among .ensures) (sign-integer _ (sign .sign-columns .ensures) (prices .put-prices .ensures .1 zeros)) (start .start-of .ensures .0) (not-true _ (c .before .if1 .taken))
+    makes-none _ _ _ (rows .rows-among .ensures) (sign-integer _ (sign .sign-columns .ensures) (prices .put-prices .ensures .1 zeros)) (start .start-of .ensures .0) (not-true _ (c .before .if1 .taken)) refl (c .empty .ensures)
 
 returns-2 : tie.Need-returns-2
 returns-2 c =

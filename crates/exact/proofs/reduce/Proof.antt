@@ -12,7 +12,7 @@ returns c = reduced-none _ _ _ _ _ _ _ (c .before .before .count-rows .ensures �
 
 returns-2 : tie.Need-returns-2
 returns-2 c =
-    reduced-made _ _ _ _ _ _ _ (c .before .before .before .before .before .before .before .before .count-rows .ensures ∙ ap (count size) (c .before .before .before .before .before .before .before .before .before .and .ensures)) (c .before .before .before .before .before .before .before .if1 .left) _ _ (c .before .before .before .before .before .before .without .ensures) (c .before .before .before .before .walk .ensures .1) (c .before .reduce .ensures)
+    reduced-made _ _ _ _ _ _ _ (c .before .before .before .before .before .before .before .before .count-rows .ensures ∙ ap (count size) (c .before .before .before .before .before .before .before .before .before .and .ensures)) (c .before .before .before .before .before .before .before .if1 .left) _ _ (c .before .before .before .before .before .before .without .ensures) (c .before .before .before .before .walk .ensures .1) (c .before .reduce .ensures .0)
 
 pub reduce-spec : {M : Type 1} → statement M
 reduce-spec =

@@ -4,7 +4,7 @@ use Prim.Native.Nat.{ℕ, _-_}
 use lib.Dec.{ltb}
 use lib.IntN.{ℤ}
 use lib.ListN.{replicate}
-use mathlib.Core.Bool.{Bool, true, not, cond}
+use mathlib.Core.Bool.{Bool, true, false, not, cond}
 use mathlib.Core.List.{List}
 use mathlib.Core.Option.{Option, none}
 use mathlib.Core.Path.{_≡_}
@@ -14,7 +14,7 @@ use Rattle.path.specs.steps.Walks.{walk}
 use Rattle.reductions.specs.steps.Columns.{priceIn}
 use Rattle.reductions.specs.steps.Exchanges.{Given, State, exchangesTo, firstState, Ends}
 use Rattle.rowset.specs.Integers.{signed}
-use Rattle.rowset.specs.Sets.{upTo, both, without, count}
+use Rattle.rowset.specs.Sets.{empty, upTo, both, without, count}
 use Rattle.slice.specs.Slices.{size}
 use Rattle.star.specs.Mst1.{chosenRows}
 use Rattle.star.specs.Refusals.{isNone}
@@ -57,7 +57,8 @@ abbrev pub givenIn : Held → ℕ → Given
 givenIn h r =
     record { left = h .left; right = h .right; price = priceIn (h .weight); weight = weightIn h; at = both (usedIn h) (touches (loadedIn h) r) }
 
--- whether there is a tree, and where there is one, what is left of the start
+-- whether there is a tree; where there is one, what is left of the start, and where there is none, no row
 pub record Makes (h : Held) (r t : ℕ) (joined whole : Bool) (chosen : ℕ → Bool) : Type 0 where
   pub joins : joined ≡ not (isNone (start (loadedIn h) (weightIn h) r))
+  pub ends-not : joined ≡ false → (whole ≡ false) × (chosen ≡ empty)
   pub ends : joined ≡ true → Ends (reducedFrom (givenIn h r) (usedIn h) (chosenRows (start (loadedIn h) (weightIn h) r)) r (h .n) t) whole chosen

@@ -9,7 +9,7 @@ use Rattle.exchange.proofs.Turned.{length-all-turned}
 use Rattle.reductions.specs.steps.Columns.{givenOf}
 use Rattle.reductions.specs.steps.Exchanges.{State, picked, exchangesTo}
 use Rattle.reductions.proofs.Fills.{length-filled}
-use Rattle.reductions.proofs.Turns.{exchanges-stuck, exchanges-more, ends-none, ends-made}
+use Rattle.reductions.proofs.Turns.{exchanges-stuck, own-made, own-stuck, exchanges-more, ends-none, ends-made}
 use Rattle.slice.specs.Slices.{component}
 use Rattle.reductions.proofs.exchanges.Statement.{statement}
 use Rattle.reductions.proofs.exchanges.Tie as tie
@@ -30,7 +30,7 @@ returns : tie.Need-returns Inv-loop μ-loop
 unfolding picked
 returns c =
     let l = c .before .before .before .before .before .loop in
-    ends-none (exchanges-stuck _ _ _ (l .i) _ _ _ (l .inv .6) (c .before .before .cheapest .ensures) (c .before .if1 .taken) (c .before .before .before .before .loop-test .taken)) refl (c .empty .ensures)
+    (ends-none (exchanges-stuck _ _ _ (l .i) _ _ _ (l .inv .6) (c .before .before .cheapest .ensures) (c .before .if1 .taken) (c .before .before .before .before .loop-test .taken)) refl (c .empty .ensures), own-stuck _ _ _ (l .i) _ (record { chosen = component (l .chosen); own = l .own; out = l .out; cost = l .cost }) _ (l .inv .6) (c .before .before .cheapest .ensures) (c .before .if1 .taken) (c .before .before .before .before .loop-test .taken))
 
 find-again-requires : tie.Need-find-again-requires Inv-loop μ-loop
 find-again-requires c κs = let l = c .before .before .before .before .before .before .before .before .before .before .before .before .before .loop in omega (arith, l .inv .3, l .inv .4, l .inv .5)
@@ -53,8 +53,10 @@ loop-again c =
 returns-2 : tie.Need-returns-2 Inv-loop μ-loop
 returns-2 c =
     let l = c .before .loop in
-    let all : l .i ≡ c .before .before .before .before .before .before .before .before .before .args .k = omega arith in
-    ends-made {s = record { chosen = component (l .chosen); own = l .own; out = l .out; cost = l .cost }} (rw (← all) (l .inv .6)) refl
+    let all : l .i ≡ c .before .before .before .before .before .before .before .before .before .args .k = omega arith in (
+      ends-made {s = record { chosen = component (l .chosen); own = l .own; out = l .out; cost = l .cost }} (rw (← all) (l .inv .6)) refl,
+      own-made _ _ _ _ (record { chosen = component (l .chosen); own = l .own; out = l .out; cost = l .cost }) (rw (← all) (l .inv .6)),
+    )
 
 pub exchanges-spec : {M : Type 1} → statement M
 exchanges-spec =

@@ -101,6 +101,15 @@ unfoldable pub exchangesTo : Given → (n k : ℕ) → State → Option State
 exchangesTo x n zero s = some s
 exchangesTo x n (suc k) s = exchangeAfter x n (exchangesTo x n k s)
 
+-- the state after k exchanges, or after as many as there are
+unfoldable pub orStays : State → Option State → State
+orStays s none = s
+orStays s (some t) = t
+
+unfoldable pub lastState : Given → (n k : ℕ) → State → State
+lastState x n zero s = s
+lastState x n (suc k) s = orStays (lastState x n k s) (exchangeBy x n (picked (lastState x n k s)) (lastState x n k s))
+
 -- the first state: the rows of a set are looked at
 unfoldable pub firstState : Given → (rest chosen : ℕ → Bool) → (own : List ℕ) → State
 firstState x rest chosen own = found x rest (record { chosen = chosen; own = own; out = replicate size 0; cost = replicate size noCost })
