@@ -1,16 +1,17 @@
 // Reads an STP text on standard input and prints what the import answers: n and m on one line, and then a line a row with its ends and its weight; or the refusal's number and place.
 // The page is made whole before a byte is printed.
 ghost use Prim.Native.Nat.{_≤_};
+use crate::output::write_bytes;
 use decimal::put_byte;
 use decimal::put_natural;
 use decimal::put_price;
 use decimal::put_text;
 use libc::STDIN_FILENO;
-use libc::STDOUT_FILENO;
 use printer::Page;
 use refusal::Refusal;
 use stp::Imported;
 use stp::Sizes;
+use streams::first;
 
 // One byte more than the longest text that is taken, so that a longer one is noticed.
 const TEXT_BYTES: usize = 65537;
@@ -88,7 +89,7 @@ fn print(text: &[u8]) -> u32
 {
     let mut bytes = [0u8; PRINTED];
     let page = import(text, &mut bytes);
-    if !streams::write_text(STDOUT_FILENO, &bytes, page.size) {
+    if !write_bytes(first(&bytes, page.size)) {
         os::fail(b"readstp: the answer is not printed whole");
         return 2;
     }

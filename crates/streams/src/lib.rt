@@ -1,4 +1,4 @@
-// Whole texts read and written, with errors told apart from ends. No contract can say which bytes a call of C reads or writes: what is said here is where they stand.
+// Whole texts read, with errors told apart from ends, and the start of a buffer. No contract can say which bytes a call of C reads: what is said here is where they stand.
 ghost use lib.ListN.{take};
 ghost use mathlib.Core.Path.{_≡_};
 ghost use Rattle.io.specs.Counts.{Counts};
@@ -49,13 +49,4 @@ pub fn first(buffer: &[u8], size: usize) -> &[u8]
         return &buffer[..size];
     }
     buffer
-}
-
-// Writes the first `size` bytes of a buffer and closes the file, so that an error that is told late is told too. False where some of them may not have been written.
-// Nothing is ensured of it: which bytes are handed to C says `first`, and no contract of the kit says what C does with them.
-pub fn write_text(fd: i32, buffer: &[u8], size: usize) -> bool {
-    if !io::write_all(fd, first(buffer, size)) {
-        return false;
-    }
-    libc::close(fd) == 0
 }

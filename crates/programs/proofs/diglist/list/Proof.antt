@@ -1,18 +1,14 @@
--- `programs::diglist::list` meets its contract: the status is that of the page, or 2. Assumes nothing.
+-- `programs::diglist::list` meets its contract: what is handed on is the page, whole. Assumes nothing.
 use borrow.Author.Needs.{needs}
-use mathlib.Core.Logic.{inl, inr}
-use mathlib.Core.Path.{refl}
+use mathlib.Core.Path.{_∙_}
 use native.Mathlib.Omega.{arith}
 use Rattle.programs.proofs.diglist.list.Statement.{statement}
 use Rattle.programs.proofs.diglist.list.Tie as tie
 
-returns : tie.Need-returns
-returns c = (inr refl, omega arith)
-
-returns-2 : tie.Need-returns-2
-returns-2 c =
-    let p = c .before .before .before .before .print-text .ensures .1 in
-    (inl (p .0), omega (arith, p .1))
+write-list-requires : tie.Need-write-list-requires
+write-list-requires c κs =
+    let p = c .before .before .before .print-text .ensures in
+    (c .first .ensures ∙ p .0 .whole (omega arith), p .1 .0, p .1 .1)
 
 pub list-spec : {M : Type 1} → statement M
 list-spec =
@@ -22,7 +18,5 @@ list-spec =
     (λ c κs. search needs)
     (λ c. search needs)
     (λ c κs. search needs)
-    (λ c. search needs)
-    (λ c κs. search needs)
-    returns
-    returns-2)
+    write-list-requires
+    (λ c. search needs))
