@@ -1,7 +1,8 @@
 #!/usr/bin/env bash
-# Builds the Debian packages in a copy of the sources, with the archives of the core that are there, and tries what is in them. It takes some
-# minutes, and is no part of the gate.
-# usage: debian.sh   Ends in one line 'N passed, M failed'; where dpkg-buildpackage is not installed it is told as skipped.
+# Builds the Debian packages in a copy of the sources, with the archives of the core that are there,
+# and tries what is in them. It takes some minutes, and is no part of the gate.
+# usage: debian.sh   Ends in one line 'N passed, M failed'; where dpkg-buildpackage is not installed
+# it is told as skipped.
 set -u
 cd "$(dirname "$0")/.."
 passed=0 failed=0 work=$(mktemp -d)
@@ -28,22 +29,32 @@ mkdir -p "$work/star/target"
 git ls-files -z | tar cf - --null -T - | tar xf - -C "$work/star"
 cp -a target/objects "$work/star/target"
 holds build build
-for package in libstar0 libstar-dev star-console python3-star; do holds "$package" [ -s "$work/$package"_*.deb ]; done
-if command -v lintian >/dev/null; then holds lintian lintian --allow-root --fail-on error "$work"/*.changes; fi
+for package in libstar0 libstar-dev star-console python3-star; do
+    holds "$package" [ -s "$work/$package"_*.deb ]
+done
+if command -v lintian >/dev/null; then
+    holds lintian lintian --allow-root --fail-on error "$work"/*.changes
+fi
 
 # What is in them works together.
-for package in "$work"/*.deb; do holds "unpack ${package##*/}" dpkg-deb -x "$package" "$work/root"; done
+for package in "$work"/*.deb; do
+    holds "unpack ${package##*/}" dpkg-deb -x "$package" "$work/root"
+done
 usr=$work/root/usr library=$(dirname "$(find "$work/root" -name libstar.so.0)")
 export LD_LIBRARY_PATH=$library
 holds console "$usr/bin/star" check console/examples/yard.txt
-holds example "${CC:-cc}" -I"$usr/include" -o "$work/plan" console/examples/plan.c -L"$library" -lstar
+holds example "${CC:-cc}" -I"$usr/include" -o "$work/plan" console/examples/plan.c \
+    -L"$library" -lstar
 holds example-runs "$work/plan"
-holds python env PYTHONPATH="$usr/lib/python3/dist-packages" python3 -B -m star check console/examples/yard.txt
+holds python env PYTHONPATH="$usr/lib/python3/dist-packages" \
+    python3 -B -m star check console/examples/yard.txt
 holds manual [ -s "$usr/share/man/man3/star_cst.3.gz" ]
 
 # A core that is not of the record is not packaged.
 echo '// changed' >>"$work/star/crates/door/src/lib.rt"
-holds changed bash -c "! (cd '$work/star' && dpkg-buildpackage -b -us -uc -nc) >'$work/changed' 2>&1"
+again() { (cd "$work/star" && dpkg-buildpackage -b -us -uc -nc) >"$work/changed" 2>&1; }
+fails() { ! "$@"; }
+holds changed fails again
 holds changed-said grep -q 'the sources of door differ' "$work/changed"
 echo "$passed passed, $failed failed"
 [ "$failed" = 0 ]

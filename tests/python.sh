@@ -1,6 +1,8 @@
 #!/usr/bin/env bash
-# Tests of the Python package, as pip installs it from the wheel: with no network, no compiler, and the library inside.
-# usage: python.sh [CASES]   Ends in one line 'N passed, M failed'; what is not installed here is told as skipped.
+# Tests of the Python package, as pip installs it from the wheel: with no network, no compiler, and
+# the library inside.
+# usage: python.sh [CASES]   Ends in one line 'N passed, M failed'; what is not here is told
+# as skipped.
 set -u
 cd "$(dirname "$0")/.."
 cases=${1:-20000} work=$(mktemp -d)
@@ -25,7 +27,8 @@ if ! make -s wheel >"$work/said" 2>&1; then
 fi
 wheel=(target/c/wheel/star_tables-*.whl)
 if "$python" -m pip --version >/dev/null 2>&1; then
-    PATH=/nowhere "$python" -m pip install -q --no-index --no-cache-dir --no-deps --root-user-action=ignore --target "$work/site" "${wheel[@]}" >"$work/said" 2>&1
+    PATH=/nowhere "$python" -m pip install -q --no-index --no-cache-dir --no-deps \
+        --root-user-action=ignore --target "$work/site" "${wheel[@]}" >"$work/said" 2>&1
     installed=$?
 else
     echo "skipped: pip is not installed; the wheel is unpacked"
@@ -37,5 +40,5 @@ if [ "$installed" != 0 ] || [ ! -s "$work/site/star/libstar.so" ]; then
     echo "0 passed, 1 failed"
     exit 1
 fi
-env -u STAR_LIBRARY PYTHONPATH="$work/site" CASES="$cases" HYPOTHESIS_STORAGE_DIRECTORY="$work/hypothesis" \
-    "$python" -B tests/python/run.py
+env -u STAR_LIBRARY PYTHONPATH="$work/site" CASES="$cases" \
+    HYPOTHESIS_STORAGE_DIRECTORY="$work/hypothesis" "$python" -B tests/python/run.py
