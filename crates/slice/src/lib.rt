@@ -16,7 +16,7 @@ pub const WORDS: usize = 16;
 
 const BITS: usize = 64;
 
-// Sixteen words of 64 bits: component i is bit (i - 1) % 64 of word (i - 1) / 64. What a slice means is its components; no contract speaks of the words.
+// Sixteen words of 64 bits: component i is bit (i - 1) % 64 of word (i - 1) / 64. What a slice means is its components: contracts speak of these, and of words only where words are lent.
 pub struct Slice {
     pub words: [u64; WORDS],
 }
