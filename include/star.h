@@ -69,7 +69,7 @@ extern "C" {
 #define STAR_VERSION_MAJOR 0
 #define STAR_VERSION_MINOR 9
 #define STAR_VERSION_PATCH 0
-#define STAR_VERSION "0.9.0"
+#define STAR_VERSION "0.10.0"
 
 const char *star_version(void);
 
