@@ -77,7 +77,9 @@ class Plan(NamedTuple):
     """A network: its total, and a byte for each row, 1 where it has the row."""
     total: int
     marks: bytes
-    __repr__ = _shown
+
+    def __repr__(self) -> str:
+        return _shown(self)
 
     @property
     def rows(self) -> Tuple[int, ...]:
@@ -97,7 +99,9 @@ class Mended(NamedTuple):
     total: int
     marks: bytes
     steps: Tuple[Step, ...]
-    __repr__ = _shown
+
+    def __repr__(self) -> str:
+        return _shown(self)
 
     @property
     def rows(self) -> Tuple[int, ...]:
@@ -110,7 +114,9 @@ class Districts(NamedTuple):
     total: int
     marks: bytes
     forests: Tuple[Tuple[int, ...], ...]
-    __repr__ = _shown
+
+    def __repr__(self) -> str:
+        return _shown(self)
 
     @property
     def rows(self) -> Tuple[int, ...]:

@@ -1,7 +1,7 @@
 """Tables from and to files: the planner's table and STP texts by the library, CSV, GeoJSON."""
 import ctypes
 import os
-from typing import Union
+from typing import Callable, Dict, Union
 
 from . import _library as lib
 from .answers import Refused
@@ -9,7 +9,8 @@ from .formats import from_csv, from_geojson, to_csv, to_geojson
 from .table import Table, check_junctions
 
 Path = Union[str, "os.PathLike[str]"]
-_READERS = {".csv": from_csv, ".tsv": from_csv, ".geojson": from_geojson, ".json": from_geojson}
+_READERS: Dict[str, Callable[..., Table]] = {
+    ".csv": from_csv, ".tsv": from_csv, ".geojson": from_geojson, ".json": from_geojson}
 _WRITERS = {".csv": to_csv, ".geojson": to_geojson, ".json": to_geojson}
 
 

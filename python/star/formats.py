@@ -121,7 +121,8 @@ def from_geojson(text: str, price: str = "price", **how) -> Table:
     named by its coordinates. Coordinates and the courses of the lines are kept."""
     features = json.loads(text).get("features", [])
     names: Dict[Tuple[float, ...], Hashable] = {}
-    rows, lines = [], []
+    rows: List[list] = []
+    lines: List[tuple] = []
     for feature in features:
         geometry, properties = feature.get("geometry") or {}, feature.get("properties") or {}
         if geometry.get("type") == "Point" and "name" in properties:

@@ -5,6 +5,8 @@ usage: run.py   the environment's CASES: how many tables; ends in one line 'N pa
 """
 import importlib.util
 import os
+import shutil
+import subprocess
 import sys
 import time
 import unittest
@@ -54,12 +56,25 @@ def controls(with_networkx):
     return passed, failed
 
 
+def types():
+    """Whether the types that the package states hold, where mypy is installed."""
+    if not shutil.which("mypy"):
+        print("skipped: the types, since mypy is not installed")
+        return 0, 0
+    words = ["mypy", "--ignore-missing-imports", "--cache-dir", os.devnull, "star"]
+    package = os.path.join(HERE, "..", "..", "python")
+    held = subprocess.run(words, cwd=package, stdout=subprocess.PIPE, universal_newlines=True)
+    if held.returncode != 0:
+        print(held.stdout)
+    return int(held.returncode == 0), int(held.returncode != 0)
+
+
 def main():
     with_networkx = all(importlib.util.find_spec(name) for name in ("networkx", "hypothesis"))
     if not with_networkx:
         print("skipped: the tests against networkx, since networkx or hypothesis is not installed")
     modules = ["package"] + ["against_networkx"] * bool(with_networkx)
-    passed, failed = tests(modules)
+    passed, failed = map(sum, zip(tests(modules), types()))
     if not failed:
         found, missed = controls(with_networkx)
         passed, failed = passed + found, failed + missed
