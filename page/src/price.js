@@ -8,6 +8,7 @@ import { money } from './words.js';
 /** @typedef {import('./app.js').App} App */
 
 const [CURVE_LEFT, CURVE_WIDTH, CURVE_TOP, CURVE_BASE] = [8, 284, 14, 58];
+const CURVE_TOTAL = 300; // the width of its view box
 
 export class Price {
   /** @param {App} app */
@@ -23,6 +24,24 @@ export class Price {
     this.range.addEventListener('input', () => this.move(Number(this.range.value)));
     this.range.addEventListener('change', () => this.settle());
     this.number.addEventListener('change', () => this.type());
+    const curve = byId('price-curve');
+    curve.addEventListener('pointerdown', (/** @type {any} */ e) => {
+      curve.setPointerCapture(e.pointerId);
+      this.drag(e);
+    });
+    curve.addEventListener('pointermove', (/** @type {any} */ e) => {
+      if (curve.hasPointerCapture(e.pointerId)) this.drag(e);
+    });
+    curve.addEventListener('lostpointercapture', () => this.settle());
+  }
+
+  /** The price under a pointer on the curve.
+   * @param {any} e */
+  drag(e) {
+    const box = byId('price-curve').getBoundingClientRect();
+    const x = ((e.clientX - box.left) / box.width) * CURVE_TOTAL;
+    const share = Math.min(1, Math.max(0, (x - CURVE_LEFT) / CURVE_WIDTH));
+    this.move(Math.round(this.low + share * (this.high - this.low)));
   }
 
   /** @param {number} price */

@@ -1,15 +1,18 @@
 // The page in a real browser, held to the console on the same files.
 // usage: node page.mjs CHROMIUM STAR STAR.html [GROUP..]   Ends in one line 'N passed, M failed'.
 // CALLS in the environment names the file of calls.py for the group doors, and TABLES the table of
-// the group labels, where not all are wanted.
+// the group labels, where not all are wanted. The groups of paper.mjs need poppler-utils.
 import { spawnSync } from 'node:child_process';
 import fs from 'node:fs';
 import os from 'node:os';
 import path from 'node:path';
 import { fileURLToPath } from 'node:url';
 import { browserMake } from './browser.mjs';
+import { clicksGroups } from './clicks.mjs';
 import { contrastBelow } from './contrast.mjs';
+import { movesGroups } from './moves.mjs';
 import { overlaps } from './overlaps.mjs';
+import { paperGroups, paperReadable } from './paper.mjs';
 import { tablesFor } from './tables.mjs';
 
 const [, , program, console_, html, ...asked] = process.argv;
@@ -102,6 +105,11 @@ const shows = () => b.value(`(() => {
     return row.cells[0].firstChild.checked === on && line === on;
   });
 })()`);
+
+const tools = {
+  b, bytesOf, check, choose, example, examples, folder, html, middle, press, saved, star, textOf,
+};
+/** @typedef {typeof tools} Tools */
 
 /** @type {Record<string, () => Promise<void>>} */
 const GROUPS = {
@@ -457,24 +465,9 @@ const GROUPS = {
     await b.value("delete document.documentElement.dataset.theme");
   },
 
-  async clicks() {
-    const times = [];
-    for (const name of ['yard.txt', 'city.txt']) {
-      await choose(example(name));
-      times.push(await b.value(`(() => {
-        const times = [];
-        for (let k = 0; k < 20; k++) {
-          const before = performance.now();
-          star.app.toggle(k % star.app.plan.m);
-          times.push(performance.now() - before);
-        }
-        return times.sort((x, y) => x - y)[5];
-      })()`));
-    }
-    const [small, large] = times.map((time) => time.toFixed(2));
-    console.log(`the script of a click: ${small} ms at the yard, ${large} ms at 1,024 trenches`);
-    check('the script of a click', times[1] < 40 * Math.max(times[0], 0.5));
-  },
+  ...clicksGroups(tools),
+  ...movesGroups(tools),
+  ...(paperReadable() ? paperGroups(tools) : {}),
 };
 
 async function run() {

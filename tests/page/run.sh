@@ -67,6 +67,8 @@ part node tests/page/doors.mjs "$build/star.wasm" "$work/calls"
 part node tests/page/files.mjs "$build/star" "$build/star.wasm" 2000
 part node tests/page/exercises.mjs "$build/star.wasm" 1000
 if want chromium chromium; then
+    paper=0
+    want pdftotext poppler-utils && paper=1
     CALLS=$work/calls part node tests/page/page.mjs chromium "$build/star" "$build/star.html"
     control "a stale verdict" main.js 's/^      verdictShow(app);$/      if (told === "open") &/' marks
     control "the sum in place of the dearest" why.js 's/p.price\[detour.dearest\]/detour.sum/' card
@@ -77,6 +79,10 @@ if want chromium chromium; then
     control "a picture that moves" picture.js 's/^    this.plan = p;$/& if (this.at.x[0]) this.view.x += 9;/' marks
     control "an answer before it is given" list.js 's/ || app.asked;/;/' lessons
     control "a mark that is not shown" list.js 's/box.checked = on;//' marks
+    control "a step back that goes ahead" main.js 's/app.mendBy(-1)/app.mendBy(1)/' steps
+    control "a plan that is lost" main.js 's/if (!this.app.saved && /if (false \&\& /' leaves
+    [ $paper = 0 ] || control "a picture cut on paper" ../page.css \
+        's/#stage { height: 150mm;/& width: 90mm;/;s/#net { --scale: var(--k);/& width: 1280px;/' paper
 fi
 echo "$passed passed, $failed failed"
 [ "$failed" = 0 ]
