@@ -1,7 +1,7 @@
 # The planner's page: one HTML file, with the doors inside it as WebAssembly.
 # make page        target/c/star.html
 # make page-with TABLE=FILE OUT=FILE.html   the same with a table file inside, which it opens
-# make page-test   the module held to the native library, and the page in a browser
+# make page-test   the page and its module in a browser
 PAGE := $(BUILD)/star.html
 PAGE_MODULE := $(BUILD)/star.wasm
 PAGE_SOURCES := page/build.mjs page/page.html $(wildcard page/*.css page/src/*.js)

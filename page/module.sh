@@ -4,7 +4,7 @@
 #
 # The kit's compiler hands LLVM code to clang for this machine. A clang that keeps what it is
 # handed stands in its place; what was kept is compiled once more, for WebAssembly. No proof is
-# made here: the module is held to the proved library by tests/page/doors.sh.
+# made here: the module is held to the proved library by tests/backends/run.sh.
 set -eu
 out=$1
 shift
@@ -14,18 +14,8 @@ clang=$kit/on/$arch/toolchain/bin/clang
 work=$(mktemp -d)
 trap 'rm -rf "$work"' EXIT
 
-# The kit with a toolchain whose clang keeps the module.
-own=$work/kit/on/$arch
-mkdir -p "$own/toolchain/bin"
-ln -s "$kit/libs" "$work/kit/libs"
-ln -s "$kit/on/$arch/bin" "$own/bin"
-ln -s "$kit/on/$arch/toolchain/lib" "$own/toolchain/lib"
-for tool in "$own/toolchain/bin/ld.lld" "$own/toolchain/bin/llvm-ar" "$work/wasm-ld"; do
-    ln -s "$clang" "$tool"
-done
-printf '#!/bin/sh\ncp module.bc "%s/module.bc"\nexec "%s" "$@"\n' "$work" "$clang" \
-    >"$own/toolchain/bin/clang"
-chmod +x "$own/toolchain/bin/clang"
+sh tools/keeping.sh "$work"
+ln -s "$clang" "$work/wasm-ld"
 
 wasm="--target=wasm32-unknown-unknown"
 layout=$(echo | "$clang" $wasm -x c -S -emit-llvm -o - - | grep '^target datalayout')
@@ -44,10 +34,10 @@ objects=$work/star.o
     -o "$work/star.o"
 for crate; do
     RATTLE_HOME=$work/kit sh tools/compile.sh "$crate" "$work/$crate.a"
-    retarget "$work/module.bc" >"$work/$crate.ll"
+    retarget "$work/kept1.bc" >"$work/$crate.ll"
     "$clang" $wasm -O3 -Werror -x ir -c "$work/$crate.ll" -o "$work/$crate.o"
     objects="$objects $work/$crate.o"
-    rm "$work/module.bc"
+    rm "$work/kept1.bc"
 done
 
 # Every function that the header declares: one that no crate has fails the link.

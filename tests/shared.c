@@ -21,6 +21,8 @@ uint64_t bits(void) {
     return state * 2685821657736338717u;
 }
 
+void random_start(uint64_t start) { state = 88172645463325252u ^ start * 11400714819323198485u; }
+
 uint32_t any(uint32_t below) { return below ? (uint32_t)((bits() >> 20) % below) : 0; }
 
 void random_bytes(void *to, size_t count) {

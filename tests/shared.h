@@ -10,6 +10,9 @@ uint32_t any(uint32_t below);
 uint64_t bits(void);
 void random_bytes(void *to, size_t count);
 
+/* Another start of the random numbers: what is drawn from here on is that of this start. */
+void random_start(uint64_t start);
+
 /* A price at a limit or at 0, or next to one of these. */
 int32_t limit_price(void);
 

@@ -1,7 +1,7 @@
 // The page in a real browser, held to the console on the same files.
 // usage: node page.mjs CHROMIUM STAR STAR.html [GROUP..]   Ends in one line 'N passed, M failed'.
-// CALLS in the environment names the file of calls.py for the group doors, and TABLES the table of
-// the group labels, where not all are wanted. The groups of paper.mjs need poppler-utils.
+// CALLS in the environment names the calls of backends.c for the group doors, and TABLES the table
+// of the group labels, where not all are wanted. The groups of paper.mjs need poppler-utils.
 import { spawnSync } from 'node:child_process';
 import fs from 'node:fs';
 import os from 'node:os';

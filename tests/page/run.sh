@@ -1,6 +1,6 @@
 #!/usr/bin/env bash
-# Tests of the planner's page: its sources, the module against the native library, its files against
-# the console's, and the page in a browser, where these programs are installed.
+# Tests of the planner's page: its sources, its files against the console's, and the page in a
+# browser, where these programs are installed. The module outside it: tests/backends/run.sh.
 # usage: run.sh BUILD   Ends in one line 'N passed, M failed'.
 set -u
 cd "$(dirname "$0")/../.."
@@ -59,14 +59,15 @@ want node nodejs || { echo "0 passed, 0 failed"; exit 0; }
 clean make -s page BUILD="$build"
 if want tsc node-typescript; then clean tsc -p page/tsconfig.json; fi
 if want eslint eslint; then
-    clean eslint -f unix --ext .js,.mjs page/src page/build.mjs tests/page
+    clean eslint -f unix --ext .js,.mjs page/src page/build.mjs tests/page \
+        tests/backends
 fi
-python3 -B tests/page/calls.py include/star.h "$build/libstar.so" 500 "$work/calls" >"$work/kinds" ||
-    failed=$((failed + 1))
-part node tests/page/doors.mjs "$build/star.wasm" "$work/calls"
 part node tests/page/files.mjs "$build/star" "$build/star.wasm" 2000
 part node tests/page/exercises.mjs "$build/star.wasm" 1000
 if want chromium chromium; then
+    # The calls of tests/backends that are made again in the browser.
+    clean make -s BUILD="$build" target/backends/backends
+    part target/backends/backends 400 1 "$work/calls" "$build/libstar.so"
     paper=0
     want pdftotext poppler-utils && paper=1
     CALLS=$work/calls part node tests/page/page.mjs chromium "$build/star" "$build/star.html"

@@ -1,0 +1,27 @@
+# The back ends of the kit's compiler, held against each other: rules for the Makefile.
+# make backends CALLS=n   n random calls of every door, compiled in four ways
+BACKENDS := target/backends
+CALLS ?= 500
+CALLS_SOURCES := tests/backends/calls.c tests/backends/table.c tests/shared.c $(BACKENDS)/doors.c
+CALLS_NEEDS := $(CALLS_SOURCES) $(wildcard tests/backends/*.h) tests/shared.h include/star.h
+
+$(BACKENDS)/doors.c: tests/backends/doors.py include/star.h
+	@mkdir -p $(BACKENDS)
+	$(PYTHON) tests/backends/doors.py include/star.h $@
+
+$(BACKENDS)/libstar-O0.so: tests/backends/compile.sh tools/keeping.sh $(SOURCES)
+	sh tests/backends/compile.sh $(BACKENDS) $(DOORS)
+$(BACKENDS)/libstar-checked.so: $(BACKENDS)/libstar-O0.so
+
+CALLING = $(CC) -std=c99 $(CFLAGS) -Iinclude -Itests -Itests/backends -o $@
+COMPARED := tests/backends/backends.c tests/backends/counts.c
+$(BACKENDS)/backends: $(COMPARED) $(CALLS_NEEDS)
+	$(CALLING) $(COMPARED) $(CALLS_SOURCES) -ldl -pthread
+
+backends-built: $(BACKENDS)/backends $(BACKENDS)/libstar-O0.so $(BACKENDS)/libstar-checked.so
+backends-built: $(SHARED)
+
+backends: backends-built $(PAGE_MODULE)
+	bash tests/backends/run.sh $(BUILD) $(BACKENDS) $(CALLS)
+
+.PHONY: backends backends-built
