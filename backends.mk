@@ -14,11 +14,15 @@ $(BACKENDS)/libstar-O0.so: tests/backends/compile.sh tools/keeping.sh $(SOURCES)
 $(BACKENDS)/libstar-checked.so: $(BACKENDS)/libstar-O0.so
 
 CALLING = $(CC) -std=c99 $(CFLAGS) -Iinclude -Itests -Itests/backends -o $@
-COMPARED := tests/backends/backends.c tests/backends/counts.c
+COMPARED := tests/backends/backends.c tests/backends/counts.c tests/backends/library.c
 $(BACKENDS)/backends: $(COMPARED) $(CALLS_NEEDS)
 	$(CALLING) $(COMPARED) $(CALLS_SOURCES) -ldl -pthread
 
-backends-built: $(BACKENDS)/backends $(BACKENDS)/libstar-O0.so $(BACKENDS)/libstar-checked.so
+# The stack that each door takes.
+$(BACKENDS)/stack: tests/backends/stack.c tests/backends/library.c $(CALLS_NEEDS)
+	$(CALLING) tests/backends/stack.c tests/backends/library.c $(CALLS_SOURCES) -ldl -pthread
+
+backends-built: $(BACKENDS)/backends $(BACKENDS)/stack $(BACKENDS)/libstar-O0.so $(BACKENDS)/libstar-checked.so
 backends-built: $(SHARED)
 
 backends: backends-built $(PAGE_MODULE)

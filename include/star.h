@@ -43,7 +43,7 @@
  * ones behind answer, and behind every other pointer that is not to const), and that a column that is written
  * overlaps no other. The length of a matrix and of the rows in use counts words of eight bytes, that of a list
  * of numbers or ends the numbers, that of a list of records the records. An empty column may be lent as a null pointer with length 0. The calling thread has
- * stack left, 1 MiB for star_import and star_digs_text, 320 KiB for star_mend and star_work_mend, and 128 KiB for each of the
+ * stack left, 1,280 KiB for star_import and star_digs_text, 384 KiB for star_mend and star_work_mend, and 160 KiB for each of the
  * others, whatever is lent. Nothing else is asked.
  *
  * Planners and definitions have a word each for the same thing:
@@ -203,7 +203,7 @@ uint32_t star_digs(uint32_t n, const uint8_t *left, size_t left_len, const uint8
                    size_t answer_len);
 
 /* The same from an STP text. A refusal is 12, 13, 1, 2, 4, 15 or 11, in this order; the answer is read by star_read_imported where it is refused, since
- * the place is in bytes 8 to 15. The calling thread has 1 MiB of stack left. */
+ * the place is in bytes 8 to 15. The calling thread has 1,280 KiB of stack left. */
 uint32_t star_digs_text(const uint8_t *stp, size_t stp_len, uint8_t *text, size_t text_len, uint8_t *answer, size_t answer_len);
 
 /* Whether a row, counted from 1, is on the path to a junction, by a matrix that star_paths has filled. */
@@ -505,7 +505,7 @@ struct star_verdict star_table_build(struct star_table *t);
 enum { STAR_MAX_STEPS = 2 * STAR_MAX_ROWS };
 
 /* Turns the plan into a least network as star_mend does. records has room for STAR_MAX_STEPS, or is
- * a null pointer where they are not wanted. The calling thread has 352 KiB of stack left. */
+ * a null pointer where they are not wanted. The calling thread has 416 KiB of stack left. */
 struct star_verdict star_table_mend(struct star_table *t, struct star_record *records);
 
 /* Marks a network that is least among those with exactly count rows at a junction, as star_outlets
@@ -538,7 +538,7 @@ struct star_answer star_table_paths(const struct star_table *t, uint32_t from, u
  * table as the console reads it, by the same C code, with marks and struck rows. One whose first word
  * is 33D32945 is an STP text. A refusal leaves the table as it was. It is one of star_import; of a
  * planner's table 12, with the first byte of the first line that cannot stand, or 2, and what else is
- * wrong with its rows is told by the next call that looks at them. The calling thread has 1,184 KiB
+ * wrong with its rows is told by the next call that looks at them. The calling thread has 1,440 KiB
  * of stack left. */
 struct star_imported star_table_read(struct star_table *t, const char *text, size_t len);
 

@@ -203,6 +203,6 @@ void asked_small_stack(size_t answer_len, void (*ready)(struct asked *), uint32_
     for (working = 0; working < 2; working++) {
         asked_make_large(&t, working, answer_len);
         if (ready) ready(&t);
-        tell(on_small_stack(in_thread, &q, STACK) && t.answer[0] <= most, "a thread of 128 KiB");
+        tell(on_small_stack(in_thread, &q, STACK) && t.answer[0] <= most, "a thread of 160 KiB");
     }
 }

@@ -7,7 +7,6 @@
 
 #include "asked.h"
 
-enum { TEXT_STACK = 1 << 20 };
 
 static unsigned long done[3], unwritten;
 
@@ -117,7 +116,7 @@ static void cases(void) {
     known();
     asked_small_stack(STAR_ANSWER_BYTES, NULL, door, STAR_PASSED);
     asked_make_large(&t, 0, STAR_ANSWER_BYTES);
-    tell(on_small_stack(ask_text, &t, TEXT_STACK), "a thread of 1 MiB");
+    tell(on_small_stack(ask_text, &t, STACK_TEXT), "a thread of 1,280 KiB");
 }
 
 static void table(unsigned long k) {

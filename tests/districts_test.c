@@ -216,7 +216,7 @@ static void cases(void) {
     }
     plan_table(&t, 255, STAR_MAX_ROWS, 1, 0);
     runs(&t);
-    tell(plan_small_stack(ask, &t, STACK), "a thread of 128 KiB");
+    tell(plan_small_stack(ask, &t, STACK), "a thread of 160 KiB");
     plan_lengths(held);
     forests_length();
 }

@@ -13,7 +13,7 @@
 #include "plain.h"
 #include "star.h"
 
-enum { GUARD = 32, ROOM = 1032, WORDS = STAR_COLUMN_WORDS * STAR_MAX_JUNCTIONS + 40, FILL = 0xA5, STACK = 128 << 10 };
+enum { GUARD = 32, ROOM = 1032, WORDS = STAR_COLUMN_WORDS * STAR_MAX_JUNCTIONS + 40, FILL = 0xA5, STACK = 160 << 10 };
 
 /* Prices from one number to another. */
 struct range {
@@ -399,7 +399,7 @@ static void nulls(void) {
         }
 }
 
-/* The doors in a thread of 128 KiB, on the largest table: the tree that is built passes, and its paths are found. */
+/* The doors in a thread of 160 KiB, on the largest table: the tree that is built passes, and its paths are found. */
 static void *on_small_stack(void *said) {
     uint32_t *returned = said;
     returned[0] = lent(255, MST1);
@@ -418,7 +418,7 @@ static void small_stack(void) {
     table_of(255, 1024, prices, 1, 0);
     tell(!pthread_attr_init(&attr) && !pthread_attr_setstacksize(&attr, STACK) && !pthread_create(&thread, &attr, on_small_stack, said) && !pthread_join(thread, NULL)
              && said[0] == 1 && said[1] == 1 && said[2] == 1 && said[3] == 1 && star_read_answer(at(&answer)).kind == STAR_PASSED,
-         "a thread of 128 KiB", 255);
+         "a thread of 160 KiB", 255);
 }
 
 /* Prices as they are packed. */

@@ -1,6 +1,6 @@
 /* Holds star_import to the plain reader of tests/stp, on the texts that tests/stp/generate.py wrote to a file, and to what it promises of the
  * lent bytes: guard bytes around every column and the answer, rows past m, columns and answers of wrong lengths, null pointers. All of it runs in a
- * thread with a stack of 1 MiB, which the header says is enough for any text.
+ * thread with a stack of 1,280 KiB, which the header says is enough for any text.
  * usage: import_test FILE [EVERY]   takes each EVERYth text; prints one line 'N passed, M failed' */
 #define _POSIX_C_SOURCE 200809L
 #include <pthread.h>
@@ -10,7 +10,7 @@
 
 #include "star.h"
 
-enum { GUARD = 64, ROWS = STAR_MAX_ROWS, ROOM = 4 * ROWS + 64, STACK = 1 << 20, DEEPEST = 4677 };
+enum { GUARD = 64, ROWS = STAR_MAX_ROWS, ROOM = 4 * ROWS + 64, STACK = 1280 << 10, DEEPEST = 4677 };
 
 static uint64_t state = 88172645463325252u;
 

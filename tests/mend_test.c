@@ -137,7 +137,7 @@ static void cases(void) {
     tell(plan_does(t.answer, 0), "one junction");
     for (k = 0; k < 2; k++) {
         plan_table(&t, 255, STAR_MAX_ROWS, 1, (int)k);
-        tell(plan_small_stack(ask, &t, PLAN_STACK_MEND) && t.answer[0] == STAR_PASSED, "a thread of 320 KiB");
+        tell(plan_small_stack(ask, &t, STACK_MEND) && t.answer[0] == STAR_PASSED, "a thread of 384 KiB");
     }
     plan_lengths(held);
     list_length();

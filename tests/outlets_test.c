@@ -172,7 +172,7 @@ static void cases(void) {
             t.right[i] = (uint8_t)b;
         }
         t.r = t.t = 1;
-        tell(plan_small_stack(ask, &t, STACK) && t.answer[0] == STAR_PASSED, "a thread of 128 KiB");
+        tell(plan_small_stack(ask, &t, STACK) && t.answer[0] == STAR_PASSED, "a thread of 160 KiB");
         held(&t);
     }
     plan_lengths(held);

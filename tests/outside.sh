@@ -64,7 +64,7 @@ done
 add "$work/table"
 controls table_test_faulty $(grep -o 'fault("[^"]*")' tests/faulty_table.c | cut -d '"' -f 2 | sort -u)
 
-# The import, on texts whose answers a plain reader gives: the door, in a thread of 1 MiB, and the program.
+# The import, on texts whose answers a plain reader gives: the door, in a thread of 1,280 KiB, and the program.
 python3 -B tests/stp/generate.py "$work/texts"
 "$build/import_test" "$work/texts" | tee "$work/import"
 add "$work/import"

@@ -99,8 +99,7 @@ void plan_back_columns(struct lent *t, struct columns *c);
 
 #define PLAN_COLUMNS(t, c) (c).left, (t)->left_len, (c).right, (t)->right_len, (c).weight, (t)->weight_len
 
-/* Runs a function in a thread with a stack of so many bytes; whether it returns 1. What the header asks for a mend is more than STACK. */
-enum { PLAN_STACK_MEND = 320 << 10 };
+/* Runs a function in a thread with a stack of so many bytes; whether it returns 1. */
 int plan_small_stack(uint32_t (*call)(struct lent *), struct lent *t, size_t stack);
 
 #endif

@@ -48,8 +48,9 @@ extern int exact_lengths;
 void *lend(void *from, size_t bytes);
 void back(void *to, void *lent, size_t bytes);
 
-/* Runs a function in a thread with a stack of so many bytes; 0 if that cannot be. STACK: what the header asks of most doors. */
-enum { STACK = 128 << 10 };
+/* Runs a function in a thread with a stack of so many bytes; 0 if that cannot be. STACK: what the header asks of most doors,
+   STACK_MEND of star_mend and star_work_mend, STACK_TEXT of star_import and star_digs_text. */
+enum { STACK = 160 << 10, STACK_MEND = 384 << 10, STACK_TEXT = 1280 << 10 };
 int on_small_stack(void *(*called)(void *), void *with, size_t stack);
 
 /* Runs the cases whose answers are known, and one table after the other; gives the number of tables. That is the first word of the command line, or

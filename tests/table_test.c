@@ -392,10 +392,10 @@ static void known(void) {
         put_row(t.left, t.right, t.weight, row, p.a, p.b, (int32_t)bits());
     }
     memset(t.in_use, 255, sizeof t.in_use);
-    tell(on_small_stack(largest, &t, 136 << 10), "a thread of 136 KiB");
-    tell(on_small_stack(largest_mend, &t, 352 << 10), "a thread of 352 KiB");
-    tell(on_small_stack(largest_read, &t, 1184 << 10), "a thread of 1,184 KiB");
-    tell(on_small_stack(largest_lines, &t, 1184 << 10), "the same for a planner's table");
+    tell(on_small_stack(largest, &t, 168 << 10), "a thread of 168 KiB");
+    tell(on_small_stack(largest_mend, &t, 416 << 10), "a thread of 416 KiB");
+    tell(on_small_stack(largest_read, &t, 1440 << 10), "a thread of 1,440 KiB");
+    tell(on_small_stack(largest_lines, &t, 1440 << 10), "the same for a planner's table");
 }
 
 int main(int count, char **words) {

@@ -170,7 +170,7 @@ static void small_stack(void) {
     }
     ok = on_small_stack(every_door, said, STACK);
     for (i = 0; i < WORK_DOORS; i++) ok = ok && said[i] == 1;
-    tell(ok, "a thread of 128 KiB");
+    tell(ok, "a thread of 160 KiB");
 }
 
 void work_cases(void) {

@@ -9,7 +9,6 @@
  * library's place a byte that it was lent is changed after some calls, each of which has to be
  * found. */
 #define _POSIX_C_SOURCE 200809L
-#include <dlfcn.h>
 #include <signal.h>
 #include <stdio.h>
 #include <stdlib.h>
@@ -18,6 +17,7 @@
 
 #include "calls.h"
 #include "counts.h"
+#include "library.h"
 #include "shared.h"
 
 enum { MOST_LIBRARIES = 4 };
@@ -40,18 +40,10 @@ static void ended(int number) {
 }
 
 static uint32_t call_in(int which, struct call *c) {
-    union {
-        void *found;
-        door_pointer door;
-    } at;
-    at.found = dlsym(library[which], c->door->name);
-    if (!at.found) {
-        printf("%s has no %s\n", library_name[which], c->door->name);
-        exit(2);
-    }
+    door_pointer door = library_door(library[which], c->door);
     called_door = c->door->name;
     called_library = library_name[which];
-    return c->door->call(at.door, c->v);
+    return c->door->call(door, c->v);
 }
 
 static int same_column(const struct call *a, const struct call *b, unsigned k) {
@@ -128,10 +120,7 @@ static void one_call(const struct door *door, FILE *out) {
 static void open_all(int count, char **names) {
     for (libraries = 0; libraries < count && libraries < MOST_LIBRARIES; libraries++) {
         library_name[libraries] = names[libraries];
-        library[libraries] = dlopen(names[libraries], RTLD_NOW | RTLD_LOCAL);
-        if (library[libraries]) continue;
-        fprintf(stderr, "%s\n", dlerror());
-        exit(2);
+        library[libraries] = library_open(names[libraries]);
     }
     made.memory = malloc(ARENA);
     first.memory = malloc(ARENA);

@@ -16,8 +16,8 @@ struct value {
 
 typedef void (*door_pointer)(void);
 
-/* A door: how it is called, its parameters, and its refusals in a list that ends in 0.
- * A parameter of size 0 is a number. */
+/* A door: how it is called, its parameters, its refusals in a list that ends in 0, and the stack
+ * that the header says it takes. A parameter of size 0 is a number. */
 struct door {
     const char *name;
     uint32_t (*call)(door_pointer at, const struct value *v);
@@ -27,6 +27,7 @@ struct door {
         unsigned size, is_const;
     } p[MOST_PARAMETERS];
     unsigned char refusals[16];
+    size_t stack;
 };
 
 /* Made by doors.py from the header; doors_words has the same as JSON. */

@@ -1,4 +1,4 @@
-"""The doors that the header declares, as a C file: parameters, refusals, and a call of each.
+"""The doors that the header declares, as a C file: parameters, refusals, stack, a call of each.
 usage: doors.py HEADER OUT.c
 """
 import json
@@ -26,6 +26,20 @@ def parameter(words):
     return {"name": name, "number": kind}
 
 
+def stacks_of(header):
+    """What the header says of stack, in bytes, by door; under "" that of the others."""
+    said = re.search(r"stack left, (.*?) for each of the others", flat(header)).group(1)
+    out = {}
+    for size, names in re.findall(r"([\d,]+) KiB((?: for| and| star_\w+)*)", said):
+        for name in re.findall(r"star_\w+", names) or [""]:
+            out[name] = int(size.replace(",", "")) << 10
+    return out
+
+
+def flat(comment):
+    return re.sub(r"\s*\n \*\s*", " ", comment)
+
+
 def doors_of(header):
     """Name to parameters and refusals; a door over a working table has those of the plain one."""
     doors = {}
@@ -37,8 +51,8 @@ def doors_of(header):
             refusals = [r for r in doors[plain][1] if r != 2]
         else:
             comment = header[header.rindex("/*", 0, at.start()):at.start()]
-            comment = re.sub(r"\s*\n \*\s*", " ", comment)
-            refusals = [int(r) for r in re.findall(r"\d+", REFUSALS.search(comment).group(1))]
+            listed = REFUSALS.search(flat(comment)).group(1)
+            refusals = [int(r) for r in re.findall(r"\d+", listed)]
         doors[name] = parameters, refusals
     return doors
 
@@ -55,24 +69,25 @@ def call(name, parameters):
             "    return ((__typeof__(%s) *)at)(%s);\n}\n" % (name, name, inside))
 
 
-def entry(name, parameters, refusals):
+def entry(name, parameters, refusals, stack):
     inside = ", ".join('{"%s", %d, %d}' % (p["name"], p.get("size", 0), p.get("const", False))
                        for p in parameters)
-    return '    {"%s", call_%s, %d, {%s}, {%s, 0}},\n' % (
-        name, name, len(parameters), inside, ", ".join(map(str, refusals)))
+    return '    {"%s", call_%s, %d, {%s}, {%s, 0}, %d},\n' % (
+        name, name, len(parameters), inside, ", ".join(map(str, refusals)), stack)
 
 
 def main():
     header, out = sys.argv[1:]
     with open(header) as file:
-        doors = doors_of(file.read())
+        text = file.read()
+    doors, stacks = doors_of(text), stacks_of(text)
     with open(out, "w") as file:
         file.write(HEAD)
         for name, (parameters, _) in doors.items():
             file.write(call(name, parameters))
         file.write("const struct door doors[] = {\n")
         for name, (parameters, refusals) in doors.items():
-            file.write(entry(name, parameters, refusals))
+            file.write(entry(name, parameters, refusals, stacks.get(name, stacks[""])))
         file.write("};\nconst unsigned doors_count = %d;\n" % len(doors))
         file.write("const char *const doors_words[] = {\n")
         for name, (parameters, _) in doors.items():

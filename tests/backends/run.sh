@@ -36,6 +36,9 @@ wasm "$work/calls" control
 part env DAMAGE=1 "$backends/backends" 100 2 - "${libraries[@]:0:2}"
 part python3 -B tests/backends/damaged.py "$backends/backends" "${libraries[@]:0:2}"
 
+# The stack that each door takes, of the library as it is.
+part "$backends/stack" "$build/libstar.so" 60
+
 # More calls, 500 of each door at a time, each time from another start.
 for ((start = 2; 500 * start <= calls; start++)); do
     part "$backends/backends" 500 "$start" "$work/calls" "${libraries[@]}"

@@ -58,9 +58,20 @@ static void exchange(size_t *a, size_t *b) {
     *b = kept;
 }
 
+/* A row's ends: in a tree's row a new junction and one that is joined, in a chain the last one. */
+static struct pair table_pair(const struct table *t, size_t k, int in_tree, int chain) {
+    struct pair p = any_pair(t->n, in_tree ? k + 1 : 0, 0, 1000);
+    unsigned tries = 0;
+    if (chain && in_tree) p.b = p.a - 1;
+    while (chain && !in_tree && (p.a + 1 == p.b || p.b + 1 == p.a) && ++tries < 100)
+        p = any_pair(t->n, 0, 0, 1000);
+    return p;
+}
+
 void table_make(struct table *t, int working) {
     unsigned style = any(PRICES_KINDS);
     size_t k, tree;
+    int chain = any(6) == 0;
     t->working = working;
     table_size(t);
     table_places(t);
@@ -75,8 +86,7 @@ void table_make(struct table *t, int working) {
     no_pair_given();
     for (k = 0; k < t->m; k++) {
         int in_tree = k < tree;
-        struct pair p = any_pair(t->n, in_tree ? k + 1 : 0, 0, 1000);
-        table_row(t, k, p, table_price(style, in_tree), in_tree);
+        table_row(t, k, table_pair(t, k, in_tree, chain), table_price(style, in_tree), in_tree);
     }
 }
 
