@@ -1,7 +1,9 @@
 # The back ends of the kit's compiler, held against each other: rules for the Makefile.
 # make backends CALLS=n   n random calls of every door, compiled in four ways
+# make load SECONDS=n     eight threads, random calls of all doors for n seconds
 BACKENDS := target/backends
 CALLS ?= 500
+SECONDS ?= 60
 CALLS_SOURCES := tests/backends/calls.c tests/backends/table.c tests/shared.c $(BACKENDS)/doors.c
 CALLS_NEEDS := $(CALLS_SOURCES) $(wildcard tests/backends/*.h) tests/shared.h include/star.h
 
@@ -18,14 +20,18 @@ COMPARED := tests/backends/backends.c tests/backends/counts.c tests/backends/lib
 $(BACKENDS)/backends: $(COMPARED) $(CALLS_NEEDS)
 	$(CALLING) $(COMPARED) $(CALLS_SOURCES) -ldl -pthread
 
-# The stack that each door takes.
-$(BACKENDS)/stack: tests/backends/stack.c tests/backends/library.c $(CALLS_NEEDS)
-	$(CALLING) tests/backends/stack.c tests/backends/library.c $(CALLS_SOURCES) -ldl -pthread
+# The stack that each door takes; and calls in eight threads.
+LOADED := $(BACKENDS)/stack $(BACKENDS)/load
+$(LOADED): $(BACKENDS)/%: tests/backends/%.c tests/backends/library.c $(CALLS_NEEDS)
+	$(CALLING) $< tests/backends/library.c $(CALLS_SOURCES) -ldl -pthread
 
-backends-built: $(BACKENDS)/backends $(BACKENDS)/stack $(BACKENDS)/libstar-O0.so $(BACKENDS)/libstar-checked.so
+load: $(BACKENDS)/load $(SHARED)
+	$(BACKENDS)/load $(SHARED) $(SECONDS)
+
+backends-built: $(BACKENDS)/backends $(LOADED) $(BACKENDS)/libstar-O0.so $(BACKENDS)/libstar-checked.so
 backends-built: $(SHARED)
 
 backends: backends-built $(PAGE_MODULE)
 	bash tests/backends/run.sh $(BUILD) $(BACKENDS) $(CALLS)
 
-.PHONY: backends backends-built
+.PHONY: backends backends-built load

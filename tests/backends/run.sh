@@ -39,6 +39,15 @@ part python3 -B tests/backends/damaged.py "$backends/backends" "${libraries[@]:0
 # The stack that each door takes, of the library as it is.
 part "$backends/stack" "$build/libstar.so" 60
 
+# Eight threads at once; with bytes that are changed, or memory that is kept, this fails.
+part "$backends/load" "$build/libstar.so" 3
+for wrong in bytes memory; do
+    if "$backends/load" "$build/libstar.so" 1 "$wrong" >"$work/said"; then
+        echo "the load does not find the control $wrong"
+        failed=$((failed + 1))
+    else passed=$((passed + 1)); fi
+done
+
 # More calls, 500 of each door at a time, each time from another start.
 for ((start = 2; 500 * start <= calls; start++)); do
     part "$backends/backends" 500 "$start" "$work/calls" "${libraries[@]}"
