@@ -1,6 +1,5 @@
 # The planner's page: one HTML file, with the doors inside it as WebAssembly.
 # make page        target/c/star.html
-# make page-with TABLE=FILE OUT=FILE.html   the same with a table file inside, which it opens
 # make page-test   the page and its module in a browser
 PAGE := $(BUILD)/star.html
 PAGE_MODULE := $(BUILD)/star.wasm
@@ -15,10 +14,19 @@ $(PAGE): $(PAGE_MODULE) $(PAGE_SOURCES)
 
 page: $(PAGE)
 
-page-with: $(PAGE_MODULE)
-	node page/build.mjs $(PAGE_MODULE) $(OUT) $(TABLE)
+# The console finds it in this folder; one that is older than what is installed does not stay.
+PAGE_FOLDER := $(DESTDIR)$(PREFIX)/share/star
+install: install-page
+install-page: checked
+	@rm -f $(PAGE_FOLDER)/star.html
+	@if [ -e $(PAGE) ]; then install -d $(PAGE_FOLDER) && install -m 644 $(PAGE) $(PAGE_FOLDER); \
+	else echo "the page's program is not built (make page): star page writes the page without it"; fi
+
+uninstall: uninstall-page
+uninstall-page:
+	rm -f $(PAGE_FOLDER)/star.html
 
 page-test: $(SHARED) $(BUILD)/star
 	bash tests/page/run.sh $(BUILD)
 
-.PHONY: page page-with page-test
+.PHONY: page page-test install-page uninstall-page

@@ -11,6 +11,7 @@ struct options {
     int certificate; /* check: the certificate of the verdict in place of its words */
     int all;       /* explain: every trench that is left out */
     int steps;     /* mend: each step too */
+    int static_page; /* page: the one without its program */
     int json;      /* an object in place of words */
     char **words;  /* what follows the file */
     int count;
@@ -22,7 +23,7 @@ int command_build(struct table *t, const struct options *with, struct output *o)
 int command_explain(struct table *t, const struct options *with, struct output *o); /* says why, trench by trench */
 int command_draw(struct table *t, const struct options *with, struct output *o);    /* writes a picture as SVG */
 int command_dot(struct table *t, const struct options *with, struct output *o);     /* writes a picture for Graphviz */
-int command_page(struct table *t, const struct options *with, struct output *o);    /* writes a page of pictures that explain */
+int command_page(struct table *t, const struct options *with, struct output *o);    /* writes a page to try the plan on, or one of pictures that explain */
 int command_table(struct table *t, const struct options *with, struct output *o);   /* writes the table */
 int command_quote(struct table *t, const struct options *with, struct output *o);   /* the cheapest total before and after a new price */
 int command_breaking(struct table *t, const struct options *with, struct output *o); /* the price up to which a cheapest network has a trench */

@@ -13,8 +13,7 @@
 /* The longest file that is read: far above what 1,024 trenches need. */
 enum { MOST = 1 << 24 };
 
-/* All of a file, or its first MOST + 1 bytes; NULL if it cannot be read. */
-static char *whole(FILE *from, size_t *len) {
+char *input_whole(FILE *from, size_t *len) {
     size_t room = 1 << 16, got;
     char *bytes = malloc(room), *more;
     *len = 0;
@@ -51,7 +50,7 @@ int input_open(struct input *in, const char *file, struct message *fault) {
         from = fopen(file, "rb");
     }
     if (from) in->id = file_open(fileno(from));
-    if (from) in->bytes = whole(from, &len);
+    if (from) in->bytes = input_whole(from, &len);
     if (!in->bytes) unreadable(in, fault, errno ? strerror(errno) : "it cannot be read");
     if (from && from != stdin) fclose(from);
     if (!in->bytes) return EXIT_UNREADABLE;

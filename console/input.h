@@ -19,4 +19,7 @@ int input_table(const struct input *in, struct table *t, struct message *fault);
 
 void input_close(struct input *in);
 
+/* All of a file, or its first 16777217 bytes, one more than are taken; NULL if it cannot be read. */
+char *input_whole(FILE *from, size_t *len);
+
 #endif

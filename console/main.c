@@ -17,7 +17,7 @@ struct command {
     const char *name;
     int (*run)(struct table *t, const struct options *with, struct output *o);
     const char *takes; /* what it takes beside a file: c --certificate, t --table, a --all, s
-                          --steps, j --json, w words */
+                          --steps, p --static, j --json, w words */
     enum needs {
         FILE_ALONE,
         PLAN,
@@ -39,7 +39,7 @@ static const struct command COMMANDS[] = {
     {"explain", command_explain, "ajw", PLAN, WORDS, "explain"},
     {"draw", command_draw, "", FILE_ALONE, WRITING, NULL},
     {"dot", command_dot, "", FILE_ALONE, WRITING, NULL},
-    {"page", command_page, "", FILE_ALONE, WRITING, NULL},
+    {"page", command_page, "p", FILE_ALONE, WRITING, NULL},
     {"table", command_table, "", FILE_ALONE, TABLE, NULL},
     {"digs", command_digs, "j", TEXT, WRITING, NULL},
     {"quote", command_quote, "jw", FILE_ALONE, WORDS, NULL},
@@ -112,6 +112,7 @@ static int options(struct request *r, char **words) {
         else if (strcmp(word, "--certificate") == 0 && takes(r, 'c')) r->with.certificate = 1;
         else if (strcmp(word, "--all") == 0 && takes(r, 'a')) r->with.all = 1;
         else if (strcmp(word, "--steps") == 0 && takes(r, 's')) r->with.steps = 1;
+        else if (strcmp(word, "--static") == 0 && takes(r, 'p')) r->with.static_page = 1;
         else if (strcmp(word, "--json") == 0 && takes(r, 'j')) r->with.json = 1;
         else if (strncmp(word, "-o", 2) == 0) {
             status = output_named(r, word[2] ? word + 2 : *++words);

@@ -1,5 +1,5 @@
-/* Output whose errors are told. What is to stand in a file is put together first, and written when
-   all of it is there. */
+/* Output whose errors are told. What is written is put together first, and written when all of it is
+   there: a file is replaced as a whole, and an error of standard output has its reason. */
 #define _POSIX_C_SOURCE 200809L
 
 #include "output.h"
@@ -33,7 +33,7 @@ FILE *output_open(struct output *o) {
         return NULL;
     }
     errno = 0;
-    if (!o->to) o->to = o->file ? open_memstream(&o->bytes, &o->len) : stdout;
+    if (!o->to) o->to = open_memstream(&o->bytes, &o->len);
     if (!o->to) complain(o, UNWRITTEN);
     return o->to;
 }
@@ -72,13 +72,21 @@ static int put_in_place(const struct output *o) {
     return said == FILE_WRITTEN;
 }
 
+static int put_out(const struct output *o) {
+    int done;
+    errno = 0;
+    done = fwrite(o->bytes, 1, o->len, stdout) == o->len && ended(stdout);
+    if (!done) complain(o, UNWRITTEN);
+    return done;
+}
+
 int output_close(struct output *o) {
     int done;
     if (!o->to) return 1;
     done = ended(o->to);
     o->to = NULL;
     if (!done) complain(o, UNWRITTEN);
-    else if (o->file) done = put_in_place(o);
+    else done = o->file ? put_in_place(o) : put_out(o);
     free(o->bytes);
     o->bytes = NULL;
     return done;

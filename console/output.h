@@ -9,7 +9,7 @@
 struct output {
     const char *file; /* NULL for standard output */
     FILE *to;         /* NULL before it is opened */
-    char *bytes;      /* what is to stand in the file, which is written when the output is closed */
+    char *bytes;      /* what is written when the output is closed */
     size_t len;
     struct file_id read; /* the file as it was read, where the result is to take its place */
 };

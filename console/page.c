@@ -1,8 +1,10 @@
-/* The command page: one HTML file that explains a plan in pictures. Style and script stand in it, and nothing is fetched. */
+/* The command page: the page's program with the table inside (program.c), or one HTML file that explains a plan in pictures, which is written here. Style and
+   script stand in it, and nothing is fetched. */
 #include <string.h>
 
 #include "commands.h"
 #include "panels.h"
+#include "program.h"
 #include "refusal.h"
 #include "status.h"
 #include "verdict.h"
@@ -137,21 +139,8 @@ static const char *name_of(const char *file) {
     return last && last[1] ? last + 1 : file;
 }
 
-int command_page(struct table *t, const struct options *with, struct output *o) {
-    struct star_answer a = table_cst(t);
-    struct shows s = shows_of(t, a);
-    struct message words = {{0}, 0};
+static void static_page(FILE *to, struct table *t, struct star_answer a, struct shows s) {
     const char *name = name_of(t->file);
-    int status = EXIT_PASSED;
-    FILE *to;
-    (void)with;
-    verdict_words(&words, t, a);
-    if (a.kind == STAR_REFUSED && table_marks(t) > 0) status = EXIT_REFUSED;
-    if (!s.drawn) status = EXIT_REFUSED;
-    if (status == EXIT_REFUSED) fprintf(stderr, "%s\n", words.text);
-    if (!s.drawn && a.number != STAR_BAD_JUNCTION_COUNT) return status;
-    to = output_open(o);
-    if (!to) return EXIT_UNWRITTEN;
     t->file = NULL; /* the page says the file's name once, in its heading */
     fputs("<!DOCTYPE html>\n<html lang=\"en\">\n<head>\n<meta charset=\"utf-8\">\n<meta name=\"viewport\" content=\"width=device-width, initial-scale=1\">\n<title>", to);
     html_text(to, name);
@@ -162,5 +151,25 @@ int command_page(struct table *t, const struct options *with, struct output *o) 
     else panel_verdict(to, t, a);
     panels(to, t, s);
     fprintf(to, "%s%s</body>\n</html>\n", FOOTER, SCRIPT);
+}
+
+int command_page(struct table *t, const struct options *with, struct output *o) {
+    struct star_answer a = table_cst(t);
+    struct shows s = shows_of(t, a);
+    struct message words = {{0}, 0};
+    struct program p;
+    int status = EXIT_PASSED;
+    FILE *to;
+    verdict_words(&words, t, a);
+    if (a.kind == STAR_REFUSED && table_marks(t) > 0) status = EXIT_REFUSED;
+    if (!s.drawn) status = EXIT_REFUSED;
+    if (status == EXIT_REFUSED) fprintf(stderr, "%s\n", words.text);
+    if (!s.drawn && a.number != STAR_BAD_JUNCTION_COUNT) return status;
+    to = output_open(o);
+    if (!to) return EXIT_UNWRITTEN;
+    if (!with->static_page && program_open(&p)) {
+        program_write(to, &p, t, name_of(t->file));
+        program_close(&p);
+    } else static_page(to, t, a, s);
     return status;
 }

@@ -69,6 +69,7 @@ const struct option OPTIONS[] = {
     {"--certificate", "", "writes what shows the verdict, for another program to check"},
     {"--all", "", "tells of all trenches left out, rings, groups; not of a few"},
     {"--steps", "", "tells each step too"},
+    {"--static", "", "writes the page that needs no script, to read and to print"},
     {"--json", "", "writes one object (JSON) in place of words"},
     {"-o", "OUTPUT", "writes the file OUTPUT, as a whole or not at all"},
     {"--help", "", "writes the command's page; also -h"},
@@ -165,14 +166,20 @@ const struct page PAGES[] = {
     {
         .name = "page",
         .words = "[FILE]",
-        .options = "",
-        .line = "write a page (HTML) that explains in pictures",
-        .does = "Writes one HTML file that shows what explain says in pictures: a ring and a "
+        .options = "--static",
+        .line = "write a page (HTML) to try the plan on",
+        .does = "Writes one HTML file with the table inside, to be opened in a browser or sent: "
+                "a click marks a trench, and the procedures inside the page answer. What it "
+                "saves is a table file again. 'make page' builds the page's program, and 'make "
+                "install' installs it; where it is not there, that is told, and the page of "
+                "--static is written.\n\n"
+                "With --static it writes one HTML file that shows what explain says in pictures, "
+                "without a script: a ring and a "
                 "junction that is cut off, a view of each trench that is left out, two "
                 "networks of one total, and the limit of 255. What the table does not show is "
                 "shown on the yard, a table of four junctions. Its last lines say which "
                 "sentences are answers of the proved procedures.",
-        .example = "page yard.txt -o yard.html",
+        .example = "page --static yard.txt -o yard.html",
         .output = "",
         .statuses = "0 written, and the plan, if there is one, was not refused\n"
                     "2 the table or the plan was refused; the page is written where only the plan was (9 and 10), or where there are too many junctions (1)",

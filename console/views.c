@@ -13,6 +13,12 @@ void html_text(FILE *to, const char *text) {
         else picture_letters(to, text, 1);
 }
 
+void html_value(FILE *to, const char *text) {
+    for (; *text; text++)
+        if (*text == '"' || *text == '\n') fprintf(to, "&#%d;", *text);
+        else picture_letters(to, text, 1);
+}
+
 void drawing_place(struct drawing *g, const struct table *t, const char *id) {
     char text[2 * FIGURES];
     size_t i;

@@ -40,4 +40,7 @@ void view_close(FILE *to);
 /* Letters of a text, those that mean something else in HTML and SVG written so that they do not; line ends as breaks. */
 void html_text(FILE *to, const char *text);
 
+/* The same for the value of an attribute, between double quotes. */
+void html_value(FILE *to, const char *text);
+
 #endif

@@ -1,6 +1,6 @@
 // Joins the page into one HTML file: modules do not load from file://, so that they become one
 // script. A name that two modules define, and an import that no module exports, is a fault.
-// usage: node build.mjs STAR.wasm OUT.html [TABLE]   with a table file inside, which it opens.
+// usage: node build.mjs STAR.wasm OUT.html   'star page' puts a table into it (console/program.c).
 import crypto from 'node:crypto';
 import fs from 'node:fs';
 import path from 'node:path';
@@ -9,7 +9,7 @@ import { fileURLToPath } from 'node:url';
 
 const MOST_BYTES = 250000;
 const here = path.dirname(fileURLToPath(import.meta.url));
-const [, , module, out, table] = process.argv;
+const [, , module, out] = process.argv;
 
 /** @param {string} name */
 const read = (name) => fs.readFileSync(path.join(here, name), 'utf8');
@@ -72,13 +72,9 @@ const policy = [
 ].join('; ');
 const core = zlib.gzipSync(fs.readFileSync(module), { level: 9 }).toString('base64');
 const style = squeeze(read('page.css').replaceAll('@DARK@', () => read('dark.css')));
-const inside = table ? fs.readFileSync(table).toString('base64') : '';
-const name = table ? path.basename(table).replace(/[&<>"]/g, (c) => `&#${c.charCodeAt(0)};`) : '';
 /** @type {Record<string, string>} */
-const parts = {
-  POLICY: policy, STYLE: style, CORE: core, TABLE: inside, NAME: name, SCRIPT: script,
-};
+const parts = { POLICY: policy, STYLE: style, CORE: core, SCRIPT: script };
 const page = read('page.html').replace(/@([A-Z]+)@/g, (_, name) => parts[name]);
-const bytes = Buffer.byteLength(page) - inside.length;
+const bytes = Buffer.byteLength(page);
 if (bytes > MOST_BYTES) throw Error(`${bytes} bytes; at most ${MOST_BYTES} are wanted`);
 fs.writeFileSync(out, page);

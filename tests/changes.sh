@@ -8,7 +8,7 @@
 try struck 0 'Total 12' '' check $struck
 try struck-only 0 'It is the only cheapest network' '' check $struck
 try struck-explained 2 'trench 3 is struck' '' explain $struck 3
-try struck-page 0 'Passed' '' page $struck
+try struck-page 0 'Passed' '' page --static $struck
 grep -q 'id="own-t4"' "$work/out" && ! grep -q 'id="own-[tl]3"' "$work/out"
 verdict struck-page-left-out $?
 for picture in draw dot; do

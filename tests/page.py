@@ -1,6 +1,7 @@
-"""Tests of the console's pages: their parts, what each panel shows, that nothing comes from elsewhere; and in a browser, where one is installed.
+"""Tests of the console's static pages: their parts, what each panel shows, that nothing comes from elsewhere; and in a browser, where one is installed.
+How a table is put into the page's program, and what is done where there is none. The program itself is held by tests/page.
 usage: page.py STAR   Ends in one line 'N passed, M failed'."""
-import html.parser, os, re, shutil, subprocess, sys, tempfile
+import base64, html.parser, os, re, shutil, subprocess, sys, tempfile
 
 STAR = sys.argv[1:]
 counts = [0, 0]
@@ -62,11 +63,11 @@ class Page(html.parser.HTMLParser):
         return " ".join(p["text"] for p in self.all("p", section))
 
 
-def run(rows, n, work, command="page"):
+def run(rows, n, work):
     path = os.path.join(work, "table.txt")
     with open(path, "w") as out:
         out.write("junctions %d\n" % n + "".join("%d %d %d %d\n" % row for row in rows))
-    return subprocess.run(STAR + [command, path], capture_output=True, text=True)
+    return subprocess.run(STAR + ["page", "--static", path], capture_output=True, text=True)
 
 
 def light(colour):
@@ -138,6 +139,56 @@ def browse(name, text, work, browser):
     check(name + ": screenshot", os.path.exists(shot) and os.path.getsize(shot) > 20000)
 
 
+def programs(work):
+    """What is written with a program of the page, and without one."""
+    folder = os.path.join(work, "usr", "bin")
+    installed = os.path.join(work, "usr", "share", "star")
+    os.makedirs(folder)
+    os.makedirs(installed)
+    star = shutil.copy(STAR[-1], folder)
+    yard = "console/examples/yard.txt"
+    with open(yard, "rb") as file:
+        inside = base64.b64encode(file.read())
+    before, after = b"<p>before</p>\0\xff\n", b"<p>after</p>"
+
+    def page(*words):
+        done = subprocess.run([star, "page", *words], capture_output=True)
+        return done.returncode, done.stdout, done.stderr
+
+    def put(where, place):
+        with open(os.path.join(where, "star.html"), "wb") as out:
+            out.write(before + place + after)
+
+    def filled(name):
+        return before + b'<div hidden id="table" data-name="%s">%s</div>' % (name, inside) + after
+
+    static = page("--static", yard)
+    check("program: static", static[0] == 0 and static[2] == b"" and b"<h1>yard.txt</h1>" in static[1])
+    status, text, told = page(yard)
+    check("program: not there", (status, text) == static[:2] and told.count(b"\n") == 1 and
+          b"not installed" in told and b"make page" in told and b"--static" in told)
+    put(folder, b"no place")
+    check("program: without a place", page(yard) == (status, text, told))
+    put(installed, b'<div hidden id="table" data-name=""></div>')
+    check("program: installed", page(yard) == (0, filled(b"yard.txt"), b""))
+    check("program: not asked for", page("--static", yard) == static)
+    put(folder, b'<div hidden id="table" data-name=""></div>')
+    os.remove(os.path.join(installed, "star.html"))
+    check("program: beside it", page(yard) == (0, filled(b"yard.txt"), b""))
+    odd = os.path.join(work, "a\"b<c>&\n.txt")
+    shutil.copy(yard, odd)
+    check("program: name", page(odd)[1] == filled(b"a&#34;b&lt;c&gt;&amp;&#10;.txt"))
+    for bad, number, written in (("1 2 5 1\n3 3 5 1\n", b"(4)", 0), ("junctions 256\n", b"(1)", 1),
+                                 ("1 2 5 1\n2 3 5 0\n", b"(9)", 1)):
+        with open(odd, "w") as out:
+            out.write(bad)
+        status, text, told = page(odd)
+        check("program: refused " + bad, status == 2 and number in told and (text != b"") == written)
+    with open(odd, "w") as out:
+        out.write("1 2 x 1\n")
+    check("program: no table", page(odd)[:2] == (3, b""))
+
+
 with tempfile.TemporaryDirectory() as work:
     # The yard, claim 2, 3, 4: passed, another tree costs the same; the ring is shown on the yard with 1, 2, 5.
     done = run(plan("234"), 4, work)
@@ -202,7 +253,7 @@ with tempfile.TemporaryDirectory() as work:
     odd = os.path.join(work, "a<b>&c.txt")
     with open(odd, "w") as out:
         out.write("1 2 5 1\n")
-    page = Page(subprocess.run(STAR + ["page", odd], capture_output=True, text=True).stdout)
+    page = Page(subprocess.run(STAR + ["page", "--static", odd], capture_output=True, text=True).stdout)
     sound("name", page)
     check("name: written", page.all("h1")[0]["text"] == page.all("title")[0]["text"] == os.path.basename(odd))
     # Thirty junctions and a city: each trench that is left out has its view, and the page stays small.
@@ -226,6 +277,8 @@ with tempfile.TemporaryDirectory() as work:
         browse("yard", yard, work, browser)
         browse("thirty", sizes["thirty"], work, browser)
         browse("city", sizes["city"], work, browser)
+    # The page's program beside the console, where it is installed, without a place, and not there.
+    programs(work)
 
 print("%d passed, %d failed" % tuple(counts))
 sys.exit(counts[1] > 0)

@@ -371,8 +371,8 @@ async function pageStart() {
   const core = await coreOpen(await new Response(module).arrayBuffer());
   const page = new Page(core);
   byId('version').textContent = core.version();
-  const table = byId('table');
-  if (table.textContent.trim() !== '') page.open(pageBytes('table'), table.dataset.name || 'table');
+  const { name: inside } = byId('table').dataset;
+  if (inside) page.open(pageBytes('table'), inside);
   else {
     const [name, text] = Object.entries(EXAMPLES)[0];
     page.open(fileBytes(text), name);

@@ -10,6 +10,7 @@ import { fileURLToPath } from 'node:url';
 import { browserMake } from './browser.mjs';
 import { clicksGroups } from './clicks.mjs';
 import { contrastBelow } from './contrast.mjs';
+import { insideGroups } from './inside.mjs';
 import { movesGroups } from './moves.mjs';
 import { overlaps } from './overlaps.mjs';
 import { paperGroups, paperReadable } from './paper.mjs';
@@ -445,17 +446,6 @@ const GROUPS = {
     await b.value('delete star.openFile; delete star.calls');
   },
 
-  async inside() {
-    const [odd, page] = [path.join(folder, 'a "b" <c>.txt'), path.join(folder, 'with.html')];
-    fs.writeFileSync(odd, `${bytesOf(example('old.txt'))}# \xe9 </script>\n`, 'latin1');
-    const build = path.join(here, '../../page/build.mjs');
-    spawnSync('node', [build, path.join(path.dirname(html), 'star.wasm'), page, odd]);
-    await b.go(page);
-    check('the table inside', (await b.value('star.app.text()')) === bytesOf(odd));
-    check('its name', (await textOf('name')) === 'a "b" <c>.txt');
-    await b.go(path.resolve(html));
-  },
-
   async contrast() {
     for (const theme of ['light', 'dark']) {
       await b.value(`document.documentElement.dataset.theme = '${theme}'`);
@@ -466,6 +456,7 @@ const GROUPS = {
   },
 
   ...clicksGroups(tools),
+  ...insideGroups(tools),
   ...movesGroups(tools),
   ...(paperReadable() ? paperGroups(tools) : {}),
 };

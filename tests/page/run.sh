@@ -55,8 +55,17 @@ control() { # NAME FILE EXPRESSION GROUP
     else passed=$((passed + 1)); fi
 }
 
+# The console that is installed finds the program that is installed with it.
+installed() {
+    local to=$work/usr yard=console/examples/yard.txt
+    env -u MAKEFLAGS -u DESTDIR make -s install PREFIX="$to" BUILD="$build" >"$work/said" 2>&1 &&
+        cmp -s "$build/star.html" "$to/share/star/star.html" &&
+        "$to/bin/star" page "$yard" 2>&1 | cmp -s - <("$build/star" page "$yard")
+}
+
 want node nodejs || { echo "0 passed, 0 failed"; exit 0; }
 clean make -s page BUILD="$build"
+clean installed
 if want tsc node-typescript; then clean tsc -p page/tsconfig.json; fi
 if want eslint eslint; then
     clean eslint -f unix --ext .js,.mjs page/src page/build.mjs tests/page \
@@ -82,8 +91,8 @@ if want chromium chromium; then
     control "a mark that is not shown" list.js 's/box.checked = on;//' marks
     control "a step back that goes ahead" main.js 's/app.mendBy(-1)/app.mendBy(1)/' steps
     control "a plan that is lost" main.js 's/if (!this.app.saved && /if (false \&\& /' leaves
-    [ $paper = 0 ] || control "a picture cut on paper" ../page.css \
-        's/#stage { height: 150mm;/& width: 90mm;/;s/#net { --scale: var(--k);/& width: 1280px;/' paper
+    cut='s/#stage { height: 150mm;/& width: 90mm;/;s/#net { --scale: var(--k);/& width: 1280px;/'
+    [ $paper = 0 ] || control "a picture cut on paper" ../page.css "$cut" paper
 fi
 echo "$passed passed, $failed failed"
 [ "$failed" = 0 ]

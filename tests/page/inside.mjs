@@ -1,0 +1,55 @@
+// The page that 'star page' writes: a table of any bytes stands inside, and is saved as it was.
+import fs from 'node:fs';
+import path from 'node:path';
+import { tablesFor } from './tables.mjs';
+
+const MOST_BYTES = 250000;
+
+/** Table files whose bytes mean something in HTML, or nothing in UTF-8.
+ * @param {string} yard @type {(yard: string) => Record<string, string>} */
+const insideTables = (yard) => ({
+  'a "b" <c> &amp; \'d\'.txt': `${yard}# </script><!-- <script> ]]> "'\`&lt;\n`,
+  'latin.txt': `${yard}# \xe9 \x80\xff\xfe \xc3(\n`,
+  'dos.txt': yard.replace(/\n/g, '\r\n'),
+  'marked.txt': `\xef\xbb\xbf${yard}`,
+  'both.txt': `\xef\xbb\xbf${yard.replace(/\n/g, '\r\n')}# </div></body>`,
+  'one\nline.txt': yard.trimEnd(),
+  'none.txt': '',
+});
+
+/** @param {import('./page.mjs').Tools} tools @returns {Record<string, () => Promise<void>>} */
+export function insideGroups({ b, bytesOf, check, example, examples, folder, html, saved, star,
+  textOf }) {
+  const page = path.join(folder, 'with.html');
+
+  /** Opens what 'star page' writes for a file.
+   * @param {string} file */
+  async function open(file) {
+    star('page', file, '-o', page);
+    await b.go(page);
+  }
+
+  return {
+    async inside() {
+      for (const [name, text] of Object.entries(insideTables(bytesOf(example('yard.txt'))))) {
+        fs.mkdirSync(folder, { recursive: true });
+        const file = path.join(folder, name);
+        fs.writeFileSync(file, text, 'latin1');
+        await open(file);
+        const told = JSON.stringify(name);
+        check(`the table inside ${told}`, (await b.value('star.app.text()')) === text);
+        check(`the name ${told}`, (await b.value('star.app.name')) === name);
+        check(`saved again ${told}`, (await saved()) === text);
+      }
+      await open(example('street.stp'));
+      check('an STP text inside', (await saved()) === star('table', example('street.stp')));
+      fs.mkdirSync(folder, { recursive: true });
+      const large = path.join(folder, 'large.txt');
+      fs.writeFileSync(large, tablesFor(examples).large);
+      await open(large);
+      check('the largest table inside', (await textOf('name')) === 'large.txt');
+      check('its size', fs.statSync(page).size < MOST_BYTES);
+      await b.go(path.resolve(html));
+    },
+  };
+}
