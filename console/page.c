@@ -45,8 +45,8 @@ static const char SCRIPT[] =
 
 static const char FOOTER[] =
     "<footer>\n<p>A sentence with a green bar at its left is an answer of the proved core in words: passed or not, the total of a plan that passed, whether it is the only cheapest network,\n"
-    "the exchange that is named and what it saves (star_cst, star_other), the totals before and after it (star_which), the least total (star_mst1). A refusal stands in a red box: its\n"
-    "number and its place are the core's answer (star_cst), and what is counted in its words is counted by this page. The trenches of each detour come from the core too (star_paths),\n"
+    "the exchange that is named and what it saves (star_cst, star_other), the totals before and after it (star_which), the least total (star_mst1), a refusal by its number in the\n"
+    "library's words (star_cst). What this page says of a refusal stands in a red box: its place is the core's answer, and what is counted in it is counted by this page. The trenches of each detour come from the core too (star_paths),\n"
     "and so do rings and groups that stand apart (star_mst1 and star_paths on the marked trenches).</p>\n"
     "<p>All else is drawing and arithmetic of this page, and not proved: where junctions stand, colours, the order of a detour's trenches, sums, and which of two prices is larger.</p>\n</footer>\n";
 

@@ -18,9 +18,13 @@ static void paragraph(FILE *to, const char *look, const char *text) {
 void panel_plain(FILE *to, const char *text) { paragraph(to, "plain", text); }
 
 void panel_verdict(FILE *to, const struct table *t, struct star_answer a) {
-    struct message words = {{0}, 0}, gap = {{0}, 0};
+    struct message words = {{0}, 0}, gap = {{0}, 0}, number = {{0}, 0};
     verdict_words(&words, t, a);
     verdict_gap(&gap, t, a);
+    if (a.kind == STAR_REFUSED) {
+        say(&number, "Refused (%u): %s.", (unsigned)a.number, star_refusal_text(a.number));
+        paragraph(to, "core", number.text);
+    }
     paragraph(to, a.kind == STAR_REFUSED ? "refused" : "core", words.text);
     if (gap.len > 0) panel_plain(to, gap.text);
 }

@@ -7,7 +7,8 @@
 /* A paragraph. */
 void panel_plain(FILE *to, const char *text);
 
-/* The verdict on a table: an answer of the proved core in words, under its sign, and below it what the console adds; a refusal in a box of its own colour. */
+/* The verdict on a table: an answer of the proved core in words, under its sign, and below it what the console adds; of a refusal the number in the library's
+   words, and what the console says of it in a box of its own colour. */
 void panel_verdict(FILE *to, const struct table *t, struct star_answer a);
 
 /* Each over a drawing whose table has what the panel shows. */

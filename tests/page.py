@@ -214,7 +214,8 @@ with tempfile.TemporaryDirectory() as work:
     sound("ring", page)
     check("ring: status", done.returncode == 2 and "Refused (10)" in done.stderr)
     check("ring: drawn", page.rows("ring", "ring") == [1, 2, 5] and [p["href"] for p in page.all("use", "ring", "cut")] == ["#own-j4"])
-    check("ring: box", page.refused()[0].startswith("Refused (10): ") and not any("Refused" in text for text in page.core()))
+    check("ring: box", page.refused()[0].startswith("Refused (10): ") and
+          page.core()[0] == "Refused (10): the marked rows do not join all junctions.")
     check("ring: groups", "Groups that stand apart: junctions 1, 2, 3; junction 4." in page.said("ring"))
     check("ring: where", [p["text"].startswith("On this table") for p in page.all("p", None, "where")] == [True, False, False, True])
     # Junction 1 is the lonely one: it is the one that is shown so.

@@ -1,7 +1,7 @@
 // The verdict in words: what the core says of the plan, and what the page adds to it.
 import { LIGHTER, PASSED } from './core.js';
 import { bold, button, byId, coreSays, html, pageSays } from './dom.js';
-import { capital, count, money, rowNumbers, runs, trench } from './words.js';
+import { count, money, rowNumbers, runs, trench } from './words.js';
 
 /** @typedef {import('./app.js').App} App */
 /** @typedef {{look: string, head: string, words: any[], acts: any[]}} Said */
@@ -59,7 +59,7 @@ function verdictSavings(one, all) {
 function verdictNone(app) {
   const { verdict, marks, rings } = app.judgement;
   const need = app.plan.n - 1;
-  const words = [coreSays(`${capital(app.core.refusal(verdict.number))}.`)];
+  const words = marks > 0 ? [coreSays(app.refused(verdict.number, 0))] : [];
   if (marks === need) words.push(pageSays(bold('The count is right, and that is not enough.')));
   else words.push(pageSays(`${count(marks, 'mark', 'marks')}; a network has exactly ${need}.`));
   if (rings && marks > 0) words.push(...verdictRings(rings));
@@ -95,14 +95,14 @@ function verdictRings(rings) {
 function verdictRefused(app) {
   const { verdict } = app.judgement;
   const { file } = app.history.now;
-  const words = [coreSays(`${capital(app.core.refusal(verdict.number))}.`)];
+  const words = [coreSays(app.refused(verdict.number, 0))];
   const row = file.rowLine[verdict.out - 1];
   if (verdict.out > 0 && row !== undefined) {
     words.push(pageSays(`Trench ${verdict.out}, line ${row + 1} of the file.`));
   } else if (verdict.number === 1 && file.countLine > 0) {
     words.push(pageSays(`Line ${file.countLine} of the file says ${file.count.slice(0, 40)}.`));
   }
-  return { look: 'no', head: `\u2717 Refused (${verdict.number})`, words, acts: [] };
+  return { look: 'no', head: '\u2717 Refused', words, acts: [] };
 }
 
 /** @param {App} app */
@@ -139,7 +139,7 @@ export function verdictShow(app) {
   const said = verdictSaid(app);
   const { least, drawn } = app.judgement;
   if (drawn && least && least.kind !== PASSED) {
-    said.words.push(coreSays(`${capital(app.core.refusal(least.number))}.`));
+    said.words.push(coreSays(app.refused(least.number, 0)));
   }
   byId('verdict').className = `card ${said.look}`;
   byId('head').textContent = said.head;

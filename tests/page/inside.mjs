@@ -51,5 +51,24 @@ export function insideGroups({ b, bytesOf, check, example, examples, folder, htm
       check('its size', fs.statSync(page).size < MOST_BYTES);
       await b.go(path.resolve(html));
     },
+
+    async refusals() {
+      const sign = '\u25c6 ';
+      const examples = ['old.txt', 'yard.txt'].map((name) => bytesOf(example(name)));
+      const own = ['junctions 256\n1 2 5 1\n', '1 2 5 1\n2 3 5 0\n', '1 2 5 0\n2 3 5 0\n'];
+      for (const text of [...examples, ...own]) {
+        fs.mkdirSync(folder, { recursive: true });
+        const file = path.join(folder, 'table.txt');
+        fs.writeFileSync(file, text);
+        const told = /<p class="core">(Refused[^<]*)/.exec(star('page', '--static', file)
+          .replace(/<section[^]*/, ''));
+        await open(file);
+        const said = await b.value(`[...document.querySelectorAll('#why .core')]
+          .map((part) => part.innerText).find((words) => words.includes('Refused'))`);
+        check(`the sign of a refusal: ${text.slice(0, 20)}`,
+          (told ? sign + told[1] : undefined) === said);
+      }
+      await b.go(path.resolve(html));
+    },
   };
 }

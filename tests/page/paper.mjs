@@ -95,6 +95,15 @@ export function paperGroups({ b, check, choose, example, examples, folder, press
         check(`the picture of the ${name} is not cut`, shown.size > 5 && bare === 0 &&
           [...shown].every((word) => placed.has(word)));
       }
+      const pages = [];
+      for (const theme of ['light', 'dark']) {
+        await b.value(`document.documentElement.dataset.theme = '${theme}'; star.app.select(60)`);
+        await b.frame();
+        await print();
+        pages.push(firstPage().at);
+      }
+      check('light and dark are the same on paper', pages[0].equals(pages[1]));
+      await b.value('delete document.documentElement.dataset.theme; star.app.select(-1)');
     },
 
     async paperLists() {
