@@ -11,6 +11,7 @@
 # make shared    the shared library; make wheel the Python package, if the core is proved here or is of the record
 # make backends  random calls of every door, compiled in four ways: -O3, -O0, with the compiler's assumptions checked, as WebAssembly
 # make load SECONDS=n   eight threads, random calls of all doors, for n seconds
+# make fuzz SECONDS=n   libFuzzer over the readers of planners' texts, for n seconds
 # make tasks     ten tasks with the library, networkx and LEMON, side by side: lines and microseconds
 # make install PREFIX=DIR     the header, the libraries, the console, manual pages, star.pc, a CMake package: if they are proved here or are of the record
 # make uninstall PREFIX=DIR   removes these files
@@ -234,7 +235,7 @@ clean:
 # What else C and Python programmers get.
 
 # The shared library and the packages over it, and the interactive page. Nothing is installed that is not proved here or of the record.
--include library.mk page.mk backends.mk
+-include library.mk page.mk backends.mk fuzz.mk
 install-library: checked
 
 .PHONY: all tell checked prove sums recorded console programs manual documents run test outside bench counts install uninstall clean

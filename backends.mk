@@ -28,8 +28,8 @@ $(LOADED): $(BACKENDS)/%: tests/backends/%.c tests/backends/library.c $(CALLS_NE
 load: $(BACKENDS)/load $(SHARED)
 	$(BACKENDS)/load $(SHARED) $(SECONDS)
 
-backends-built: $(BACKENDS)/backends $(LOADED) $(BACKENDS)/libstar-O0.so $(BACKENDS)/libstar-checked.so
-backends-built: $(SHARED)
+backends-built: $(BACKENDS)/backends $(LOADED) $(SHARED)
+backends-built: $(BACKENDS)/libstar-O0.so $(BACKENDS)/libstar-checked.so
 
 backends: backends-built $(PAGE_MODULE)
 	bash tests/backends/run.sh $(BUILD) $(BACKENDS) $(CALLS)

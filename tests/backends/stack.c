@@ -1,8 +1,8 @@
 /* The stack that each door takes: a thread's stack is painted below the caller, the door is called,
  * and the lowest byte that has changed is looked for.
  * usage: stack LIBSTAR.so CALLS   CALLS random calls of each door that take a table of more than
- * 256 rows, beside the deepest texts; what is found has to be three quarters of what the header says
- * at most. Prints a line for each door, and 'N passed, M failed'. */
+ * 256 rows, beside the deepest texts; what is found has to be three quarters of what the header
+ * says at most. Prints a line for each door, and 'N passed, M failed'. */
 #define _GNU_SOURCE
 #include <pthread.h>
 #include <stdio.h>
