@@ -54,6 +54,3 @@ export function stops(stops) {
   if (stops.length <= most) return stops.join(dash);
   return `${stops.slice(0, most - 3).join(dash)}${dash}\u2026${dash}${stops[stops.length - 1]}`;
 }
-
-/** @param {string} text */
-export const capital = (text) => text.charAt(0).toUpperCase() + text.slice(1);

@@ -26,9 +26,10 @@ export const paperReadable = () => {
 export function paperGroups({ b, check, choose, example, examples, folder, press, star }) {
   const pdf = path.join(folder, 'page.pdf');
 
-  async function print() {
+  /** @param {string} [pageRanges] */
+  async function print(pageRanges = '') {
     fs.mkdirSync(folder, { recursive: true });
-    const { data } = await b.send('Page.printToPDF', { printBackground: true });
+    const { data } = await b.send('Page.printToPDF', { printBackground: true, pageRanges });
     fs.writeFileSync(pdf, Buffer.from(data, 'base64'));
   }
 
@@ -75,7 +76,7 @@ export function paperGroups({ b, check, choose, example, examples, folder, press
       .map((text) => text.textContent).join(' ')`);
     const others = "document.querySelectorAll('header, #panel, #list')";
     await b.value(`${others}.forEach((part) => part.style.display = 'none')`);
-    await print();
+    await print('1');
     await b.value(`${others}.forEach((part) => part.style.display = '')`);
     const [page, all] = [firstPage(), boxes()];
     return {
@@ -99,7 +100,7 @@ export function paperGroups({ b, check, choose, example, examples, folder, press
       for (const theme of ['light', 'dark']) {
         await b.value(`document.documentElement.dataset.theme = '${theme}'; star.app.select(60)`);
         await b.frame();
-        await print();
+        await print('1');
         pages.push(firstPage().at);
       }
       check('light and dark are the same on paper', pages[0].equals(pages[1]));

@@ -89,8 +89,6 @@ if want chromium chromium; then
     control "a picture that moves" picture.js 's/^    this.plan = p;$/& if (this.at.x[0]) this.view.x += 9;/' marks
     control "an answer before it is given" list.js 's/ || app.asked;/;/' lessons
     control "a mark that is not shown" list.js 's/box.checked = on;//' marks
-    control "a step back that goes ahead" main.js 's/app.mendBy(-1)/app.mendBy(1)/' steps
-    control "a plan that is lost" main.js 's/if (!this.app.saved && /if (false \&\& /' leaves
     cut='s/#stage { height: 150mm;/& width: 90mm;/;s/#net { --scale: var(--k);/& width: 1280px;/'
     [ $paper = 0 ] || control "a picture cut on paper" ../page.css "$cut" paper
 fi
