@@ -97,9 +97,9 @@ console: $(BUILD)/star
 programs: $(READSTP) $(DIGLIST)
 
 # The proved functions of the two programs, and a few lines of C that end with the status that they give.
-$(READSTP) $(DIGLIST): $(BUILD)/%: programs/%.c $(RUNS)
+$(READSTP) $(DIGLIST): $(BUILD)/%: programs/run.c $(RUNS)
 	@mkdir -p $(BUILD)
-	$(CC) -std=c99 $(CFLAGS) -o $@ $< $(RUNS) $(KIT)/lib/libos_c.a
+	$(CC) -std=c99 $(CFLAGS) -DPROGRAM=star_run_$* -o $@ $< $(RUNS) $(KIT)/lib/libos_c.a
 
 # The part of the library that is written in C, with the console's reader of tables: one object, whose global names are those of the header. It is
 # position-independent on purpose, as the proved objects are: the static and the shared library have the same objects.
