@@ -1,6 +1,7 @@
-/* The certificate of a verdict: of a plan that passes its total, whether it is the only cheapest network, and for
-   each trench left out the dearest trench of its detour and the detour; of a plan with a cheaper set the exchange
-   and the totals before and after it. tests/certificate.py checks it. */
+/* The certificate of a verdict: of a plan that passes its total, whether it is the only cheapest
+   network, and for each trench left out the dearest trench of its detour and the detour; of a plan
+   with a cheaper set the exchange and the totals before and after it. tests/certificate.py checks
+   it. */
 #include "certificate.h"
 
 #include "detour.h"

@@ -4,7 +4,8 @@
 
 #include "table.h"
 
-/* Writes the certificate of what the tree checker answered; 0 where it refused, and nothing is certified. */
+/* Writes the certificate of what the tree checker answered; 0 where it refused, and nothing is
+   certified. */
 int certificate_write(FILE *to, const struct table *t, struct star_answer a);
 
 #endif

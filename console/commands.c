@@ -1,8 +1,8 @@
 /* The commands: they ask the doors, and put the answers in words. */
 #include "commands.h"
 
-#include "edit.h"
 #include "certificate.h"
+#include "edit.h"
 #include "faults.h"
 #include "json.h"
 #include "picture.h"

@@ -1,23 +1,32 @@
-/* Detours: the door gives the set of trenches; here they are put in order, added up and compared. */
+/* Detours: the door gives the set of trenches; here they are put in order, added up and
+   compared. */
 #include "detour.h"
 
 enum { SHOWN = 12 };
 
 int paths_from(struct paths *p, const struct table *t, uint32_t from) {
     if (p->from == from) return 1;
-    p->from = table_paths(t, from, p->matrix, sizeof p->matrix / sizeof p->matrix[0]).kind == STAR_PASSED ? from : 0;
+    p->from =
+        table_paths(t, from, p->matrix, sizeof p->matrix / sizeof p->matrix[0]).kind == STAR_PASSED
+            ? from
+            : 0;
     return p->from == from;
 }
 
-/* The trench of the set that leads on from a junction, other than the one that led there; 0 if there is none. */
-static size_t next(const struct paths *p, const struct table *t, uint32_t to, unsigned at, size_t last) {
+/* The trench of the set that leads on from a junction, other than the one that led there; 0 if
+   there is none. */
+static size_t next(const struct paths *p, const struct table *t, uint32_t to, unsigned at,
+                   size_t last) {
     size_t i;
     for (i = table_next(t, 0); i <= t->m; i = table_next(t, i))
-        if (i != last && star_on_path(p->matrix, to, i) && (t->left[i - 1] == at || t->right[i - 1] == at)) return i;
+        if (i != last && star_on_path(p->matrix, to, i) &&
+            (t->left[i - 1] == at || t->right[i - 1] == at))
+            return i;
     return 0;
 }
 
-int way_between(struct detour *d, struct paths *p, const struct table *t, uint32_t from, uint32_t to) {
+int way_between(struct detour *d, struct paths *p, const struct table *t, uint32_t from,
+                uint32_t to) {
     unsigned at = from;
     size_t row = 0;
     if (!paths_from(p, t, from)) return 0;
@@ -30,14 +39,20 @@ int way_between(struct detour *d, struct paths *p, const struct table *t, uint32
         d->row[d->count++] = (unsigned)row;
         d->stop[d->count] = at;
         d->sum += table_cost(t, row);
-        if (!d->dearest || table_cost(t, row) > table_cost(t, d->dearest) || (table_cost(t, row) == table_cost(t, d->dearest) && row < d->dearest)) d->dearest = (unsigned)row;
+        if (!d->dearest || table_cost(t, row) > table_cost(t, d->dearest) ||
+            (table_cost(t, row) == table_cost(t, d->dearest) && row < d->dearest))
+            d->dearest = (unsigned)row;
     }
     return d->count > 0 && at == to;
 }
 
 int detour_of(struct detour *d, struct paths *p, const struct table *t, size_t i) {
+    int64_t own, dearest;
     if (!way_between(d, p, t, t->left[i - 1], t->right[i - 1])) return 0;
-    d->standing = table_cost(t, i) < table_cost(t, d->dearest) ? CHEAPER : table_cost(t, i) == table_cost(t, d->dearest) ? EQUAL : DEARER;
+    own = table_cost(t, i);
+    dearest = table_cost(t, d->dearest);
+    if (own == dearest) d->standing = EQUAL;
+    else d->standing = own < dearest ? CHEAPER : DEARER;
     return 1;
 }
 
@@ -51,17 +66,25 @@ void detour_rows(struct message *to, const unsigned *row, size_t count) {
 void detour_stops(struct message *to, const unsigned *stop, size_t count) {
     size_t k;
     for (k = 0; k < count; k++)
-        if (count <= SHOWN + 1 || k < SHOWN - 1 || k + 1 == count) say(to, "%s%u", k > 0 ? "-" : "", stop[k]);
+        if (count <= SHOWN + 1 || k < SHOWN - 1 || k + 1 == count)
+            say(to, "%s%u", k > 0 ? "-" : "", stop[k]);
         else if (k == SHOWN - 1) say(to, "-..");
 }
 
-void detour_compared(struct message *to, const struct table *t, size_t i, const struct detour *d, int64_t total) {
+void detour_compared(struct message *to, const struct table *t, size_t i, const struct detour *d,
+                     int64_t total) {
     static const char *const sign[STANDINGS] = {"<", "=", ">"};
     int64_t own = table_cost(t, i), dearest = table_cost(t, d->dearest);
     char figures[3][FIGURES];
-    say(to, "%s %s %s: ", amount_figures(figures[0], own), sign[d->standing], amount_figures(figures[1], dearest));
+    say(to, "%s %s %s: ", amount_figures(figures[0], own), sign[d->standing],
+        amount_figures(figures[1], dearest));
     amount_figures(figures[2], total - dearest + own);
-    if (d->standing == EQUAL) say(to, "the exchange gives another network of %s, equal, no contradiction", figures[2]);
-    else if (d->standing == CHEAPER) say(to, "the exchange gives a network of %s, for %s less", figures[2], amount_figures(figures[0], dearest - own));
-    else say(to, "the exchange would give a network of %s, for %s more, so it stays out", figures[2], amount_figures(figures[0], own - dearest));
+    if (d->standing == EQUAL)
+        say(to, "the exchange gives another network of %s, equal, no contradiction", figures[2]);
+    else if (d->standing == CHEAPER)
+        say(to, "the exchange gives a network of %s, for %s less", figures[2],
+            amount_figures(figures[0], dearest - own));
+    else
+        say(to, "the exchange would give a network of %s, for %s more, so it stays out", figures[2],
+            amount_figures(figures[0], own - dearest));
 }

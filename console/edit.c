@@ -10,9 +10,12 @@
 #include "refusal.h"
 #include "status.h"
 
-static void copy(FILE *to, const char *from, const char *end) { fwrite(from, 1, (size_t)(end - from), to); }
+static void copy(FILE *to, const char *from, const char *end) {
+    fwrite(from, 1, (size_t)(end - from), to);
+}
 
-/* The line of trench i with the mark that the table has; the line as it stands where it says the same. */
+/* The line of trench i with the mark that the table has; the line as it stands where it says the
+   same. */
 static void marked(FILE *to, const struct table *t, size_t i, const char *from, const char *end) {
     struct span price = text_nth(t->row[i - 1].text, 2), mark = text_nth(t->row[i - 1].text, 3);
     const char *rest = mark.len > 0 ? mark.at + mark.len : price.at + price.len;
@@ -27,12 +30,14 @@ static void marked(FILE *to, const struct table *t, size_t i, const char *from, 
     copy(to, rest, end);
 }
 
-/* The line of trench i with the price that the table has; the line as it stands where it says the same. */
+/* The line of trench i with the price that the table has; the line as it stands where it says the
+   same. */
 static void priced(FILE *to, const struct table *t, size_t i, const char *from, const char *end) {
     struct span price = text_nth(t->row[i - 1].text, 2);
     uint8_t old[PRICE_BYTES];
     char figures[FIGURES];
-    if (price_read(price, old) && memcmp(old, t->weight + PRICE_BYTES * (i - 1), PRICE_BYTES) == 0) {
+    if (price_read(price, old) &&
+        memcmp(old, t->weight + PRICE_BYTES * (i - 1), PRICE_BYTES) == 0) {
         copy(to, from, end);
         return;
     }
@@ -57,7 +62,8 @@ static void new_line(FILE *to, const struct table *t, const char *words) {
     copy(to, end.at, end.at + end.len);
 }
 
-/* The line 'junctions N': N stands as it does in the file, unless a new trench names a larger junction. */
+/* The line 'junctions N': N stands as it does in the file, unless a new trench names a larger
+   junction. */
 static void junctions(FILE *to, const struct table *t, uint32_t n) {
     fputs("junctions ", to);
     if (n > t->n) fprintf(to, "%" PRIu32, n);
@@ -66,7 +72,8 @@ static void junctions(FILE *to, const struct table *t, uint32_t n) {
 }
 
 /* The line of trench i, with its end. */
-static void trench(FILE *to, const struct table *t, enum change change, size_t i, const char *from, const char *end) {
+static void trench(FILE *to, const struct table *t, enum change change, size_t i, const char *from,
+                   const char *end) {
     struct span own = t->row[i - 1].text;
     switch (change) {
     case CHANGE_STRUCK:
@@ -78,19 +85,15 @@ static void trench(FILE *to, const struct table *t, enum change change, size_t i
         copy(to, from, own.at);
         copy(to, text_nth(own, 1).at, end);
         break;
-    case CHANGE_MARK:
-        marked(to, t, i, from, end);
-        break;
-    case CHANGE_PRICE:
-        priced(to, t, i, from, end);
-        break;
-    default:
-        copy(to, from, end);
+    case CHANGE_MARK: marked(to, t, i, from, end); break;
+    case CHANGE_PRICE: priced(to, t, i, from, end); break;
+    default: copy(to, from, end);
     }
 }
 
 /* One line of the file, with its end: that of trench i, or another one where i is 0. */
-static void line(FILE *to, const struct table *t, const struct edit *e, size_t i, const char *from, const char *end) {
+static void line(FILE *to, const struct table *t, const struct edit *e, size_t i, const char *from,
+                 const char *end) {
     if (i == 0) copy(to, from, end);
     else if (i == e->instead) new_line(to, t, e->line);
     else if (!e->merge || !t->struck[i - 1]) trench(to, t, e->change[i - 1], i, from, end);
@@ -101,7 +104,8 @@ static void lines(FILE *to, const struct table *t, const struct edit *e) {
     size_t number = 0, i = 1;
     char last = '\n';
     copy(to, t->text.at - t->order_mark, t->text.at);
-    if ((e->merge || e->instead > 0) && t->strikes > 0 && !t->told && e->n > 0) junctions(to, t, e->n);
+    if ((e->merge || e->instead > 0) && t->strikes > 0 && !t->told && e->n > 0)
+        junctions(to, t, e->n);
     while (text_line(&rest, &own)) {
         int trench = i <= t->m && t->row[i - 1].line == ++number;
         line(to, t, e, trench ? i : 0, own.at, rest.at);
@@ -132,8 +136,10 @@ int edit_marks(struct output *o, const struct table *t) {
     return EXIT_PASSED;
 }
 
-/* Reads the file as it is after the changes; NULL where there is no room, or where a line cannot stand. The bytes are to be freed. */
-static char *changed(const struct table *t, const struct edit *e, struct table *after, struct message *words) {
+/* Reads the file as it is after the changes; NULL where there is no room, or where a line cannot
+   stand. The bytes are to be freed. */
+static char *changed(const struct table *t, const struct edit *e, struct table *after,
+                     struct message *words) {
     char *bytes = NULL;
     size_t len = 0;
     FILE *to = open_memstream(&bytes, &len);
@@ -153,7 +159,8 @@ static char *changed(const struct table *t, const struct edit *e, struct table *
     return NULL;
 }
 
-int edit_refused(const struct table *t, const struct edit *e, struct message *words, struct message *notes) {
+int edit_refused(const struct table *t, const struct edit *e, struct message *words,
+                 struct message *notes) {
     static struct table after;
     struct star_answer a;
     char *bytes = changed(t, e, &after, words);

@@ -44,8 +44,13 @@ static void each_left_out(FILE *to, const struct table *t, struct paths *p, int 
         for (i = table_next(t, 0); i <= t->m; i = table_next(t, i)) {
             if (t->mark[i - 1] == 1 || !detour_of(&d, p, t, i) || (int)d.standing != standing)
                 continue;
-            if (all || shown < EXPLAINED) shown++, left_out(to, t, i, &d, total);
-            else count[standing]++, hidden++;
+            if (all || shown < EXPLAINED) {
+                shown++;
+                left_out(to, t, i, &d, total);
+            } else {
+                hidden++;
+                count[standing]++;
+            }
         }
     if (shown == 0) say(&words, "No trench is left out.");
     if (hidden > 0)

@@ -30,8 +30,8 @@ void file_limit_told(void);
 enum file_written {
     FILE_UNWRITTEN, /* with errno; a file that was to be replaced is as it was */
     FILE_WRITTEN,
-    FILE_UNSURE,    /* with errno; it is replaced, but may be the old one after a power failure */
-    FILE_CHANGED    /* it is not as it was when it was read, and is left so */
+    FILE_UNSURE, /* with errno; it is replaced, but may be the old one after a power failure */
+    FILE_CHANGED /* it is not as it was when it was read, and is left so */
 };
 
 /* Writes a file. One that is replaced is written beside the old one, flushed to the disk, gets the

@@ -31,7 +31,9 @@ char *input_whole(FILE *from, size_t *len) {
     return bytes;
 }
 
-static int opens(struct span text, const char *bytes) { return text.len >= strlen(bytes) && memcmp(text.at, bytes, strlen(bytes)) == 0; }
+static int opens(struct span text, const char *bytes) {
+    return text.len >= strlen(bytes) && memcmp(text.at, bytes, strlen(bytes)) == 0;
+}
 
 static int unreadable(const struct input *in, struct message *fault, const char *why) {
     say_place(fault, in->file, 0);
@@ -54,10 +56,13 @@ int input_open(struct input *in, const char *file, struct message *fault) {
     if (!in->bytes) unreadable(in, fault, errno ? strerror(errno) : "it cannot be read");
     if (from && from != stdin) fclose(from);
     if (!in->bytes) return EXIT_UNREADABLE;
-    if (len > MOST) return unreadable(in, fault, "it has more than 16777216 bytes, far more than 1024 trenches need");
+    if (len > MOST)
+        return unreadable(in, fault,
+                          "it has more than 16777216 bytes, far more than 1024 trenches need");
     in->text.at = in->bytes;
     in->text.len = len;
-    if (opens(in->text, "\xff\xfe") || opens(in->text, "\xfe\xff")) return unreadable(in, fault, "it is UTF-16 text; save it as UTF-8 or ASCII");
+    if (opens(in->text, "\xff\xfe") || opens(in->text, "\xfe\xff"))
+        return unreadable(in, fault, "it is UTF-16 text; save it as UTF-8 or ASCII");
     if (opens(in->text, "\xef\xbb\xbf")) {
         in->text.at += 3;
         in->text.len -= 3;

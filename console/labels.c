@@ -6,7 +6,8 @@
 enum { PIECES = 8 };
 
 static int labels_touch(const struct label *a, const struct label *b) {
-    return fabs(a->at.x - b->at.x) < (a->width + b->width) / 2 + 2 && fabs(a->at.y - b->at.y) < LABEL_HEIGHT + 1;
+    return fabs(a->at.x - b->at.x) < (a->width + b->width) / 2 + 2 &&
+           fabs(a->at.y - b->at.y) < LABEL_HEIGHT + 1;
 }
 
 /* Whether a label covers a part of a disc. */
@@ -17,7 +18,8 @@ static int covers(const struct label *a, struct point p, double radius) {
     return dx * dx + dy * dy < radius * radius;
 }
 
-/* Narrows the part of a line, from *first to *last of its length, to where start + k * step lies between -reach and reach. */
+/* Narrows the part of a line, from *first to *last of its length, to where start + k * step lies
+   between -reach and reach. */
 static int narrow(double start, double step, double reach, double *first, double *last) {
     double a = (-reach - start) / step, b = (reach - start) / step;
     if (fabs(step) < 1e-9) return fabs(start) <= reach;
@@ -35,9 +37,12 @@ static int narrow(double start, double step, double reach, double *first, double
 static int crossed(const struct label *a, const struct curve *c) {
     int k;
     for (k = 0; k < PIECES; k++) {
-        struct point p = layout_on(c, (double)k / PIECES), q = layout_on(c, (double)(k + 1) / PIECES);
+        struct point p = layout_on(c, (double)k / PIECES),
+                     q = layout_on(c, (double)(k + 1) / PIECES);
         double first = 0, last = 1;
-        if (narrow(p.x - a->at.x, q.x - p.x, a->width / 2 + 1, &first, &last) && narrow(p.y - a->at.y, q.y - p.y, LABEL_HEIGHT / 2.0 + 1, &first, &last)) return 1;
+        if (narrow(p.x - a->at.x, q.x - p.x, a->width / 2 + 1, &first, &last) &&
+            narrow(p.y - a->at.y, q.y - p.y, LABEL_HEIGHT / 2.0 + 1, &first, &last))
+            return 1;
     }
     return 0;
 }
@@ -54,14 +59,17 @@ static int free_of(const struct layout *l, const struct table *t, size_t i, enum
         if (covers(own, l->at[v], l->dot + 1)) return 0;
     for (k = table_next(t, 0); k <= t->m; k = table_next(t, k)) {
         if (l->label[k - 1].shown && labels_touch(own, &l->label[k - 1])) return 0;
-        if (k != i && (may == NONE || (may == LIGHT && l->trench[k - 1].heavy)) && crossed(own, &l->trench[k - 1])) return 0;
+        if (k != i && (may == NONE || (may == LIGHT && l->trench[k - 1].heavy)) &&
+            crossed(own, &l->trench[k - 1]))
+            return 0;
     }
     return 1;
 }
 
 /* Puts a label on its trench, or beside it: to the left (-1) or to the right (1). */
 static void put(struct label *own, const struct curve *c, double along, int side) {
-    double dx = c->to.x - c->from.x, dy = c->to.y - c->from.y, d = sqrt(dx * dx + dy * dy) + 1e-6, by;
+    double dx = c->to.x - c->from.x, dy = c->to.y - c->from.y, d = sqrt(dx * dx + dy * dy) + 1e-6,
+           by;
     by = side * (fabs(dy / d) * own->width / 2 + fabs(dx / d) * LABEL_HEIGHT / 2 + 3);
     own->at = layout_on(c, along);
     own->at.x -= by * dy / d;
@@ -69,12 +77,14 @@ static void put(struct label *own, const struct curve *c, double along, int side
 }
 
 void layout_label(struct layout *l, const struct table *t, size_t i, size_t letters) {
-    static const double along[] = {0.5, 0.45, 0.55, 0.4, 0.6, 0.35, 0.65, 0.3, 0.7, 0.25, 0.75, 0.2, 0.8};
+    static const double along[] = {0.5, 0.45, 0.55, 0.4,  0.6, 0.35, 0.65,
+                                   0.3, 0.7,  0.25, 0.75, 0.2, 0.8};
     static const struct {
         int side;
         enum cover may;
     } ways[] = {{0, NONE}, {0, LIGHT}, {1, NONE}, {-1, NONE}, {0, ANY}};
-    size_t count = sizeof ways / sizeof ways[0] - !l->trench[i - 1].heavy; /* the last way is for heavy trenches */
+    size_t count = sizeof ways / sizeof ways[0] - !l->trench[i - 1].heavy; /* the last way is for
+                                                                              heavy trenches */
     struct label *own = &l->label[i - 1];
     size_t way, k;
     own->width = (double)letters * LABEL_FONT * 0.62 + 3;

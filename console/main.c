@@ -15,7 +15,7 @@
 
 struct command {
     const char *name;
-    int (*run)(struct table *t, const struct options *with, struct output *o);
+    command *run;
     const char *takes; /* what it takes beside a file: c --certificate, t --table, a --all, s
                           --steps, p --static, j --json, w words */
     enum needs {

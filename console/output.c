@@ -1,5 +1,5 @@
-/* Output whose errors are told. What is written is put together first, and written when all of it is
-   there: a file is replaced as a whole, and an error of standard output has its reason. */
+/* Output whose errors are told. What is written is put together first, and written when all of it
+   is there: a file is replaced as a whole, and an error of standard output has its reason. */
 #define _POSIX_C_SOURCE 200809L
 
 #include "output.h"

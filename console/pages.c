@@ -1,4 +1,5 @@
-/* The table of commands. The examples are run by tests/help.py, and their output is held to what stands here. */
+/* The table of commands. The examples are run by tests/help.py, and their output is held to what
+   stands here. */
 #include "pages.h"
 
 #include <string.h>
@@ -24,7 +25,8 @@
 const char *const STATUS_TEXT[STATUSES] = {
     "passed, built, told, drawn or written",
     "a cheaper set exists",
-    "the table, the text, the plan or what was asked was refused; the message has the refusal's number",
+    "the table, the text, the plan or what was asked was refused; the message has the refusal's "
+    "number",
     "the input could not be read",
     "wrong usage",
     "the output could not be written",
@@ -36,18 +38,16 @@ const struct keys KEYS[] = {
      "file: the file's name as it was given, or 'standard input'\n"
      "verdict: passed, cheaper, built, told, mended, written, refused, unreadable or misused\n"
      "status: the exit status"},
-    {"A refusal",
-     "refusal: its number\n"
-     "place: the trench or junction that it names, where it has one\n"
-     "line: the line of the file, where it has one\n"
-     "words: the message"},
+    {"A refusal", "refusal: its number\n"
+                  "place: the trench or junction that it names, where it has one\n"
+                  "line: the line of the file, where it has one\n"
+                  "words: the message"},
     {"Unreadable input and wrong usage", "words: the message, which stands on standard error too"},
-    {"A trench",
-     "trench: its number\n"
-     "left: its first junction\n"
-     "right: its second junction\n"
-     "price: its price\n"
-     "line: its line in a table file"},
+    {"A trench", "trench: its number\n"
+                 "left: its first junction\n"
+                 "right: its second junction\n"
+                 "price: its price\n"
+                 "line: its line in a table file"},
     {NULL, NULL},
 };
 
@@ -148,20 +148,26 @@ const struct page PAGES[] = {
                 "given. Of too many junctions: why there are 255.",
         .example = "explain yard.txt 5",
         .output = "3 marked trenches join all 4 junctions, for 12 in all.\n"
-                  "A trench that is left out is held against the dearest trench of its detour, the way around over marked trenches, and against nothing else.\n"
+                  "A trench that is left out is held against the dearest trench of its detour, the "
+                  "way around over marked trenches, and against nothing else.\n"
                   "trench 5 (1-3, price 6) is left out. Its detour: trenches 4, 3 (1-4-3)\n"
-                  "  sum 9, does not count; dearest 5 (trench 3); 6 > 5: the exchange would give a network of 13, for 1 more, so it stays out\n"
-                  "Passed: the marked trenches reach every junction, and no set that does is cheaper. Total 12.\n"
-                  "Another network costs the same: take out trench 3 (3-4, price 5), put in trench 1 (1-2, price 5).\n",
-        .statuses = "0 explained, and the plan was not refused\n2 the table, the plan or what was asked was refused, and why is told",
-        .keys = VERDICT_KEYS "\n"
-                "rows: the trenches that are explained, a list: each a trench with marked; one "
-                "left out has detour (its trenches in order), junctions, sum, dearest (a "
-                "trench), standing (cheaper, equal or dearer than that) and after (the total "
-                "after the exchange); one of the plan has instead (numbers) and cheapest (a "
-                "trench)\n"
-                "hidden: the trenches left out that are not told\n"
-                "looked_at: false where a trench is named, and the table or the plan is refused",
+                  "  sum 9, does not count; dearest 5 (trench 3); 6 > 5: the exchange would give a "
+                  "network of 13, for 1 more, so it stays out\n"
+                  "Passed: the marked trenches reach every junction, and no set that does is "
+                  "cheaper. Total 12.\n"
+                  "Another network costs the same: take out trench 3 (3-4, price 5), put in trench "
+                  "1 (1-2, price 5).\n",
+        .statuses = "0 explained, and the plan was not refused\n2 the table, the plan or what was "
+                    "asked was refused, and why is told",
+        .keys = VERDICT_KEYS
+        "\n"
+        "rows: the trenches that are explained, a list: each a trench with marked; one "
+        "left out has detour (its trenches in order), junctions, sum, dearest (a "
+        "trench), standing (cheaper, equal or dearer than that) and after (the total "
+        "after the exchange); one of the plan has instead (numbers) and cheapest (a "
+        "trench)\n"
+        "hidden: the trenches left out that are not told\n"
+        "looked_at: false where a trench is named, and the table or the plan is refused",
     },
     {
         .name = "page",
@@ -182,7 +188,8 @@ const struct page PAGES[] = {
         .example = "page --static yard.txt -o yard.html",
         .output = "",
         .statuses = "0 written, and the plan, if there is one, was not refused\n"
-                    "2 the table or the plan was refused; the page is written where only the plan was (9 and 10), or where there are too many junctions (1)",
+                    "2 the table or the plan was refused; the page is written where only the plan "
+                    "was (9 and 10), or where there are too many junctions (1)",
     },
     {
         .name = "draw",
@@ -196,7 +203,8 @@ const struct page PAGES[] = {
         .example = "draw yard.txt -o yard.svg",
         .output = "",
         .statuses = "0 drawn, and the plan, if there is one, was not refused\n"
-                    "2 the table or the plan was refused; the picture is written where only the plan was (9 and 10)",
+                    "2 the table or the plan was refused; the picture is written where only the "
+                    "plan was (9 and 10)",
     },
     {
         .name = "dot",
@@ -207,7 +215,8 @@ const struct page PAGES[] = {
         .example = "dot yard.txt -o yard.dot",
         .output = "",
         .statuses = "0 drawn, and the plan, if there is one, was not refused\n"
-                    "2 the table or the plan was refused; the picture is written where only the plan was (9 and 10)",
+                    "2 the table or the plan was refused; the picture is written where only the "
+                    "plan was (9 and 10)",
     },
     {
         .name = "table",
@@ -217,7 +226,8 @@ const struct page PAGES[] = {
         .does = "Writes the trenches of an STP file as a table, one line a trench, none of "
                 "them marked. A table is written as it stands, unless it is refused.",
         .example = "table street.stp",
-        .output = "junctions 8\n1 2 40 0\n2 3 35 0\n3 4 52 0\n1 5 61 0\n2 6 28 0\n3 7 44 0\n4 8 30 0\n5 6 33 0\n6 7 47 0\n7 8 39 0\n1 6 55 0\n3 8 58 0\n",
+        .output = "junctions 8\n1 2 40 0\n2 3 35 0\n3 4 52 0\n1 5 61 0\n2 6 28 0\n3 7 44 0\n4 8 30 "
+                  "0\n5 6 33 0\n6 7 47 0\n7 8 39 0\n1 6 55 0\n3 8 58 0\n",
         .statuses = "0 written\n2 the table or the text was refused",
     },
     {
@@ -269,7 +279,8 @@ const struct page PAGES[] = {
                 "joins there is no such price: it is in every network.\n\n"
                 "It refuses as quote does.",
         .example = "breaking yard.txt 4",
-        .output = "trench 4 (1-4, price 4) is in a cheapest network up to 5; above, trench 1 (1-2, price 5) takes its place.\n"
+        .output = "trench 4 (1-4, price 4) is in a cheapest network up to 5; above, trench 1 (1-2, "
+                  "price 5) takes its place.\n"
                   "The cheapest network costs 12 today, and 13 at any price from 5 on.\n",
         .statuses = "0 told\n2 the table, the text or what was asked was refused",
         .keys = "trench: the trench\n"
@@ -292,7 +303,8 @@ const struct page PAGES[] = {
                 "one: the first plan's refusal is told before the second's.",
         .example = "which office-a.txt office-b.txt",
         .output = "The second plan stands, office-b.txt: it costs 17 and the first 19, 2 more.\n",
-        .statuses = "0 told\n2 a table or a plan was refused\n3 a file could not be read, or the two have not the same trenches",
+        .statuses = "0 told\n2 a table or a plan was refused\n3 a file could not be read, or the "
+                    "two have not the same trenches",
         .keys = "second: the name of the second file\n"
                 "stands: 1 or 2\n"
                 "totals: the totals of both plans, a list",
@@ -313,9 +325,12 @@ const struct page PAGES[] = {
                   "trench 4: 1-4, price 4\n"
                   "trench 3: 4-3, price 5\n"
                   "trench 2: 3-2, price 3\n"
-                  "The way costs 12 in all. Its dearest is trench 3, price 5; no other of its trenches is as dear.\n"
-                  "No route between 1 and 2 over the table's trenches has a dearest trench cheaper than 5.\n",
-        .statuses = "0 told\n1 a cheaper set exists\n2 the table, the plan or what was asked was refused",
+                  "The way costs 12 in all. Its dearest is trench 3, price 5; no other of its "
+                  "trenches is as dear.\n"
+                  "No route between 1 and 2 over the table's trenches has a dearest trench cheaper "
+                  "than 5.\n",
+        .statuses =
+            "0 told\n1 a cheaper set exists\n2 the table, the plan or what was asked was refused",
         .keys = "junctions: the junctions of the way, in order\n"
                 "rows: its trenches, in order\n"
                 "sum: what they cost in all\n"
@@ -350,7 +365,8 @@ const struct page PAGES[] = {
                 "Where the table would be refused with such a trench in use, nothing is "
                 "written, and the refusal that would follow is told.",
         .example = "unstrike struck.txt 3",
-        .output = "# The yard with the street between junctions 3 and 4 blocked: its trench is struck. It keeps its number and is left out of everything.\n"
+        .output = "# The yard with the street between junctions 3 and 4 blocked: its trench is "
+                  "struck. It keeps its number and is left out of everything.\n"
                   "1 2 5 1\n2 3 3 1\n3 4 5 0  # blocked until spring\n1 4 4 1\n1 3 6 0\n",
         .statuses = "0 written\n2 the table or what was asked was refused, and nothing was written",
         .keys = "trenches: the numbers of the trenches that are named\n"
@@ -436,7 +452,8 @@ const struct page PAGES[] = {
                 "by that, and a plan that passed passes again.",
         .example = "merge struck.txt",
         .output = "junctions 4\n"
-                  "# The yard with the street between junctions 3 and 4 blocked: its trench is struck. It keeps its number and is left out of everything.\n"
+                  "# The yard with the street between junctions 3 and 4 blocked: its trench is "
+                  "struck. It keeps its number and is left out of everything.\n"
                   "1 2 5 1\n2 3 3 1\n1 4 4 1\n1 3 6 0\n"
                   "1 struck trench is gone.\ntrench 4 is now trench 3\ntrench 5 is now trench 4\n",
         .statuses = "0 written\n2 the table was refused, and nothing was written",
@@ -489,7 +506,8 @@ const struct page PAGES[] = {
                 "was apart is added; then each trench left out is exchanged for the dearest "
                 "of its detour where that one costs more.",
         .example = "mend old.txt",
-        .output = "# The yard in an old drawing: trenches 1, 2 and 5 make a ring, and junction 4 is left out. star mend makes it a cheapest network.\n"
+        .output = "# The yard in an old drawing: trenches 1, 2 and 5 make a ring, and junction 4 "
+                  "is left out. star mend makes it a cheapest network.\n"
                   "1 2 5 0\n"
                   "2 3 3 1\n"
                   "3 4 5 1\n"
@@ -499,7 +517,8 @@ const struct page PAGES[] = {
                   "taken out trench 5 (1-3, price 6)\n"
                   "put in    trench 3 (3-4, price 5)\n"
                   "put in    trench 4 (1-4, price 4)\n"
-                  "The marked trenches were no network, and cost 14 by the console's own sum. The plan's total is 12 now: no network is cheaper.\n",
+                  "The marked trenches were no network, and cost 14 by the console's own sum. The "
+                  "plan's total is 12 now: no network is cheaper.\n",
         .statuses = "0 written\n2 the table was refused, and nothing was written",
         .keys = "out: the trenches taken out, a list\n"
                 "in: the trenches put in, a list\n"

@@ -36,11 +36,15 @@ static void plan(FILE *to, const struct drawing *g, const struct table *t) {
 }
 
 static void sample(FILE *to, const char *look, const char *says) {
-    fprintf(to, "<span><svg class=\"sample\" width=\"34\" height=\"14\" aria-hidden=\"true\"><path class=\"%s\" d=\"M3 7h28\"/></svg>%s</span> ", look, says);
+    fprintf(to,
+            "<span><svg class=\"sample\" width=\"34\" height=\"14\" aria-hidden=\"true\"><path "
+            "class=\"%s\" d=\"M3 7h28\"/></svg>%s</span> ",
+            look, says);
 }
 
 /* A view of a ring and of the junctions that stand apart. */
-static void ring_view(FILE *to, const struct drawing *g, const struct ring *r, struct box b, const char *name, const char *says) {
+static void ring_view(FILE *to, const struct drawing *g, const struct ring *r, struct box b,
+                      const char *name, const char *says) {
     size_t k;
     fputs("<div class=\"half\"><div class=\"stage\">", to);
     view_open(to, g, box_shown(b, g), name, says);
@@ -54,7 +58,8 @@ static void ring_view(FILE *to, const struct drawing *g, const struct ring *r, s
 }
 
 /* One view of both where they are close together, and else one of each. */
-static void ring_views(FILE *to, const struct drawing *g, const struct ring *r, const char *ring, const char *cuts) {
+static void ring_views(FILE *to, const struct drawing *g, const struct ring *r, const char *ring,
+                       const char *cuts) {
     struct box around = box_empty(), cut = box_empty(), all;
     size_t k;
     for (k = 0; k < r->count; k++) box_trench(&around, g, r->row[k]);
@@ -80,20 +85,27 @@ void panel_ring(FILE *to, const struct drawing *g) {
     if (ring.len > 0) say(&ring, " ");
     ring_advice(&ring, &r);
     ring_groups(&cuts, &r, g->t);
-    fprintf(to, "<p class=\"count\"><b>%zu</b> marked, <b>%" PRIu32 "</b> junctions: %" PRIu32 " - 1 = %" PRIu32 "</p>\n", table_marks(g->t), g->t->n, g->t->n, g->t->n - 1);
+    fprintf(to,
+            "<p class=\"count\"><b>%zu</b> marked, <b>%" PRIu32 "</b> junctions: %" PRIu32
+            " - 1 = %" PRIu32 "</p>\n",
+            table_marks(g->t), g->t->n, g->t->n, g->t->n - 1);
     panel_plain(to, count.text);
     ring_views(to, g, &r, ring.text, cuts.text);
     fputs("<p class=\"key\">", to);
     sample(to, "plan", "marked");
     if (r.count > 0) sample(to, "ring", "marked, in a ring");
-    if (r.cuts > 0) fputs("<span><svg class=\"sample cut\" width=\"20\" height=\"20\" aria-hidden=\"true\"><circle cx=\"10\" cy=\"10\" r=\"7\"/></svg>stands apart</span>", to);
+    if (r.cuts > 0)
+        fputs("<span><svg class=\"sample cut\" width=\"20\" height=\"20\" "
+              "aria-hidden=\"true\"><circle cx=\"10\" cy=\"10\" r=\"7\"/></svg>stands apart</span>",
+              to);
     fputs("</p>\n", to);
     if (ring.len > 0) panel_plain(to, ring.text);
     if (cuts.len > 0) panel_plain(to, cuts.text);
     panel_verdict(to, g->t, table_cst(g->t));
 }
 
-/* The sentences of one trench that is left out: its sum struck through, the dearest trench compared. */
+/* The sentences of one trench that is left out: its sum struck through, the dearest trench
+   compared. */
 static void detour_sentences(FILE *to, const struct table *t, size_t i, const struct detour *d) {
     struct message words = {{0}, 0};
     char sum[FIGURES], dearest[FIGURES];
@@ -105,7 +117,8 @@ static void detour_sentences(FILE *to, const struct table *t, size_t i, const st
     detour_stops(&words, d->stop, d->count + 1);
     say(&words, ").");
     html_text(to, words.text);
-    fprintf(to, "<br><s>sum %s</s> does not count. Dearest: <b>%s</b> (trench %u). ", amount_figures(sum, d->sum), table_price(dearest, t, d->dearest), d->dearest);
+    fprintf(to, "<br><s>sum %s</s> does not count. Dearest: <b>%s</b> (trench %u). ",
+            amount_figures(sum, d->sum), table_price(dearest, t, d->dearest), d->dearest);
     words.len = 0;
     detour_compared(&words, t, i, d, table_plan_total(t));
     html_text(to, words.text);
@@ -135,19 +148,27 @@ static void detour_labels(FILE *to, const struct drawing *g, size_t i, const str
 static void detour_rule(FILE *to, const struct drawing *g, size_t i, const struct detour *d) {
     (void)g;
     (void)d;
-    fprintf(to, "#v%zu:checked~div .v%zu{display:block}#v%zu:checked~div .c%zu{background:#ffe08a}#v%zu:focus-visible~div .c%zu{outline:2px solid #222}\n", i, i, i, i, i, i);
+    fprintf(to,
+            "#v%zu:checked~div .v%zu{display:block}#v%zu:checked~div "
+            ".c%zu{background:#ffe08a}#v%zu:focus-visible~div .c%zu{outline:2px solid #222}\n",
+            i, i, i, i, i, i);
 }
 
 static void detour_name(FILE *to, const struct drawing *g, size_t i, const struct detour *d) {
     static const char *const says[STANDINGS] = {"saves", "equal", "stays out"};
     char price[FIGURES];
-    fprintf(to, "<label class=\"c%zu\" for=\"v%zu\">trench %zu: %s <small>%s</small></label>\n", i, i, i, table_price(price, g->t, i), says[d->standing]);
+    fprintf(to, "<label class=\"c%zu\" for=\"v%zu\">trench %zu: %s <small>%s</small></label>\n", i,
+            i, i, table_price(price, g->t, i), says[d->standing]);
 }
 
-static void detour_words(FILE *to, const struct drawing *g, size_t i, const struct detour *d) { detour_sentences(to, g->t, i, d); }
+static void detour_words(FILE *to, const struct drawing *g, size_t i, const struct detour *d) {
+    detour_sentences(to, g->t, i, d);
+}
 
-/* Does one thing for each trench that is left out: those that save first, those that are equal next. */
-static void each(FILE *to, const struct drawing *g, void (*act)(FILE *, const struct drawing *, size_t, const struct detour *)) {
+/* Does one thing for each trench that is left out: those that save first, those that are equal
+   next. */
+static void each(FILE *to, const struct drawing *g,
+                 void (*act)(FILE *, const struct drawing *, size_t, const struct detour *)) {
     static struct paths p;
     static struct detour d;
     size_t i;
@@ -155,7 +176,8 @@ static void each(FILE *to, const struct drawing *g, void (*act)(FILE *, const st
     p.from = 0;
     for (standing = CHEAPER; standing < STANDINGS; standing++)
         for (i = table_next(g->t, 0); i <= g->t->m; i = table_next(g->t, i))
-            if (g->t->mark[i - 1] != 1 && detour_of(&d, &p, g->t, i) && (int)d.standing == standing) act(to, g, i, &d);
+            if (g->t->mark[i - 1] != 1 && detour_of(&d, &p, g->t, i) && (int)d.standing == standing)
+                act(to, g, i, &d);
 }
 
 static int first_choice;
@@ -163,12 +185,15 @@ static int first_choice;
 static void detour_choice(FILE *to, const struct drawing *g, size_t i, const struct detour *d) {
     (void)g;
     (void)d;
-    fprintf(to, "<input type=\"radio\" name=\"view\" id=\"v%zu\"%s>", i, first_choice ? " checked" : "");
+    fprintf(to, "<input type=\"radio\" name=\"view\" id=\"v%zu\"%s>", i,
+            first_choice ? " checked" : "");
     first_choice = 0;
 }
 
 void panel_detours(FILE *to, const struct drawing *g) {
-    fputs("<p>Choose a trench that is left out. It is held against the dearest trench of its detour, and against nothing else.</p>\n<style>", to);
+    fputs("<p>Choose a trench that is left out. It is held against the dearest trench of its "
+          "detour, and against nothing else.</p>\n<style>",
+          to);
     each(to, g, detour_rule);
     fputs("</style>\n<div class=\"pick\">\n", to);
     first_choice = 1;
@@ -178,7 +203,9 @@ void panel_detours(FILE *to, const struct drawing *g) {
     fputs("</div>\n<div class=\"words\">\n", to);
     each(to, g, detour_words);
     fputs("</div>\n<div class=\"stage\">", to);
-    view_open(to, g, box_whole(g), "detour-view", "The network, with the plan, the trench that is left out and is chosen above, and its detour.");
+    view_open(to, g, box_whole(g), "detour-view",
+              "The network, with the plan, the trench that is left out and is chosen above, and "
+              "its detour.");
     plan(to, g, g->t);
     fputs("\n", to);
     each(to, g, detour_lines);
@@ -195,12 +222,14 @@ void panel_detours(FILE *to, const struct drawing *g) {
 }
 
 /* One of two networks: those of its trenches that the other has not are drawn in colour. */
-static void one_network(FILE *to, const struct drawing *g, struct box b, const struct table *t, const struct table *other, const char *name, const char *look) {
+static void one_network(FILE *to, const struct drawing *g, struct box b, const struct table *t,
+                        const struct table *other, const char *name, const char *look) {
     struct message core = {{0}, 0}, says = {{0}, 0};
     struct star_answer a = table_cst(t);
     char total[FIGURES];
     size_t i;
-    say(&core, a.kind == STAR_PASSED ? "Passed. Total %s." : "Total %s.", amount_figures(total, a.amount));
+    say(&core, a.kind == STAR_PASSED ? "Passed. Total %s." : "Total %s.",
+        amount_figures(total, a.amount));
     if (a.kind == STAR_PASSED && !a.only) say(&core, " Not the only cheapest network.");
     say(&says, "A cheapest network with a total of %s.", total);
     fputs("<div class=\"half\"><div class=\"stage\">", to);
@@ -227,7 +256,12 @@ void panel_equal(FILE *to, const struct drawing *g, const struct table *other) {
             else out = i;
         }
     say(&words, "Both reach every junction, and both cost the same: ");
-    if (out > 0 && in > 0) say_trench(&words, g->t, out), say(&words, " goes, and "), say_trench(&words, g->t, in), say(&words, " comes in");
+    if (out > 0 && in > 0) {
+        say_trench(&words, g->t, out);
+        say(&words, " goes, and ");
+        say_trench(&words, g->t, in);
+        say(&words, " comes in");
+    }
     say(&words, ". Neither is wrong.");
     panel_plain(to, words.text);
     fputs("<div class=\"two\">\n", to);
@@ -240,23 +274,36 @@ void panel_equal(FILE *to, const struct drawing *g, const struct table *other) {
     fputs("</p>\n", to);
 }
 
-/* A mark of the number line, above or below it, with its text to the left (-1) or to the right (1). */
+/* A mark of the number line, above or below it, with its text to the left (-1) or to the right
+   (1). */
 static void tick(FILE *to, double x, int above, int side, const char *look, const char *says) {
-    fprintf(to, "<path class=\"%s\" d=\"M%.0f 80v%d\"/><text class=\"tick\" x=\"%.0f\" y=\"%d\" text-anchor=\"%s\">%s</text>\n", look, x, above ? -22 : 22, x + 4 * side, above ? 50 : 120,
-            side < 0 ? "end" : "start", says);
+    fprintf(to,
+            "<path class=\"%s\" d=\"M%.0f 80v%d\"/><text class=\"tick\" x=\"%.0f\" y=\"%d\" "
+            "text-anchor=\"%s\">%s</text>\n",
+            look, x, above ? -22 : 22, x + 4 * side, above ? 50 : 120, side < 0 ? "end" : "start",
+            says);
 }
 
 void panel_limit(FILE *to, const struct table *t) {
     enum { LEFT = 130, STEP = 3 };
     struct message words = {{0}, 0}, says = {{0}, 0};
-    double last = LEFT + STEP * STAR_MAX_JUNCTIONS, own = t->n <= STAR_MAX_JUNCTIONS ? LEFT + (double)STEP * t->n : last + 90;
+    double last = LEFT + STEP * STAR_MAX_JUNCTIONS,
+           own = t->n <= STAR_MAX_JUNCTIONS ? LEFT + (double)STEP * t->n : last + 90;
     explain_limit(&words);
     panel_plain(to, words.text);
-    say(&says, "A number line: 0 is no junction, 1 to 255 are junctions, 256 has no code. This table has ");
+    say(&says, "A number line: 0 is no junction, 1 to 255 are junctions, 256 has no code. This "
+               "table has ");
     table_junctions(&says, t);
     say(&says, ".");
-    fprintf(to, "<div class=\"stage\"><svg id=\"limit-view\" role=\"img\" aria-labelledby=\"limit-view-says\" width=\"1060\" height=\"150\" viewBox=\"0 0 1060 150\"><title id=\"limit-view-says\">%s</title>\n", says.text);
-    fprintf(to, "<path class=\"plan\" d=\"M%d 80H%.0f\"/><path class=\"beyond\" d=\"M%.0f 80H%.0f\"/>\n", LEFT + STEP, last, last, last + 110);
+    fprintf(to,
+            "<div class=\"stage\"><svg id=\"limit-view\" role=\"img\" "
+            "aria-labelledby=\"limit-view-says\" width=\"1060\" height=\"150\" viewBox=\"0 0 1060 "
+            "150\"><title id=\"limit-view-says\">%s</title>\n",
+            says.text);
+    fprintf(
+        to,
+        "<path class=\"plan\" d=\"M%d 80H%.0f\"/><path class=\"beyond\" d=\"M%.0f 80H%.0f\"/>\n",
+        LEFT + STEP, last, last, last + 110);
     fprintf(to, "<path class=\"no\" d=\"M%d 74l12 12m0-12l-12 12\"/>", LEFT - 6);
     tick(to, LEFT, 1, -1, "other", "0: no junction");
     tick(to, LEFT + STEP, 1, 1, "plan", "1: the first junction");

@@ -9,7 +9,8 @@
 
 enum { PRICE_BYTES = 4, FIGURES = 24 };
 
-/* Stores the price that a word gives, as the door takes it; 0 if the word is no price. A price below 0 opens with -. */
+/* Stores the price that a word gives, as the door takes it; 0 if the word is no price. A price
+   below 0 opens with -. */
 int price_read(struct span word, uint8_t bytes[PRICE_BYTES]);
 
 /* The dearest price. */

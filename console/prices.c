@@ -120,9 +120,8 @@ static void say_breaking(struct message *to, const struct table *t, size_t i, in
     else say(to, " is in a cheapest network up to %s; above, ", figures[0]);
     if (instead > 0) say_trench(to, t, instead);
     else say(to, "another trench");
-    say(to, stays && breaking == STAR_MAX_PRICE ? " costs as much."
-            : stays                             ? " takes its place."
-                                                : " stands in its place.");
+    if (!stays) say(to, " stands in its place.");
+    else say(to, breaking == STAR_MAX_PRICE ? " costs as much." : " takes its place.");
     say_total(to, t);
     say(to, ", and %s at ", amount_figures(figures[1], total));
     say(to, breaking == STAR_MAX_PRICE ? "the price %s." : "any price from %s on.", figures[0]);

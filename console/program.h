@@ -6,7 +6,7 @@
 #include "table.h"
 
 struct program {
-    char *bytes;  /* all of it */
+    char *bytes; /* all of it */
     size_t len;
     size_t place; /* where the table goes */
 };

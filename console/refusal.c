@@ -1,4 +1,5 @@
-/* Says what is wrong, and where in the file it stands. A number without words of its own here gets those of star_refusal_text. */
+/* Says what is wrong, and where in the file it stands. A number without words of its own here gets
+   those of star_refusal_text. */
 #include "refusal.h"
 
 #include <inttypes.h>
@@ -7,7 +8,9 @@
 
 static struct refusal last;
 
-struct refusal refusal_last(void) { return last; }
+struct refusal refusal_last(void) {
+    return last;
+}
 
 void refusal_opens(struct message *to, unsigned number, const char *file, size_t line) {
     last.number = number;
@@ -30,18 +33,24 @@ void refusal_of_end(struct message *to, size_t trench, const struct span ends[2]
     say(to, "trench %zu joins junction %" PRIu32 " to itself.", trench, end);
 }
 
-void refusal_of_repeat(struct message *to, size_t trench, size_t earlier) { say(to, "trench %zu joins the same junctions as trench %zu.", trench, earlier); }
+void refusal_of_repeat(struct message *to, size_t trench, size_t earlier) {
+    say(to, "trench %zu joins the same junctions as trench %zu.", trench, earlier);
+}
 
 /* The first trench between the ends of trench i, in either direction. */
 static size_t first_between(const struct table *t, size_t i) {
     unsigned a = t->left[i - 1], b = t->right[i - 1];
     size_t k = table_next(t, 0);
-    while (k < i && !(t->left[k - 1] == a && t->right[k - 1] == b) && !(t->left[k - 1] == b && t->right[k - 1] == a)) k = table_next(t, k);
+    while (k < i && !(t->left[k - 1] == a && t->right[k - 1] == b) &&
+           !(t->left[k - 1] == b && t->right[k - 1] == a))
+        k = table_next(t, k);
     return k;
 }
 
-/* 'trench 3 ..' with its line where the table has it, and else 'there is no trench 9..; the table has 5.' */
-static void of_trench(struct message *to, const struct table *t, unsigned number, size_t trench, const char *word, const char *there, const char *purpose) {
+/* 'trench 3 ..' with its line where the table has it, and else 'there is no trench 9..; the table
+   has 5.' */
+static void of_trench(struct message *to, const struct table *t, unsigned number, size_t trench,
+                      const char *word, const char *there, const char *purpose) {
     int struck = trench >= 1 && trench <= t->m && trench <= KEPT;
     refusal_opens(to, number, t->file, struck ? t->row[trench - 1].line : 0);
     if (struck) {
@@ -70,10 +79,13 @@ void refusal_of_asked_junction(struct message *to, const struct table *t, const 
     say(to, ".");
 }
 
-int refusal_has_trench(const struct table *t, size_t trench) { return trench >= 1 && trench <= t->m && trench <= KEPT && !t->struck[trench - 1]; }
+int refusal_has_trench(const struct table *t, size_t trench) {
+    return trench >= 1 && trench <= t->m && trench <= KEPT && !t->struck[trench - 1];
+}
 
 static void junction_count(struct message *to, const struct table *t) {
-    say(to, t->count.line == 0 ? "no junction from 1 on is named" : t->told ? "the number of junctions is " : "the largest junction is ");
+    if (t->count.line == 0) say(to, "no junction from 1 on is named");
+    else say(to, t->told ? "the number of junctions is " : "the largest junction is ");
     say_word(to, t->count.text);
     say(to, "; from 1 to %d junctions are taken.", STAR_MAX_JUNCTIONS);
 }
@@ -100,7 +112,8 @@ void refusal_unnamed(struct message *to, const struct table *t) {
     uint32_t first = table_unnamed(t, 1), last;
     int runs = 0;
     if (first == 0) return;
-    say(to, "No trench%s names junction%s ", t->strikes > 0 ? " in use" : "", table_unnamed(t, first + 1) > 0 ? "s" : "");
+    say(to, "No trench%s names junction%s ", t->strikes > 0 ? " in use" : "",
+        table_unnamed(t, first + 1) > 0 ? "s" : "");
     for (; first > 0 && runs < RUNS; first = table_unnamed(t, last + 1), runs++) {
         last = first;
         while (table_unnamed(t, last + 1) == last + 1) last++;
@@ -115,46 +128,41 @@ void refusal_unnamed(struct message *to, const struct table *t) {
 
 void refusal_words(struct message *to, const struct table *t, struct star_answer a) {
     struct place none = {0, {NULL, 0}};
-    int of_trench = a.number == STAR_BAD_END || a.number == STAR_REPEATED_ROW || a.number == STAR_BAD_MARK;
+    int of_trench =
+        a.number == STAR_BAD_END || a.number == STAR_REPEATED_ROW || a.number == STAR_BAD_MARK;
     struct place at = of_trench && a.out >= 1 && a.out <= KEPT ? t->row[a.out - 1] : none;
     struct span ends[2];
     if (a.number == STAR_TOO_MANY_ROWS && t->m >= KEPT) at = t->row[KEPT - 1];
-    refusal_opens(to, a.number, t->file, a.number == STAR_BAD_JUNCTION_COUNT ? t->count.line : at.line);
+    refusal_opens(to, a.number, t->file,
+                  a.number == STAR_BAD_JUNCTION_COUNT ? t->count.line : at.line);
     last.place = a.out;
     switch (a.number) {
-    case STAR_BAD_JUNCTION_COUNT:
-        junction_count(to, t);
-        break;
+    case STAR_BAD_JUNCTION_COUNT: junction_count(to, t); break;
     case STAR_TOO_MANY_ROWS:
-        say(to, "there are %zu trenches%s; at most %d are taken, and trench %d stands in this line.", t->m, t->strikes > 0 ? ", struck ones included" : "", STAR_MAX_ROWS, KEPT);
+        say(to,
+            "there are %zu trenches%s; at most %d are taken, and trench %d stands in this line.",
+            t->m, t->strikes > 0 ? ", struck ones included" : "", STAR_MAX_ROWS, KEPT);
         break;
     case STAR_BAD_END:
         ends[0] = text_nth(at.text, 0);
         ends[1] = text_nth(at.text, 1);
         refusal_of_end(to, a.out, ends, t->n);
         break;
-    case STAR_REPEATED_ROW:
-        refusal_of_repeat(to, a.out, first_between(t, a.out));
-        break;
+    case STAR_REPEATED_ROW: refusal_of_repeat(to, a.out, first_between(t, a.out)); break;
     case STAR_BAD_MARK:
         say(to, "trench %u has the mark ", a.out);
         say_word(to, text_nth(at.text, 3));
         say(to, "; a mark is 0 or 1.");
         break;
-    case STAR_BAD_MARK_COUNT:
-        mark_count(to, t);
-        break;
+    case STAR_BAD_MARK_COUNT: mark_count(to, t); break;
     case STAR_NOT_JOINED:
         say(to, "the marked trenches do not reach junction %u from junction 1.", a.out);
         break;
-    case STAR_NO_NETWORK:
-        no_network(to, t);
-        break;
+    case STAR_NO_NETWORK: no_network(to, t); break;
     case STAR_TABLE_FULL:
         say(to, "all %d trenches are in use; strike one before another is added.", STAR_MAX_ROWS);
         break;
-    default:
-        say(to, "%s (place %u).", star_refusal_text(a.number), a.out);
+    default: say(to, "%s (place %u).", star_refusal_text(a.number), a.out);
     }
     if ((refusal_of_plan(a) || a.number == STAR_NO_NETWORK) && table_unnamed(t, 1) > 0) {
         say(to, " ");
@@ -166,4 +174,7 @@ void refusal_words(struct message *to, const struct table *t, struct star_answer
     }
 }
 
-int refusal_of_plan(struct star_answer a) { return a.kind == STAR_REFUSED && (a.number == STAR_BAD_MARK_COUNT || a.number == STAR_NOT_JOINED); }
+int refusal_of_plan(struct star_answer a) {
+    return a.kind == STAR_REFUSED &&
+           (a.number == STAR_BAD_MARK_COUNT || a.number == STAR_NOT_JOINED);
+}

@@ -31,7 +31,8 @@ int ring_nth(struct ring *r, const struct table *t, size_t k);
 /* '3 trenches are marked, and 4 junctions need 3: ..'. */
 void ring_count(struct message *to, const struct table *t);
 
-/* 'A ring: trenches 1, 2, 5 (1-2-3-1).' of the ring at hand, and what is to be done about it and others; nothing where there is none. */
+/* 'A ring: trenches 1, 2, 5 (1-2-3-1).' of the ring at hand, and what is to be done about it and
+   others; nothing where there is none. */
 void ring_words(struct message *to, const struct ring *r);
 void ring_advice(struct message *to, const struct ring *r);
 

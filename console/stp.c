@@ -26,7 +26,9 @@ static int opens_line(struct span text, size_t place) {
 }
 
 /* Whether a word that cannot stand stands where a line E has its price. */
-static int for_price(struct span line, struct span word) { return text_is(text_nth(line, 0), "E") && text_nth(line, 3).at == word.at; }
+static int for_price(struct span line, struct span word) {
+    return text_is(text_nth(line, 0), "E") && text_nth(line, 3).at == word.at;
+}
 
 static void broken(struct message *to, const char *file, struct span text, uint64_t place) {
     struct span rest = text, word;
@@ -48,7 +50,10 @@ static void broken(struct message *to, const char *file, struct span text, uint6
     text_word(&rest, &word);
     say(to, "the word ");
     say_quoted(to, word);
-    say(to, " cannot stand there%s.", opens_line(text, k) ? ", or the line before it ends too soon" : for_price(at.text, word) ? "; a price is " PRICE_TEXT : "");
+    say(to, " cannot stand there");
+    if (opens_line(text, k)) say(to, ", or the line before it ends too soon");
+    else if (for_price(at.text, word)) say(to, "; a price is %s", PRICE_TEXT);
+    say(to, ".");
 }
 
 /* What the section Graph of a text says. */
@@ -74,7 +79,8 @@ static struct place number_in(struct place at) {
     return at;
 }
 
-/* Looks up the lines of the section Graph in a text whose layout the door has found sound. `like` is an E line, or empty. */
+/* Looks up the lines of the section Graph in a text whose layout the door has found sound. `like`
+   is an E line, or empty. */
 static struct graph graph_of(struct span text, uint64_t wanted, struct span like) {
     struct graph g = {{0, {NULL, 0}}, {0, {NULL, 0}}, {0, {NULL, 0}}, 0, 0};
     struct place at = {0, {NULL, 0}};
@@ -82,8 +88,9 @@ static struct graph graph_of(struct span text, uint64_t wanted, struct span like
     while (text_line(&text, &at.text)) {
         struct span first = text_nth(at.text, 0), second = text_nth(at.text, 1);
         at.line++;
-        if (section == BETWEEN) section = !text_is(first, "SECTION") ? BETWEEN : text_is(second, "GRAPH") ? GRAPH : OTHER;
-        else if (text_is(first, "END") && second.len == 0) section = BETWEEN;
+        if (section == BETWEEN) {
+            if (text_is(first, "SECTION")) section = text_is(second, "GRAPH") ? GRAPH : OTHER;
+        } else if (text_is(first, "END") && second.len == 0) section = BETWEEN;
         else if (section == GRAPH && text_is(first, "NODES")) g.nodes = number_in(at);
         else if (section == GRAPH && text_is(first, "EDGES")) g.edges = number_in(at);
         else if (section == GRAPH && text_is(first, "E")) {
@@ -94,7 +101,8 @@ static struct graph graph_of(struct span text, uint64_t wanted, struct span like
     return g;
 }
 
-static void refused(struct message *to, const char *file, struct span text, struct star_imported a) {
+static void refused(struct message *to, const char *file, struct span text,
+                    struct star_imported a) {
     struct span none = {NULL, 0}, ends[2];
     struct graph g = graph_of(text, a.number == STAR_TOO_MANY_ROWS ? KEPT : a.place, none);
     uint32_t n = 0;
@@ -114,7 +122,8 @@ static void refused(struct message *to, const char *file, struct span text, stru
         break;
     case STAR_TOO_MANY_ROWS:
         refusal_opens(to, a.number, file, g.wanted.line);
-        say(to, "there are %zu E lines; at most %d are taken, and E line %d is this one.", g.rows, STAR_MAX_ROWS, KEPT);
+        say(to, "there are %zu E lines; at most %d are taken, and E line %d is this one.", g.rows,
+            STAR_MAX_ROWS, KEPT);
         break;
     case STAR_BAD_END:
         refusal_opens(to, a.number, file, g.wanted.line);
@@ -136,8 +145,8 @@ static void refused(struct message *to, const char *file, struct span text, stru
 int stp_read(struct table *t, struct span text, struct message *fault) {
     uint8_t answer[STAR_ANSWER_BYTES];
     struct star_imported a;
-    star_import((const uint8_t *)text.at, text.len, t->left, STAR_MAX_ROWS, t->right, STAR_MAX_ROWS, t->weight, PRICE_BYTES * STAR_MAX_ROWS, answer,
-                sizeof answer);
+    star_import((const uint8_t *)text.at, text.len, t->left, STAR_MAX_ROWS, t->right, STAR_MAX_ROWS,
+                t->weight, PRICE_BYTES * STAR_MAX_ROWS, answer, sizeof answer);
     a = star_read_imported(answer);
     if (a.kind == STAR_PASSED) {
         t->n = a.n;

@@ -8,7 +8,8 @@
 #include "star.h"
 #include "text.h"
 
-/* Trenches that are kept: one more than are taken, so that the door sees that there are too many. */
+/* Trenches that are kept: one more than are taken, so that the door sees that there are too
+   many. */
 enum { KEPT = STAR_MAX_ROWS + 1 };
 
 /* The numbers of the longest list of steps. */
@@ -20,30 +21,36 @@ struct trench {
 };
 
 struct table {
-    const char *file;    /* the file's name, for messages; NULL for none */
-    uint32_t n;          /* junctions */
-    size_t m;            /* trenches in the file; those after the first KEPT are counted and not kept */
-    uint8_t left[KEPT];  /* a junction above 255 is stored as 0, which the door refuses */
+    const char *file;   /* the file's name, for messages; NULL for none */
+    uint32_t n;         /* junctions */
+    size_t m;           /* trenches in the file; those after the first KEPT are counted and not
+                           kept */
+    uint8_t left[KEPT]; /* a junction above 255 is stored as 0, which the door refuses */
     uint8_t right[KEPT];
     uint8_t weight[PRICE_BYTES * KEPT];
-    uint8_t mark[KEPT];  /* a mark above 255 is stored as 255, which the door refuses; 0 at a struck trench */
-    uint8_t struck[KEPT]; /* whether the trench is struck: then it keeps its number and is left out of everything */
-    size_t strikes;      /* struck trenches in the file */
+    uint8_t mark[KEPT]; /* a mark above 255 is stored as 255, which the door refuses; 0 at a struck
+                           trench */
+    uint8_t struck[KEPT]; /* whether the trench is struck: then it keeps its number and is left out
+                             of everything */
+    size_t strikes;       /* struck trenches in the file */
     struct place row[KEPT]; /* the line of each trench, without its comment */
-    struct place count;  /* the number in the line 'junctions N', else the largest junction named; line 0 if there is neither */
-    int told;            /* whether a line 'junctions N' stands in the file */
-    struct span text;    /* the file, for the commands that change it or hand it to a door */
-    size_t order_mark;   /* the bytes of a byte order mark, which stand before the text */
-    int stp;             /* whether the file is an STP text */
+    struct place count; /* the number in the line 'junctions N', else the largest junction named;
+                           line 0 if there is neither */
+    int told;           /* whether a line 'junctions N' stands in the file */
+    struct span text;   /* the file, for the commands that change it or hand it to a door */
+    size_t order_mark;  /* the bytes of a byte order mark, which stand before the text */
+    int stp;            /* whether the file is an STP text */
 };
 
-/* Reads the planner's table. Where lines cannot stand it says what is wrong with each of the first twenty and how many more there are, and returns 0. */
+/* Reads the planner's table. Where lines cannot stand it says what is wrong with each of the first
+   twenty and how many more there are, and returns 0. */
 int table_read(struct table *t, struct span text, struct message *fault);
 
 /* Writes a table that was read from an STP file as one that table_read takes. */
 void table_write(FILE *to, const struct table *t);
 
-/* The first trench in use after trench i; one more than there are trenches where there is none. The number of trenches in use. */
+/* The first trench in use after trench i; one more than there are trenches where there is none. The
+   number of trenches in use. */
 size_t table_next(const struct table *t, size_t i);
 size_t table_used(const struct table *t);
 
@@ -54,31 +61,39 @@ uint32_t table_unnamed(const struct table *t, uint32_t from);
 struct star_answer table_cst(const struct table *t);
 struct star_answer table_other(const struct table *t);
 struct star_answer table_mst1(struct table *t);
-struct star_answer table_paths(const struct table *t, uint32_t from, uint64_t *matrix, size_t words);
+struct star_answer table_paths(const struct table *t, uint32_t from, uint64_t *matrix,
+                               size_t words);
 struct star_quoted table_quote(const struct table *t, size_t i, const uint8_t price[PRICE_BYTES]);
 struct star_answer table_breaking(const struct table *t, size_t i);
 
-/* Writes the dig list of the table, or of the STP text that it was read from, and answers its length as the amount. */
+/* Writes the dig list of the table, or of the STP text that it was read from, and answers its
+   length as the amount. */
 struct star_answer table_digs(const struct table *t, uint8_t *text, size_t len);
 
-/* Which of two marked tables costs less: 1 the first, 2 the second, 0 none where one is refused. They are the same but for their marks. */
+/* Which of two marked tables costs less: 1 the first, 2 the second, 0 none where one is refused.
+   They are the same but for their marks. */
 uint32_t table_which(const struct table *first, const struct table *second, struct star_answer *a);
 
-/* The total of a plan: that of star_which, asked about the plan and itself. Of marks that are no network it is the console's own sum. */
+/* The total of a plan: that of star_which, asked about the plan and itself. Of marks that are no
+   network it is the console's own sum. */
 int64_t table_plan_total(const struct table *t);
 
-/* The doors that make a plan, whose marks the table has afterwards: of at most eight districts, given by the numbers of their last trenches, with the
-   trenches of each in forests; of any marks, with the steps; with exactly `count` trenches at a junction. */
-struct star_answer table_districts(struct table *t, const uint32_t *ends, size_t count, uint8_t forests[KEPT]);
+/* The doors that make a plan, whose marks the table has afterwards: of at most eight districts,
+   given by the numbers of their last trenches, with the trenches of each in forests; of any marks,
+   with the steps; with exactly `count` trenches at a junction. */
+struct star_answer table_districts(struct table *t, const uint32_t *ends, size_t count,
+                                   uint8_t forests[KEPT]);
 struct star_answer table_mend(struct table *t, struct star_record records[RECORDS]);
 struct star_answer table_outlets(struct table *t, uint32_t junction, uint32_t count);
 
-/* The doors that change a table, over a copy of it: numbers has 1,024. A struck trench is remembered in the table. */
+/* The doors that change a table, over a copy of it: numbers has 1,024. A struck trench is
+   remembered in the table. */
 struct star_answer table_strike(struct table *t, size_t i);
 struct star_answer table_add(const struct table *t, const struct trench *new, uint32_t *numbers);
 struct star_answer table_merge(const struct table *t, uint32_t *numbers);
 
-/* Writes a line for each trench in use from one number to another that is marked 1 in a column, and gives the sum of their prices. */
+/* Writes a line for each trench in use from one number to another that is marked 1 in a column, and
+   gives the sum of their prices. */
 int64_t table_list(FILE *to, const struct table *t, const uint8_t *mark, size_t from, size_t last);
 
 /* Says the number of junctions; one that is above all that are read as it stands in the file. */

@@ -84,7 +84,8 @@ void say_place(struct message *to, const char *file, size_t line) {
 void say_word(struct message *to, struct span s) {
     size_t k;
     for (k = 0; k < s.len && k < QUOTED; k++)
-        if ((s.at[k] >= ' ' && s.at[k] < 127) || s.at[k] == '\t') say(to, "%c", s.at[k] == '\t' ? ' ' : s.at[k]);
+        if ((s.at[k] >= ' ' && s.at[k] < 127) || s.at[k] == '\t')
+            say(to, "%c", s.at[k] == '\t' ? ' ' : s.at[k]);
         else say(to, "\\x%02x", (unsigned)(unsigned char)s.at[k]);
     if (k < s.len) say(to, "..");
 }
@@ -100,4 +101,6 @@ void say_given(struct message *to, const char *word) {
     say_word(to, s);
 }
 
-void say_count(struct message *to, size_t count, const char *one, const char *more) { say(to, "%zu %s", count, count == 1 ? one : more); }
+void say_count(struct message *to, size_t count, const char *one, const char *more) {
+    say(to, "%zu %s", count, count == 1 ? one : more);
+}

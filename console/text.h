@@ -16,7 +16,8 @@ struct place {
     struct span text;
 };
 
-/* Takes the next line off the front of rest, without its end; 0 if nothing is left. LF, CR, or CR and LF together, end a line. */
+/* Takes the next line off the front of rest, without its end; 0 if nothing is left. LF, CR, or CR
+   and LF together, end a line. */
 int text_line(struct span *rest, struct span *line);
 
 /* Takes the next word off the front of rest; 0 if none is left. Blanks and line ends part words. */
@@ -31,7 +32,8 @@ int text_is(struct span word, const char *name);
 /* A decimal number, digits alone; 0 if the word is none. Above 4294967295 it is taken as that. */
 int text_number(struct span word, uint32_t *value);
 
-/* A message that is put together; what does not fit is left out. The longest tells of twenty lines of a file. */
+/* A message that is put together; what does not fit is left out. The longest tells of twenty lines
+   of a file. */
 enum { MESSAGE = 16384 };
 struct message {
     char text[MESSAGE];
@@ -43,7 +45,8 @@ void say(struct message *to, const char *format, ...);
 /* 'FILE:LINE: ', or 'FILE: ' for line 0; nothing where there is no name. */
 void say_place(struct message *to, const char *file, size_t line);
 
-/* A piece of a text, cut after 40 bytes; bytes that cannot be printed stand as \xNN. Quoted: in quotation marks. */
+/* A piece of a text, cut after 40 bytes; bytes that cannot be printed stand as \xNN. Quoted: in
+   quotation marks. */
 void say_word(struct message *to, struct span s);
 void say_quoted(struct message *to, struct span s);
 

@@ -1,7 +1,8 @@
-/* Finds a junction that cannot be reached, by asking the builder. Rows from junction 1 to every junction are put behind the table's own, at the
-   dearest price. The builder then chooses one of them only where no trench leads on, so those chosen end at the smallest junction of each
-   part that trenches do not join to junction 1. The table is handed over piece by piece, since these rows need room: of each piece the
-   chosen trenches are kept, which join what the piece joins. */
+/* Finds a junction that cannot be reached, by asking the builder. Rows from junction 1 to every
+   junction are put behind the table's own, at the dearest price. The builder then chooses one of
+   them only where no trench leads on, so those chosen end at the smallest junction of each part
+   that trenches do not join to junction 1. The table is handed over piece by piece, since these
+   rows need room: of each piece the chosen trenches are kept, which join what the piece joins. */
 #include "unreached.h"
 
 #include <string.h>
@@ -43,7 +44,8 @@ unsigned unreached(const struct table *t) {
         for (i = own, least = 0; i < part.m; i++)
             if (part.mark[i] == 1 && (least == 0 || part.right[i] < least)) least = part.right[i];
         for (i = 0, part.m = 0; i < own; i++)
-            if (part.mark[i] == 1) add(&part, part.left[i], part.right[i], part.weight + PRICE_BYTES * i);
+            if (part.mark[i] == 1)
+                add(&part, part.left[i], part.right[i], part.weight + PRICE_BYTES * i);
     } while (next <= t->m);
     return least;
 }

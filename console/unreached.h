@@ -4,7 +4,8 @@
 
 #include "table.h"
 
-/* The smallest junction that no trenches join to junction 1; 0 if there is none. The table is one that the builder refused 11. */
+/* The smallest junction that no trenches join to junction 1; 0 if there is none. The table is one
+   that the builder refused 11. */
 unsigned unreached(const struct table *t);
 
 #endif

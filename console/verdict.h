@@ -25,7 +25,8 @@ void verdict_words(struct message *to, const struct table *t, struct star_answer
    saved at most. Nothing of any other plan. */
 void verdict_gap(struct message *to, const struct table *t, struct star_answer a);
 
-/* Which commands go on from here, a line each; nothing of a plan that passed or of a table that is refused. */
+/* Which commands go on from here, a line each; nothing of a plan that passed or of a table that is
+   refused. */
 void verdict_next(struct message *to, const struct table *t, struct star_answer a);
 
 /* 'passed', 'cheaper' or 'refused'; and the same as verdict_words and verdict_gap as keys of an

@@ -5,7 +5,14 @@
 
 #include "picture.h"
 
-enum { AROUND = 70, SMALL = 900, LEAST_WIDE = 520, LEAST_HIGH = 360, CLOSE_WIDE = 1100, CLOSE_HIGH = 660 };
+enum {
+    AROUND = 70,
+    SMALL = 900,
+    LEAST_WIDE = 520,
+    LEAST_HIGH = 360,
+    CLOSE_WIDE = 1100,
+    CLOSE_HIGH = 660
+};
 
 void html_text(FILE *to, const char *text) {
     for (; *text; text++)
@@ -26,10 +33,12 @@ void drawing_place(struct drawing *g, const struct table *t, const char *id) {
     g->t = t;
     g->id = id;
     layout_sheet(&g->l, t);
-    for (i = table_next(t, 0); i <= t->m; i = table_next(t, i)) g->l.trench[i - 1].heavy = t->mark[i - 1] == 1;
+    for (i = table_next(t, 0); i <= t->m; i = table_next(t, i))
+        g->l.trench[i - 1].heavy = t->mark[i - 1] == 1;
     for (marked = 1; marked >= 0; marked--)
         for (i = table_next(t, 0); i <= t->m; i = table_next(t, i))
-            if ((t->mark[i - 1] == 1) == marked) layout_label(&g->l, t, i, picture_label(text, sizeof text, t, i));
+            if ((t->mark[i - 1] == 1) == marked)
+                layout_label(&g->l, t, i, picture_label(text, sizeof text, t, i));
 }
 
 static void define_labels(FILE *to, const struct drawing *g) {
@@ -39,8 +48,11 @@ static void define_labels(FILE *to, const struct drawing *g) {
         const struct label *own = &g->l.label[i - 1];
         if (!own->shown) continue;
         picture_label(text, sizeof text, g->t, i);
-        fprintf(to, "<g id=\"%s-l%zu\"><rect class=\"ground\" x=\"%.1f\" y=\"%.1f\" width=\"%.1f\" height=\"%d\"/><text class=\"label\" x=\"%.1f\" y=\"%.1f\">%s</text></g>\n", g->id, i,
-                own->at.x - own->width / 2, own->at.y - LABEL_HEIGHT / 2.0, own->width, LABEL_HEIGHT, own->at.x, own->at.y + LABEL_FONT * 0.36, text);
+        fprintf(to,
+                "<g id=\"%s-l%zu\"><rect class=\"ground\" x=\"%.1f\" y=\"%.1f\" width=\"%.1f\" "
+                "height=\"%d\"/><text class=\"label\" x=\"%.1f\" y=\"%.1f\">%s</text></g>\n",
+                g->id, i, own->at.x - own->width / 2, own->at.y - LABEL_HEIGHT / 2.0, own->width,
+                LABEL_HEIGHT, own->at.x, own->at.y + LABEL_FONT * 0.36, text);
     }
 }
 
@@ -50,12 +62,16 @@ void drawing_define(FILE *to, const struct drawing *g) {
     fprintf(to, "<g id=\"%s-lines\">\n", g->id);
     for (i = table_next(g->t, 0); i <= g->t->m; i = table_next(g->t, i)) {
         const struct curve *c = &g->l.trench[i - 1];
-        fprintf(to, "<path id=\"%s-t%zu\" d=\"M%.1f %.1fQ%.1f %.1f %.1f %.1f\"/>\n", g->id, i, c->from.x, c->from.y, c->bend.x, c->bend.y, c->to.x, c->to.y);
+        fprintf(to, "<path id=\"%s-t%zu\" d=\"M%.1f %.1fQ%.1f %.1f %.1f %.1f\"/>\n", g->id, i,
+                c->from.x, c->from.y, c->bend.x, c->bend.y, c->to.x, c->to.y);
     }
     fprintf(to, "</g>\n<g id=\"%s-tops\">\n", g->id);
     for (v = 1; v <= g->t->n; v++)
-        fprintf(to, "<g id=\"%s-j%u\"><circle cx=\"%.1f\" cy=\"%.1f\" r=\"%.0f\"/><text class=\"name\" x=\"%.1f\" y=\"%.1f\">%u</text></g>\n", g->id, (unsigned)v, g->l.at[v].x, g->l.at[v].y, g->l.dot,
-                g->l.at[v].x, g->l.at[v].y + g->l.dot * 0.33, (unsigned)v);
+        fprintf(to,
+                "<g id=\"%s-j%u\"><circle cx=\"%.1f\" cy=\"%.1f\" r=\"%.0f\"/><text class=\"name\" "
+                "x=\"%.1f\" y=\"%.1f\">%u</text></g>\n",
+                g->id, (unsigned)v, g->l.at[v].x, g->l.at[v].y, g->l.dot, g->l.at[v].x,
+                g->l.at[v].y + g->l.dot * 0.33, (unsigned)v);
     define_labels(to, g);
     fprintf(to, "</g>\n");
 }
@@ -87,15 +103,27 @@ void box_junction(struct box *b, const struct drawing *g, unsigned v) { include(
 /* Widens a side to a least length, and keeps it on the sheet. */
 static void side(double *from, double *to, double least, double sheet) {
     double more = (least - (*to - *from)) / 2;
-    if (more > 0) *from -= more, *to += more;
-    if (*from < 0) *to -= *from, *from = 0;
-    if (*to > sheet) *from -= *to - sheet, *to = sheet;
+    if (more > 0) {
+        *from -= more;
+        *to += more;
+    }
+    if (*from < 0) {
+        *to -= *from;
+        *from = 0;
+    }
+    if (*to > sheet) {
+        *from -= *to - sheet;
+        *to = sheet;
+    }
     if (*from < 0) *from = 0;
 }
 
 struct box box_shown(struct box b, const struct drawing *g) {
     if (b.right < b.left || (g->l.width <= SMALL && g->l.height <= SMALL)) return box_whole(g);
-    b.left -= AROUND, b.right += AROUND, b.top -= AROUND, b.bottom += AROUND;
+    b.left -= AROUND;
+    b.right += AROUND;
+    b.top -= AROUND;
+    b.bottom += AROUND;
     side(&b.left, &b.right, LEAST_WIDE, g->l.width);
     side(&b.top, &b.bottom, LEAST_HIGH, g->l.height);
     return b;
@@ -106,18 +134,28 @@ int box_close(struct box b, const struct drawing *g) {
     return b.right - b.left <= CLOSE_WIDE && b.bottom - b.top <= CLOSE_HIGH;
 }
 
-void view_open(FILE *to, const struct drawing *g, struct box b, const char *name, const char *says) {
-    fprintf(to, "<svg id=\"%s\" role=\"img\" aria-labelledby=\"%s-says\" width=\"%.0f\" height=\"%.0f\" viewBox=\"%.0f %.0f %.0f %.0f\">\n<title id=\"%s-says\">", name, name, b.right - b.left,
-            b.bottom - b.top, b.left, b.top, b.right - b.left, b.bottom - b.top, name);
+void view_open(FILE *to, const struct drawing *g, struct box b, const char *name,
+               const char *says) {
+    fprintf(to,
+            "<svg id=\"%s\" role=\"img\" aria-labelledby=\"%s-says\" width=\"%.0f\" "
+            "height=\"%.0f\" viewBox=\"%.0f %.0f %.0f %.0f\">\n<title id=\"%s-says\">",
+            name, name, b.right - b.left, b.bottom - b.top, b.left, b.top, b.right - b.left,
+            b.bottom - b.top, name);
     html_text(to, says);
     fprintf(to, "</title>\n<use href=\"#%s-lines\" class=\"other\"/>\n", g->id);
 }
 
-void view_trench(FILE *to, const struct drawing *g, size_t i, const char *look) { fprintf(to, "<use href=\"#%s-t%zu\" class=\"%s\"/>", g->id, i, look); }
+void view_trench(FILE *to, const struct drawing *g, size_t i, const char *look) {
+    fprintf(to, "<use href=\"#%s-t%zu\" class=\"%s\"/>", g->id, i, look);
+}
 
-void view_tops(FILE *to, const struct drawing *g) { fprintf(to, "\n<use href=\"#%s-tops\"/>\n", g->id); }
+void view_tops(FILE *to, const struct drawing *g) {
+    fprintf(to, "\n<use href=\"#%s-tops\"/>\n", g->id);
+}
 
-void view_junction(FILE *to, const struct drawing *g, unsigned v, const char *look) { fprintf(to, "<use href=\"#%s-j%u\" class=\"%s\"/>", g->id, v, look); }
+void view_junction(FILE *to, const struct drawing *g, unsigned v, const char *look) {
+    fprintf(to, "<use href=\"#%s-j%u\" class=\"%s\"/>", g->id, v, look);
+}
 
 void view_label(FILE *to, const struct drawing *g, size_t i) {
     if (g->l.label[i - 1].shown) fprintf(to, "<use href=\"#%s-l%zu\" class=\"strong\"/>", g->id, i);

@@ -1,4 +1,5 @@
-/* Pictures in a page. A network is drawn once, and every view of it uses that drawing and lays its own lines over it. */
+/* Pictures in a page. A network is drawn once, and every view of it uses that drawing and lays its
+   own lines over it. */
 #ifndef CONSOLE_VIEWS_H
 #define CONSOLE_VIEWS_H
 
@@ -19,7 +20,8 @@ struct box {
 void drawing_place(struct drawing *g, const struct table *t, const char *id);
 void drawing_define(FILE *to, const struct drawing *g);
 
-/* The whole sheet; and the part around trenches and junctions that are added one by one to an empty box. Small sheets are shown whole. */
+/* The whole sheet; and the part around trenches and junctions that are added one by one to an empty
+   box. Small sheets are shown whole. */
 struct box box_whole(const struct drawing *g);
 struct box box_empty(void);
 void box_trench(struct box *b, const struct drawing *g, size_t i);
@@ -29,7 +31,8 @@ struct box box_shown(struct box b, const struct drawing *g);
 /* Whether what is shown of a box is seen at one glance. */
 int box_close(struct box b, const struct drawing *g);
 
-/* A view: what it shows in words; its heavy lines, junctions, and labels; the drawing's own junctions and labels go between. */
+/* A view: what it shows in words; its heavy lines, junctions, and labels; the drawing's own
+   junctions and labels go between. */
 void view_open(FILE *to, const struct drawing *g, struct box b, const char *name, const char *says);
 void view_trench(FILE *to, const struct drawing *g, size_t i, const char *look);
 void view_tops(FILE *to, const struct drawing *g);
@@ -37,7 +40,8 @@ void view_junction(FILE *to, const struct drawing *g, unsigned v, const char *lo
 void view_label(FILE *to, const struct drawing *g, size_t i);
 void view_close(FILE *to);
 
-/* Letters of a text, those that mean something else in HTML and SVG written so that they do not; line ends as breaks. */
+/* Letters of a text, those that mean something else in HTML and SVG written so that they do not;
+   line ends as breaks. */
 void html_text(FILE *to, const char *text);
 
 /* The same for the value of an attribute, between double quotes. */

@@ -6,7 +6,7 @@
 
 #include "star.h"
 
-#define LENT(column) (column), sizeof (column)
+#define LENT(column) (column), sizeof(column)
 #define COLUMNS(t) LENT((t)->left), LENT((t)->right), LENT((t)->weight)
 #define ROWS(t) (t)->n, (t)->in_use, STAR_COLUMN_WORDS, COLUMNS(t)
 #define ANSWER(a) LENT(a)

@@ -1,4 +1,5 @@
-/* The part of the library that is written in C: its version, and the refusals in words. It stands beside the proved procedures in libstar.a. */
+/* The part of the library that is written in C: its version, and the refusals in words. It stands
+   beside the proved procedures in libstar.a. */
 #include "star.h"
 
 const char *star_version(void) { return STAR_VERSION; }
@@ -9,16 +10,20 @@ static const char *const TEXTS[] = {
     [STAR_BAD_JUNCTION_COUNT] = "the number of junctions is 0 or above 255",
     [STAR_TOO_MANY_ROWS] = "there are more than 1024 rows",
     [STAR_BAD_LENGTHS] = "the columns have not the lengths that belong together",
-    [STAR_BAD_END] = "a row has an end that is 0 or above the number of junctions, or two equal ends",
+    [STAR_BAD_END] =
+        "a row has an end that is 0 or above the number of junctions, or two equal ends",
     [STAR_BAD_MARK] = "a mark is neither 0 nor 1",
-    [STAR_BAD_SOURCE] = "the junction asked about is 0 or above the number of junctions, or the row asked about is not in use",
+    [STAR_BAD_SOURCE] = "the junction asked about is 0 or above the number of junctions, or the "
+                        "row asked about is not in use",
     [STAR_SHORT_MATRIX] = "the path matrix has fewer than 16 words for each junction",
     [STAR_BAD_MARK_COUNT] = "the marked rows are not one fewer than the junctions",
     [STAR_NOT_JOINED] = "the marked rows do not join all junctions",
     [STAR_NO_NETWORK] = "no set of rows joins every junction",
-    [STAR_BAD_TEXT] = "the text is longer than 65536 bytes or breaks the layout of its kind of file",
+    [STAR_BAD_TEXT] =
+        "the text is longer than 65536 bytes or breaks the layout of its kind of file",
     [STAR_BAD_EDGE_COUNT] = "the E lines are not as many as the line Edges says",
-    [STAR_BAD_RUNS] = "the ends of the runs are more than eight, do not rise, or do not close with the last row",
+    [STAR_BAD_RUNS] =
+        "the ends of the runs are more than eight, do not rise, or do not close with the last row",
     [STAR_REPEATED_ROW] = "a row joins the same two junctions as an earlier row",
     [STAR_SHORT_RECORDS] = "the list has fewer than two records for each row",
     [STAR_TABLE_FULL] = "a row is added, and all 1024 are in use",
@@ -26,4 +31,7 @@ static const char *const TEXTS[] = {
     [STAR_NO_OUTLETS] = "no network has exactly this number of rows at the junction",
 };
 
-const char *star_refusal_text(unsigned number) { return number < sizeof TEXTS / sizeof TEXTS[0] && TEXTS[number] ? TEXTS[number] : "a refusal without a text"; }
+const char *star_refusal_text(unsigned number) {
+    return number < sizeof TEXTS / sizeof TEXTS[0] && TEXTS[number] ? TEXTS[number]
+                                                                    : "a refusal without a text";
+}

@@ -1,50 +1,59 @@
-/* The doors to the verified core: the tree checker and the tree builder, paths, quotes, breaking prices, which of two
- * plans stands, districts, mending, outlets, dig lists, working tables, and the reader of STP texts.
+/* The doors to the verified core: the tree checker and the tree builder, paths, quotes, breaking
+ * prices, which of two plans stands, districts, mending, outlets, dig lists, working tables, and
+ * the reader of STP texts.
  *
- * A table has n junctions, numbered 1 to n, and m rows, counted from 1. A row joins two junctions at a price:
+ * A table has n junctions, numbered 1 to n, and m rows, counted from 1. A row joins two junctions
+ * at a price:
  *   left, right   one byte a row, the two junctions
- *   weight        four bytes a row, the price in two's complement, least significant byte first: a whole number from
- *                 -2,147,483,648 to 2,147,483,647, below 0 where a grant exceeds the cost. Any four bytes are a price;
- *                 star_put_price packs one, and star_get_price reads it
+ *   weight        four bytes a row, the price in two's complement, least significant byte first: a
+ *                 whole number from -2,147,483,648 to 2,147,483,647, below 0 where a grant exceeds
+ *                 the cost. Any four bytes are a price; star_put_price packs one, and
+ *                 star_get_price reads it
  *   mark          one byte a row, 1 for a marked row and 0 for any other: the claim
- * m is the length of the left column. Two rows never join the same two junctions: such a table is refused.
+ * m is the length of the left column. Two rows never join the same two junctions: such a table is
+ * refused.
  *
- * star_cst    judges the claim and writes nothing but the answer; a pass says whether the claim is the only cheapest network.
- * star_other  answers as star_cst; where another network costs the same, it names an exchange of two rows that gives one.
+ * star_cst    judges the claim; a pass says whether it is the only cheapest network.
+ * star_other  answers as star_cst; it names two rows whose exchange gives another of that cost.
  * star_mst1   builds a least network and marks its rows; it does not read the marks it was lent.
  * star_paths  finds the rows between one junction and each other, along a claim that is a tree.
  * star_quote  gives the least total before and after one row has a new price; it takes no marks.
  * star_breaking gives the price above which a row is in no least network; it takes no marks.
  * star_which  says which of two claims over one table costs less.
- * star_digs   writes the dig list of a least network; it takes no marks. star_digs_text does so from an STP text.
+ * star_digs   writes the dig list of a least network; it takes no marks.
+ * star_digs_text  writes the dig list of an STP text.
  * star_import reads a SteinLib STP text into columns of 1,024 rows; it has no marks.
- * star_districts  finds the least trenches of each run of the rows, and a least network from these alone.
+ * star_districts  finds the least rows of each run of the rows, and a least network from them.
  * star_mend       turns any claim into a least network, and lists each step.
- * star_outlets    builds a network that is least among those with an exact number of rows at one junction.
+ * star_outlets    builds a network, least of those with an exact number of rows at a junction.
  *
- * A working table is one in which rows are struck out and entered. All its columns have 1,024 rows, marks too, and sixteen words say which
- * of them are in use (star_in_use): the rows in use are the table, and what stands in the others is not looked at.
+ * A working table is one in which rows are struck out and entered. All its columns have 1,024 rows,
+ * marks too, and sixteen words say which of them are in use (star_in_use): the rows in use are the
+ * table, and what stands in the others is not looked at.
  *
- * star_work_X   answers as star_X, over the rows in use (cst, other, mst1, paths, quote, breaking, which, digs, districts, mend, outlets). What is
- *               said below of star_X holds of it too.
+ * star_work_X   answers as star_X, over the rows in use (cst, other, mst1, paths, quote, breaking,
+ *               which, digs, districts, mend, outlets). What is said below of star_X holds of it
+ *               too.
  * star_strike   takes a row out of use.
  * star_add      enters a row after the last one in use.
  * star_merge    packs the rows in use to the top, and says where each one went.
  * star_carry    moves marks to where their rows went.
  *
- * Each returns 1 with the verdict in the sixteen bytes of the answer (star_quote: twenty-four), or 0 if the lent answer has
- * another length (star_digs, star_digs_text: or the lent text fewer than 6,370 bytes); then nothing is written anywhere.
- * star_which returns 1 for the first claim, 2 for the second, and 0 on a refusal too. Every other input is taken, whatever its
- * bytes and lengths: a fault is told as a refusal with its number and place, and a refused call leaves the marks, the matrix,
- * the columns lent to star_import, the dig list's text, the forests, the records, and the working table and the numbers lent
- * to star_strike, star_add and star_merge, as they were.
+ * Each returns 1 with the verdict in the sixteen bytes of the answer (star_quote: twenty-four), or
+ * 0 if the lent answer has another length (star_digs, star_digs_text: or the lent text fewer than
+ * 6,370 bytes); then nothing is written anywhere. star_which returns 1 for the first claim, 2 for
+ * the second, and 0 on a refusal too. Every other input is taken, whatever its bytes and lengths: a
+ * fault is told as a refusal with its number and place, and a refused call leaves the marks, the
+ * matrix, the columns lent to star_import, the dig list's text, the forests, the records, and the
+ * working table and the numbers lent to star_strike, star_add and star_merge, as they were.
  *
- * The caller owes that each pointer has as many readable bytes behind it as its length says (writable
- * ones behind answer, and behind every other pointer that is not to const), and that a column that is written
- * overlaps no other. The length of a matrix and of the rows in use counts words of eight bytes, that of a list
- * of numbers or ends the numbers, that of a list of records the records. An empty column may be lent as a null pointer with length 0. The calling thread has
- * stack left, 1,280 KiB for star_import and star_digs_text, 384 KiB for star_mend and star_work_mend, and 160 KiB for each of the
- * others, whatever is lent. Nothing else is asked.
+ * The caller owes that each pointer has as many readable bytes behind it as its length says
+ * (writable ones behind answer, and behind every other pointer that is not to const), and that a
+ * column that is written overlaps no other. The length of a matrix and of the rows in use counts
+ * words of eight bytes, that of a list of numbers or ends the numbers, that of a list of records
+ * the records. An empty column may be lent as a null pointer with length 0. The calling thread has
+ * stack left, 1,280 KiB for star_import and star_digs_text, 384 KiB for star_mend and
+ * star_work_mend, and 160 KiB for each of the others, whatever is lent. Nothing else is asked.
  *
  * Planners and definitions have a word each for the same thing:
  *   junction      vertex
@@ -98,11 +107,14 @@ enum { STAR_MAX_TEXT = 65536, STAR_MAX_LIST = 6370 };
 /* Byte 0 of an answer. */
 enum star_kind {
     STAR_REFUSED = 0,
-    STAR_PASSED = 1,  /* star_cst, star_other: no cheaper set exists; star_mst1: the network is built; star_paths: the matrix is filled;
-                         star_quote: both totals are found; star_breaking: there is such a price; star_which: both claims are trees;
-                         star_digs: the list is written; star_import: the text is read; star_strike, star_add, star_merge, star_carry,
-                         star_districts, star_mend, star_outlets: done */
-    STAR_LIGHTER = 2  /* star_cst, star_other: a cheaper set exists: the exchange of two rows is one */
+    STAR_PASSED = 1, /* star_cst, star_other: no cheaper set exists; star_mst1: the network is
+                        built; star_paths: the matrix is filled; star_quote: both totals are found;
+                        star_breaking: there is such a price; star_which: both claims are trees;
+                        star_digs: the list is written; star_import: the text is read; star_strike,
+                        star_add, star_merge, star_carry, star_districts, star_mend, star_outlets:
+                        done */
+    STAR_LIGHTER = 2 /* star_cst, star_other: a cheaper set exists: the exchange of two rows is
+                        one */
 };
 
 /* Byte 0 of an answer of star_breaking where it is neither STAR_REFUSED nor STAR_PASSED. It is the
@@ -111,109 +123,138 @@ enum star_breaking_kind {
     STAR_NEVER = 2 /* no other route joins the row's ends, so that it is in every network */
 };
 
-/* Byte 1 of a refused answer, and what its place is; 0 where none is named. 5 is not used. Each door
- * lists its refusals below in their order: the first of them that applies is told. */
+/* Byte 1 of a refused answer, and what its place is; 0 where none is named. 5 is not used. Each
+ * door lists its refusals below in their order: the first of them that applies is told. */
 enum star_refusal {
     STAR_BAD_JUNCTION_COUNT = 1, /* n is 0 or above 255 */
     STAR_TOO_MANY_ROWS = 2,      /* m is above 1,024 */
-    STAR_BAD_LENGTHS = 3,        /* right, mark (star_which: first or second) or forests is not m bytes, or weight not 4 m; star_import and
-                                    working tables: not 1,024 rows; working tables: the rows in use are not sixteen words, or the numbers
-                                    not 1,024 */
-    STAR_BAD_END = 4,            /* place: the uppermost row with an end that is 0 or above n, or with equal ends */
-    STAR_BAD_MARK = 6,           /* place: the uppermost row marked with another byte than 0 and 1 (star_cst, star_other, star_paths, star_which,
-                                    star_mend) */
-    STAR_BAD_SOURCE = 7,         /* s (star_paths) or r (star_outlets) is 0 or above n; the row asked about is 0, above m or not in use (star_quote,
+    STAR_BAD_LENGTHS = 3,        /* right, mark (star_which: first or second) or forests is not m
+                                    bytes, or weight not 4 m; star_import and working tables: not
+                                    1,024 rows; working tables: the rows in use are not sixteen
+                                    words, or the numbers not 1,024 */
+    STAR_BAD_END = 4,            /* place: the uppermost row with an end that is 0 or above n, or
+                                    with equal ends */
+    STAR_BAD_MARK = 6,           /* place: the uppermost row marked with another byte than 0 and 1
+                                    (star_cst, star_other, star_paths, star_which, star_mend) */
+    STAR_BAD_SOURCE = 7,         /* s (star_paths) or r (star_outlets) is 0 or above n; the row
+                                    asked about is 0, above m or not in use (star_quote,
                                     star_breaking) */
     STAR_SHORT_MATRIX = 8,       /* the matrix has fewer than 16 n words (star_paths) */
-    STAR_BAD_MARK_COUNT = 9,     /* the marks are not n - 1 (star_cst, star_other, star_paths, star_which) */
-    STAR_NOT_JOINED = 10,        /* place: the smallest junction that marked rows do not join to 1 (star_cst, star_other, star_which), or to s
-                                    (star_paths) */
-    STAR_NO_NETWORK = 11,        /* no set of rows joins every junction (star_mst1, star_quote, star_breaking, star_digs, star_digs_text, star_districts,
+    STAR_BAD_MARK_COUNT = 9,     /* the marks are not n - 1 (star_cst, star_other, star_paths,
+                                    star_which) */
+    STAR_NOT_JOINED = 10,        /* place: the smallest junction that marked rows do not join to 1
+                                    (star_cst, star_other, star_which), or to s (star_paths) */
+    STAR_NO_NETWORK = 11,        /* no set of rows joins every junction (star_mst1, star_quote,
+                                    star_breaking, star_digs, star_digs_text, star_districts,
                                     star_mend, star_outlets) */
-    STAR_BAD_TEXT = 12,          /* place: the first byte, counted from 0, of the first word that cannot stand; the text's length if it ends
-                                    too early; 65,536 if it is longer (star_import, star_digs_text) */
-    STAR_BAD_EDGE_COUNT = 13,    /* the E lines are not as many as the line Edges says (star_import, star_digs_text) */
-    STAR_BAD_RUNS = 14,          /* the ends are more than eight, one is not above the one before it (the first not above 0), the last is not m, or
-                                    there is none though m is above 0 (star_districts); told before 11 */
-    STAR_REPEATED_ROW = 15,      /* place: the uppermost row that joins the same two junctions as an earlier one, in either direction; told
-                                    after 4 and before 6 */
-    STAR_SHORT_RECORDS = 16,     /* the list has fewer than 2 m records (star_mend); told after 6 and before 11 */
+    STAR_BAD_TEXT = 12,          /* place: the first byte, counted from 0, of the first word that
+                                    cannot stand; the text's length if it ends too early; 65,536 if
+                                    it is longer (star_import, star_digs_text) */
+    STAR_BAD_EDGE_COUNT = 13,    /* the E lines are not as many as the line Edges says (star_import,
+                                    star_digs_text) */
+    STAR_BAD_RUNS = 14,          /* the ends are more than eight, one is not above the one before it
+                                    (the first not above 0), the last is not m, or there is none
+                                    though m is above 0 (star_districts); told before 11 */
+    STAR_REPEATED_ROW = 15,      /* place: the uppermost row that joins the same two junctions as an
+                                    earlier one, in either direction; told after 4 and before 6 */
+    STAR_SHORT_RECORDS = 16,     /* the list has fewer than 2 m records (star_mend); told after 6
+                                    and before 11 */
     STAR_TABLE_FULL = 17,        /* all 1,024 rows are in use (star_add); told before 3 */
-    STAR_NOT_IN_USE = 18,        /* the row is not in use, or none from 1 to 1,024 (star_strike); told before 3 */
-    STAR_NO_OUTLETS = 19         /* the table is connected, and no network has exactly t rows at r (star_outlets); told after 11 */
+    STAR_NOT_IN_USE = 18,        /* the row is not in use, or none from 1 to 1,024 (star_strike);
+                                    told before 3 */
+    STAR_NO_OUTLETS = 19         /* the table is connected, and no network has exactly t rows at r
+                                    (star_outlets); told after 11 */
 };
 
-/* A refusal in words, such as "no set of rows joins every junction"; never a null pointer, whatever the number. */
+/* A refusal in words, such as "no set of rows joins every junction"; never a null pointer, whatever
+ * the number. */
 const char *star_refusal_text(unsigned number);
 
 /* Judges the claim. STAR_PASSED: it is a least network, amount is its total, and only is 1 where no
  * other has this total. STAR_LIGHTER: it is a network, and taking out row out and putting in row in
  * saves amount. A refusal is 1, 2, 3, 4, 15, 6, 9 or 10, in this order. */
-uint32_t star_cst(uint32_t n, const uint8_t *left, size_t left_len, const uint8_t *right, size_t right_len,
-                  const uint8_t *weight, size_t weight_len, const uint8_t *mark, size_t mark_len, uint8_t *answer,
-                  size_t answer_len);
+uint32_t star_cst(uint32_t n, const uint8_t *left, size_t left_len, const uint8_t *right,
+                  size_t right_len, const uint8_t *weight, size_t weight_len, const uint8_t *mark,
+                  size_t mark_len, uint8_t *answer, size_t answer_len);
 
-/* As star_cst; and where the claim passes and is not the only cheapest network, out and in are two rows whose exchange gives another of the
- * same total. A refusal is 1, 2, 3, 4, 15, 6, 9 or 10, in this order. */
-uint32_t star_other(uint32_t n, const uint8_t *left, size_t left_len, const uint8_t *right, size_t right_len,
-                    const uint8_t *weight, size_t weight_len, const uint8_t *mark, size_t mark_len, uint8_t *answer,
-                    size_t answer_len);
+/* As star_cst; and where the claim passes and is not the only cheapest network, out and in are two
+ * rows whose exchange gives another of the same total. A refusal is 1, 2, 3, 4, 15, 6, 9 or 10, in
+ * this order. */
+uint32_t star_other(uint32_t n, const uint8_t *left, size_t left_len, const uint8_t *right,
+                    size_t right_len, const uint8_t *weight, size_t weight_len, const uint8_t *mark,
+                    size_t mark_len, uint8_t *answer, size_t answer_len);
 
 /* Builds a least network and marks its rows, with 0 at every other; amount is its total. The marks
  * lent are not read. A refusal is 1, 2, 3, 4, 15 or 11, in this order. */
-uint32_t star_mst1(uint32_t n, const uint8_t *left, size_t left_len, const uint8_t *right, size_t right_len,
-                   const uint8_t *weight, size_t weight_len, uint8_t *mark, size_t mark_len, uint8_t *answer,
-                   size_t answer_len);
+uint32_t star_mst1(uint32_t n, const uint8_t *left, size_t left_len, const uint8_t *right,
+                   size_t right_len, const uint8_t *weight, size_t weight_len, uint8_t *mark,
+                   size_t mark_len, uint8_t *answer, size_t answer_len);
 
-/* Fills the path matrix of a claim that is a tree: sixteen words for each junction, in which the rows on the path from s to it are 1. The words
- * from 16 n on keep their content. Where nothing is refused the answer's kind is STAR_PASSED and all else is 0. A refusal is 1, 2, 3, 4,
- * 15, 6, 7, 8, 9 or 10, in this order: 7 where s is 0 or above n, 8 where the matrix has fewer than
- * 16 n words, 10 with the smallest junction that marked rows do not join to s. */
-uint32_t star_paths(uint32_t n, const uint8_t *left, size_t left_len, const uint8_t *right, size_t right_len,
-                    const uint8_t *weight, size_t weight_len, const uint8_t *mark, size_t mark_len, uint32_t s,
-                    uint64_t *matrix, size_t words, uint8_t *answer, size_t answer_len);
-
-/* The least total as the table stands, and the least total after a row, counted from 1, has another price; any price is taken. The answer has
- * twenty-four bytes: star_read_quoted reads them. The two totals differ by at most the change in price, and never in the opposite direction. A
- * refusal is 1, 2, 3, 4, 15, 7 or 11, in this order. */
-uint32_t star_quote(uint32_t n, const uint8_t *left, size_t left_len, const uint8_t *right, size_t right_len,
-                    const uint8_t *weight, size_t weight_len, uint32_t row, int32_t price, uint8_t *answer,
+/* Fills the path matrix of a claim that is a tree: sixteen words for each junction, in which the
+ * rows on the path from s to it are 1. The words from 16 n on keep their content. Where nothing is
+ * refused the answer's kind is STAR_PASSED and all else is 0. A refusal is 1, 2, 3, 4, 15, 6, 7, 8,
+ * 9 or 10, in this order: 7 where s is 0 or above n, 8 where the matrix has fewer than 16 n words,
+ * 10 with the smallest junction that marked rows do not join to s. */
+uint32_t star_paths(uint32_t n, const uint8_t *left, size_t left_len, const uint8_t *right,
+                    size_t right_len, const uint8_t *weight, size_t weight_len, const uint8_t *mark,
+                    size_t mark_len, uint32_t s, uint64_t *matrix, size_t words, uint8_t *answer,
                     size_t answer_len);
 
-/* The breaking price of a row, counted from 1: over all routes between its ends that do not use it, the least possible price of the dearest row. A
- * new price moves the least total by exactly min(new, breaking) - min(old, breaking). The row's own price plays no part. STAR_PASSED: amount is
- * the breaking price; STAR_NEVER: no such route, all else is 0, and the least total moves by new - old. A refusal is
+/* The least total as the table stands, and the least total after a row, counted from 1, has another
+ * price; any price is taken. The answer has twenty-four bytes: star_read_quoted reads them. The two
+ * totals differ by at most the change in price, and never in the opposite direction. A refusal is
  * 1, 2, 3, 4, 15, 7 or 11, in this order. */
-uint32_t star_breaking(uint32_t n, const uint8_t *left, size_t left_len, const uint8_t *right, size_t right_len,
-                       const uint8_t *weight, size_t weight_len, uint32_t row, uint8_t *answer, size_t answer_len);
+uint32_t star_quote(uint32_t n, const uint8_t *left, size_t left_len, const uint8_t *right,
+                    size_t right_len, const uint8_t *weight, size_t weight_len, uint32_t row,
+                    int32_t price, uint8_t *answer, size_t answer_len);
 
-/* Which of two claims over one table costs less: returns 1 for the first, also where they cost the same, and 2 for the second; amount is its total.
- * Both have to be trees, and neither has to be a least one. A refusal is 1, 2, 3, 4, 15, 6, 9 or 10, in this order, as star_cst
- * gives it of the first claim, else 3, 6, 9 or 10 of the second; then 0 is returned. */
-uint32_t star_which(uint32_t n, const uint8_t *left, size_t left_len, const uint8_t *right, size_t right_len,
-                    const uint8_t *weight, size_t weight_len, const uint8_t *first, size_t first_len, const uint8_t *second,
+/* The breaking price of a row, counted from 1: over all routes between its ends that do not use it,
+ * the least possible price of the dearest row. A new price moves the least total by exactly
+ * min(new, breaking) - min(old, breaking). The row's own price plays no part. STAR_PASSED: amount
+ * is the breaking price; STAR_NEVER: no such route, all else is 0, and the least total moves by new
+ * - old. A refusal is 1, 2, 3, 4, 15, 7 or 11, in this order. */
+uint32_t star_breaking(uint32_t n, const uint8_t *left, size_t left_len, const uint8_t *right,
+                       size_t right_len, const uint8_t *weight, size_t weight_len, uint32_t row,
+                       uint8_t *answer, size_t answer_len);
+
+/* Which of two claims over one table costs less: returns 1 for the first, also where they cost the
+ * same, and 2 for the second; amount is its total. Both have to be trees, and neither has to be a
+ * least one. A refusal is 1, 2, 3, 4, 15, 6, 9 or 10, in this order, as star_cst gives it of the
+ * first claim, else 3, 6, 9 or 10 of the second; then 0 is returned. */
+uint32_t star_which(uint32_t n, const uint8_t *left, size_t left_len, const uint8_t *right,
+                    size_t right_len, const uint8_t *weight, size_t weight_len,
+                    const uint8_t *first, size_t first_len, const uint8_t *second,
                     size_t second_len, uint8_t *answer, size_t answer_len);
 
-/* Writes the dig list of the least network that star_mst1 builds at the start of a text that is lent, of 6,370 bytes or more; the bytes behind it
- * stay. A line has a row of the network, from the top: position, left, right, price, a single space between, in decimal; the last line has Total, a
- * space and the sum; each ends with LF. amount is the list's length. A refusal is 1, 2, 3, 4, 15 or 11, in this order, and leaves the text. A shorter text is as an
- * answer of another length: 0 is returned, and nothing is written. */
-uint32_t star_digs(uint32_t n, const uint8_t *left, size_t left_len, const uint8_t *right, size_t right_len,
-                   const uint8_t *weight, size_t weight_len, uint8_t *text, size_t text_len, uint8_t *answer,
-                   size_t answer_len);
+/* Writes the dig list of the least network that star_mst1 builds at the start of a text that is
+ * lent, of 6,370 bytes or more; the bytes behind it stay. A line has a row of the network, from the
+ * top: position, left, right, price, a single space between, in decimal; the last line has Total, a
+ * space and the sum; each ends with LF. amount is the list's length. A refusal is 1, 2, 3, 4, 15 or
+ * 11, in this order, and leaves the text. A shorter text is as an answer of another length: 0 is
+ * returned, and nothing is written. */
+uint32_t star_digs(uint32_t n, const uint8_t *left, size_t left_len, const uint8_t *right,
+                   size_t right_len, const uint8_t *weight, size_t weight_len, uint8_t *text,
+                   size_t text_len, uint8_t *answer, size_t answer_len);
 
-/* The same from an STP text. A refusal is 12, 13, 1, 2, 4, 15 or 11, in this order; the answer is read by star_read_imported where it is refused, since
- * the place is in bytes 8 to 15. The calling thread has 1,280 KiB of stack left. */
-uint32_t star_digs_text(const uint8_t *stp, size_t stp_len, uint8_t *text, size_t text_len, uint8_t *answer, size_t answer_len);
+/* The same from an STP text. A refusal is 12, 13, 1, 2, 4, 15 or 11, in this order; the answer is
+ * read by star_read_imported where it is refused, since the place is in bytes 8 to 15. The calling
+ * thread has 1,280 KiB of stack left. */
+uint32_t star_digs_text(const uint8_t *stp, size_t stp_len, uint8_t *text, size_t text_len,
+                        uint8_t *answer, size_t answer_len);
 
-/* Whether a row, counted from 1, is on the path to a junction, by a matrix that star_paths has filled. */
+/* Whether a row, counted from 1, is on the path to a junction, by a matrix that star_paths has
+ * filled. */
 STAR_INLINE int star_on_path(const uint64_t *matrix, uint32_t junction, size_t row) {
-    return (int)(matrix[STAR_COLUMN_WORDS * ((size_t)junction - 1) + (row - 1) / 64] >> ((row - 1) % 64) & 1);
+    return (int)(matrix[STAR_COLUMN_WORDS * ((size_t)junction - 1) + (row - 1) / 64] >>
+                     ((row - 1) % 64) &
+                 1);
 }
 
-/* The rows in use of a working table, sixteen words: row i, counted from 1, is bit (i - 1) % 64 of word (i - 1) / 64, counted from the least
- * significant bit. A row is from 1 to 1,024. */
-STAR_INLINE int star_in_use(const uint64_t *in_use, size_t row) { return (int)(in_use[(row - 1) / 64] >> ((row - 1) % 64) & 1); }
+/* The rows in use of a working table, sixteen words: row i, counted from 1, is bit (i - 1) % 64 of
+ * word (i - 1) / 64, counted from the least significant bit. A row is from 1 to 1,024. */
+STAR_INLINE int star_in_use(const uint64_t *in_use, size_t row) {
+    return (int)(in_use[(row - 1) / 64] >> ((row - 1) % 64) & 1);
+}
 
 STAR_INLINE void star_set_in_use(uint64_t *in_use, size_t row, int used) {
     uint64_t bit = (uint64_t)1 << ((row - 1) % 64);
@@ -221,54 +262,70 @@ STAR_INLINE void star_set_in_use(uint64_t *in_use, size_t row, int used) {
     else in_use[(row - 1) / 64] &= ~bit;
 }
 
-/* The doors over the rows in use of a working table. left, right and mark are 1,024 bytes, weight 4,096, in_use sixteen words, else the call is
- * refused 3; 2 does not occur, and the other refusals stand in the order of star_X. They look at rows in use alone. Marks at other rows are not read; star_work_mst1,
- * star_work_districts and star_work_outlets write 0 there, and star_work_mend leaves them. */
-uint32_t star_work_cst(uint32_t n, const uint64_t *in_use, size_t in_use_words, const uint8_t *left, size_t left_len, const uint8_t *right,
-                       size_t right_len, const uint8_t *weight, size_t weight_len, const uint8_t *mark, size_t mark_len,
-                       uint8_t *answer, size_t answer_len);
+/* The doors over the rows in use of a working table. left, right and mark are 1,024 bytes, weight
+ * 4,096, in_use sixteen words, else the call is refused 3; 2 does not occur, and the other refusals
+ * stand in the order of star_X. They look at rows in use alone. Marks at other rows are not read;
+ * star_work_mst1, star_work_districts and star_work_outlets write 0 there, and star_work_mend
+ * leaves them. */
+uint32_t star_work_cst(uint32_t n, const uint64_t *in_use, size_t in_use_words, const uint8_t *left,
+                       size_t left_len, const uint8_t *right, size_t right_len,
+                       const uint8_t *weight, size_t weight_len, const uint8_t *mark,
+                       size_t mark_len, uint8_t *answer, size_t answer_len);
 
-uint32_t star_work_other(uint32_t n, const uint64_t *in_use, size_t in_use_words, const uint8_t *left, size_t left_len, const uint8_t *right,
-                         size_t right_len, const uint8_t *weight, size_t weight_len, const uint8_t *mark, size_t mark_len,
-                         uint8_t *answer, size_t answer_len);
+uint32_t star_work_other(uint32_t n, const uint64_t *in_use, size_t in_use_words,
+                         const uint8_t *left, size_t left_len, const uint8_t *right,
+                         size_t right_len, const uint8_t *weight, size_t weight_len,
+                         const uint8_t *mark, size_t mark_len, uint8_t *answer, size_t answer_len);
 
-uint32_t star_work_mst1(uint32_t n, const uint64_t *in_use, size_t in_use_words, const uint8_t *left, size_t left_len, const uint8_t *right,
-                        size_t right_len, const uint8_t *weight, size_t weight_len, uint8_t *mark, size_t mark_len, uint8_t *answer,
-                        size_t answer_len);
+uint32_t star_work_mst1(uint32_t n, const uint64_t *in_use, size_t in_use_words,
+                        const uint8_t *left, size_t left_len, const uint8_t *right,
+                        size_t right_len, const uint8_t *weight, size_t weight_len, uint8_t *mark,
+                        size_t mark_len, uint8_t *answer, size_t answer_len);
 
-uint32_t star_work_paths(uint32_t n, const uint64_t *in_use, size_t in_use_words, const uint8_t *left, size_t left_len, const uint8_t *right,
-                         size_t right_len, const uint8_t *weight, size_t weight_len, const uint8_t *mark, size_t mark_len, uint32_t s,
-                         uint64_t *matrix, size_t words, uint8_t *answer, size_t answer_len);
+uint32_t star_work_paths(uint32_t n, const uint64_t *in_use, size_t in_use_words,
+                         const uint8_t *left, size_t left_len, const uint8_t *right,
+                         size_t right_len, const uint8_t *weight, size_t weight_len,
+                         const uint8_t *mark, size_t mark_len, uint32_t s, uint64_t *matrix,
+                         size_t words, uint8_t *answer, size_t answer_len);
 
-uint32_t star_work_quote(uint32_t n, const uint64_t *in_use, size_t in_use_words, const uint8_t *left, size_t left_len, const uint8_t *right,
-                         size_t right_len, const uint8_t *weight, size_t weight_len, uint32_t row, int32_t price, uint8_t *answer,
-                         size_t answer_len);
+uint32_t star_work_quote(uint32_t n, const uint64_t *in_use, size_t in_use_words,
+                         const uint8_t *left, size_t left_len, const uint8_t *right,
+                         size_t right_len, const uint8_t *weight, size_t weight_len, uint32_t row,
+                         int32_t price, uint8_t *answer, size_t answer_len);
 
-uint32_t star_work_breaking(uint32_t n, const uint64_t *in_use, size_t in_use_words, const uint8_t *left, size_t left_len, const uint8_t *right,
-                            size_t right_len, const uint8_t *weight, size_t weight_len, uint32_t row, uint8_t *answer, size_t answer_len);
+uint32_t star_work_breaking(uint32_t n, const uint64_t *in_use, size_t in_use_words,
+                            const uint8_t *left, size_t left_len, const uint8_t *right,
+                            size_t right_len, const uint8_t *weight, size_t weight_len,
+                            uint32_t row, uint8_t *answer, size_t answer_len);
 
-uint32_t star_work_digs(uint32_t n, const uint64_t *in_use, size_t in_use_words, const uint8_t *left, size_t left_len, const uint8_t *right,
-                        size_t right_len, const uint8_t *weight, size_t weight_len, uint8_t *text, size_t text_len, uint8_t *answer,
-                        size_t answer_len);
+uint32_t star_work_digs(uint32_t n, const uint64_t *in_use, size_t in_use_words,
+                        const uint8_t *left, size_t left_len, const uint8_t *right,
+                        size_t right_len, const uint8_t *weight, size_t weight_len, uint8_t *text,
+                        size_t text_len, uint8_t *answer, size_t answer_len);
 
-uint32_t star_work_which(uint32_t n, const uint64_t *in_use, size_t in_use_words, const uint8_t *left, size_t left_len, const uint8_t *right,
-                         size_t right_len, const uint8_t *weight, size_t weight_len, const uint8_t *first, size_t first_len,
-                         const uint8_t *second, size_t second_len, uint8_t *answer, size_t answer_len);
+uint32_t star_work_which(uint32_t n, const uint64_t *in_use, size_t in_use_words,
+                         const uint8_t *left, size_t left_len, const uint8_t *right,
+                         size_t right_len, const uint8_t *weight, size_t weight_len,
+                         const uint8_t *first, size_t first_len, const uint8_t *second,
+                         size_t second_len, uint8_t *answer, size_t answer_len);
 
-/* Takes a row out of use: its bit is cleared, and its bytes stay. A refusal is 18 or 3, in this order. Where nothing is refused the answer's kind is
- * STAR_PASSED and all else is 0. */
-uint32_t star_strike(uint64_t *in_use, size_t in_use_words, uint32_t row, uint8_t *answer, size_t answer_len);
+/* Takes a row out of use: its bit is cleared, and its bytes stay. A refusal is 18 or 3, in this
+ * order. Where nothing is refused the answer's kind is STAR_PASSED and all else is 0. */
+uint32_t star_strike(uint64_t *in_use, size_t in_use_words, uint32_t row, uint8_t *answer,
+                     size_t answer_len);
 
-/* Enters a row that joins a and b at a price: directly after the last row in use, or at 1 if there is none. Where row 1,024 is in use the table is
- * packed first, as star_merge does. The answer's amount is the new row's position. The 1,024 numbers get each earlier row's position, which is its
- * own where nothing is packed, at the index of its old one; 0 for a row that was not in use. a, b and the price are not looked at: what is wrong
- * with them is told when the table is next judged or built. A refusal is 17 or 3, in this order.
+/* Enters a row that joins a and b at a price: directly after the last row in use, or at 1 if there
+ * is none. Where row 1,024 is in use the table is packed first, as star_merge does. The answer's
+ * amount is the new row's position. The 1,024 numbers get each earlier row's position, which is its
+ * own where nothing is packed, at the index of its old one; 0 for a row that was not in use. a, b
+ * and the price are not looked at: what is wrong with them is told when the table is next judged or
+ * built. A refusal is 17 or 3, in this order.
  *
  * It takes no marks: star_carry_marks moves them, after each star_add and after each star_merge, by
- * the numbers of that call, since the next call writes the numbers anew. Where marks are not carried
- * after a star_add that packed, they stand at other rows than before; and where it did not pack, the
- * new row has the byte that stands at its place, such as the mark of a row that was struck. Carried
- * marks have 0 there:
+ * the numbers of that call, since the next call writes the numbers anew. Where marks are not
+ * carried after a star_add that packed, they stand at other rows than before; and where it did not
+ * pack, the new row has the byte that stands at its place, such as the mark of a row that was
+ * struck. Carried marks have 0 there:
  *
  *     star_add(in_use, 16, left, 1024, right, 1024, weight, 4096, numbers, 1024, a, b, price,
  *              answer, 16);
@@ -277,20 +334,24 @@ uint32_t star_strike(uint64_t *in_use, size_t in_use_words, uint32_t row, uint8_
  *     if (answer[0] == STAR_PASSED) star_carry_marks(mark, numbers);
  *
  * A refused call leaves the numbers as they were: nothing is to be carried then. */
-uint32_t star_add(uint64_t *in_use, size_t in_use_words, uint8_t *left, size_t left_len, uint8_t *right, size_t right_len, uint8_t *weight,
-                  size_t weight_len, uint32_t *numbers, size_t count, uint8_t a, uint8_t b, int32_t price, uint8_t *answer,
-                  size_t answer_len);
+uint32_t star_add(uint64_t *in_use, size_t in_use_words, uint8_t *left, size_t left_len,
+                  uint8_t *right, size_t right_len, uint8_t *weight, size_t weight_len,
+                  uint32_t *numbers, size_t count, uint8_t a, uint8_t b, int32_t price,
+                  uint8_t *answer, size_t answer_len);
 
-/* Packs the rows in use to the top in their order, and clears the other rows. The 1,024 numbers get, for row i at index i - 1, its new position, or 0
- * where it was not in use. It takes no marks: star_carry_marks moves them, as after star_add. No least total changes, and a claim that passed passes again. A refusal is 3.
- * Where nothing is refused the answer's kind is STAR_PASSED and all else is 0. */
-uint32_t star_merge(uint64_t *in_use, size_t in_use_words, uint8_t *left, size_t left_len, uint8_t *right, size_t right_len, uint8_t *weight,
-                    size_t weight_len, uint32_t *numbers, size_t count, uint8_t *answer, size_t answer_len);
+/* Packs the rows in use to the top in their order, and clears the other rows. The 1,024 numbers
+ * get, for row i at index i - 1, its new position, or 0 where it was not in use. It takes no marks:
+ * star_carry_marks moves them, as after star_add. No least total changes, and a claim that passed
+ * passes again. A refusal is 3. Where nothing is refused the answer's kind is STAR_PASSED and all
+ * else is 0. */
+uint32_t star_merge(uint64_t *in_use, size_t in_use_words, uint8_t *left, size_t left_len,
+                    uint8_t *right, size_t right_len, uint8_t *weight, size_t weight_len,
+                    uint32_t *numbers, size_t count, uint8_t *answer, size_t answer_len);
 
 /* Carries marks through the numbers of star_merge or star_add: each byte to its row's new position,
- * 0 elsewhere. Any numbers are taken: 0 and one above 1,024 name no row, and where two rows have the
- * same number the upper one's byte stays. A refusal is 3: 1,024 numbers and 1,024 marks are lent.
- * Where nothing is refused the answer's kind is STAR_PASSED and all else is 0. */
+ * 0 elsewhere. Any numbers are taken: 0 and one above 1,024 name no row, and where two rows have
+ * the same number the upper one's byte stays. A refusal is 3: 1,024 numbers and 1,024 marks are
+ * lent. Where nothing is refused the answer's kind is STAR_PASSED and all else is 0. */
 uint32_t star_carry(const uint32_t *numbers, size_t count, uint8_t *mark, size_t mark_len,
                     uint8_t *answer, size_t answer_len);
 
@@ -300,18 +361,23 @@ STAR_INLINE void star_carry_marks(uint8_t *mark, const uint32_t *numbers) {
     star_carry(numbers, STAR_MAX_ROWS, mark, STAR_MAX_ROWS, answer, sizeof answer);
 }
 
-/* The rows in at most eight runs: ends has the last position of each, in order, and the last end is m; where m is 0 there is none. forests, m bytes,
- * gets 1 at the rows of a least forest of each run, which has no ring and joins exactly the junctions that the run joins, and 0 elsewhere. mark gets a
- * tree of these rows alone; its total, the answer's amount, is the least of the whole table, and star_cst passes it. Neither is read. A refusal is
- * 1, 2, 3, 4, 15, 14 or 11, in this order, and leaves both as they were. */
-uint32_t star_districts(uint32_t n, const uint8_t *left, size_t left_len, const uint8_t *right, size_t right_len, const uint8_t *weight,
-                        size_t weight_len, const uint32_t *ends, size_t count, uint8_t *forests, size_t forests_len, uint8_t *mark,
-                        size_t mark_len, uint8_t *answer, size_t answer_len);
+/* The rows in at most eight runs: ends has the last position of each, in order, and the last end is
+ * m; where m is 0 there is none. forests, m bytes, gets 1 at the rows of a least forest of each
+ * run, which has no ring and joins exactly the junctions that the run joins, and 0 elsewhere. mark
+ * gets a tree of these rows alone; its total, the answer's amount, is the least of the whole table,
+ * and star_cst passes it. Neither is read. A refusal is 1, 2, 3, 4, 15, 14 or 11, in this order,
+ * and leaves both as they were. */
+uint32_t star_districts(uint32_t n, const uint8_t *left, size_t left_len, const uint8_t *right,
+                        size_t right_len, const uint8_t *weight, size_t weight_len,
+                        const uint32_t *ends, size_t count, uint8_t *forests, size_t forests_len,
+                        uint8_t *mark, size_t mark_len, uint8_t *answer, size_t answer_len);
 
 /* The last end is 1,024, and both columns get 0 at rows not in use. */
-uint32_t star_work_districts(uint32_t n, const uint64_t *in_use, size_t in_use_words, const uint8_t *left, size_t left_len,
-                             const uint8_t *right, size_t right_len, const uint8_t *weight, size_t weight_len, const uint32_t *ends,
-                             size_t count, uint8_t *forests, size_t forests_len, uint8_t *mark, size_t mark_len, uint8_t *answer,
+uint32_t star_work_districts(uint32_t n, const uint64_t *in_use, size_t in_use_words,
+                             const uint8_t *left, size_t left_len, const uint8_t *right,
+                             size_t right_len, const uint8_t *weight, size_t weight_len,
+                             const uint32_t *ends, size_t count, uint8_t *forests,
+                             size_t forests_len, uint8_t *mark, size_t mark_len, uint8_t *answer,
                              size_t answer_len);
 
 /* The most runs. */
@@ -321,7 +387,8 @@ enum { STAR_MAX_RUNS = 8 };
 enum star_step {
     STAR_DROPPED = 1,  /* the mark of row out is taken away: marks above it join its ends */
     STAR_ADDED = 2,    /* row in is marked: it joins two groups of junctions */
-    STAR_EXCHANGED = 3 /* row out goes and row in, which costs less, comes: out was the dearest on the path between the ends of in, the uppermost of them */
+    STAR_EXCHANGED = 3 /* row out goes and row in, which costs less, comes: out was the dearest on
+                          the path between the ends of in, the uppermost of them */
 };
 
 /* A record of star_mend: a step, and its rows. */
@@ -329,38 +396,51 @@ struct star_record {
     uint32_t kind, out, in; /* out and in: 0 where a kind lacks one */
 };
 
-/* Turns any marks, 0 and 1, into a least network: going down the marks, those are dropped whose ends earlier ones join; going down the rows, those
- * are added that join two groups; then each row unmarked by now is visited once, from the top, and exchanged for the dearest row on its path where that
- * one costs more. The steps stand in records in their order; the answer's amount is their number, at most 2 m, and records past the last one keep their
- * content. star_cst passes the marks. count counts the records that are lent, 2 m or more. A refusal is 1, 2, 3, 4, 15, 6,
- * 16 or 11, in this order, and leaves marks and records as they were. */
-uint32_t star_mend(uint32_t n, const uint8_t *left, size_t left_len, const uint8_t *right, size_t right_len, const uint8_t *weight,
-                   size_t weight_len, uint8_t *mark, size_t mark_len, struct star_record *records, size_t count, uint8_t *answer,
+/* Turns any marks, 0 and 1, into a least network: going down the marks, those are dropped whose
+ * ends earlier ones join; going down the rows, those are added that join two groups; then each row
+ * unmarked by now is visited once, from the top, and exchanged for the dearest row on its path
+ * where that one costs more. The steps stand in records in their order; the answer's amount is
+ * their number, at most 2 m, and records past the last one keep their content. star_cst passes the
+ * marks. count counts the records that are lent, 2 m or more. A refusal is 1, 2, 3, 4, 15, 6, 16 or
+ * 11, in this order, and leaves marks and records as they were. */
+uint32_t star_mend(uint32_t n, const uint8_t *left, size_t left_len, const uint8_t *right,
+                   size_t right_len, const uint8_t *weight, size_t weight_len, uint8_t *mark,
+                   size_t mark_len, struct star_record *records, size_t count, uint8_t *answer,
                    size_t answer_len);
 
 /* 2,048 records or more are lent. Marks at rows not in use are neither read nor written. */
-uint32_t star_work_mend(uint32_t n, const uint64_t *in_use, size_t in_use_words, const uint8_t *left, size_t left_len, const uint8_t *right,
-                        size_t right_len, const uint8_t *weight, size_t weight_len, uint8_t *mark, size_t mark_len,
-                        struct star_record *records, size_t count, uint8_t *answer, size_t answer_len);
+uint32_t star_work_mend(uint32_t n, const uint64_t *in_use, size_t in_use_words,
+                        const uint8_t *left, size_t left_len, const uint8_t *right,
+                        size_t right_len, const uint8_t *weight, size_t weight_len, uint8_t *mark,
+                        size_t mark_len, struct star_record *records, size_t count, uint8_t *answer,
+                        size_t answer_len);
 
-/* Builds a network with exactly t rows at junction r, and marks its rows: every other one with exactly t rows at r costs at least as much. The answer's
- * amount is its total; the marks lent are not read. A refusal is 1, 2, 3, 4, 15, 7, 11 or 19, in this order. */
-uint32_t star_outlets(uint32_t n, const uint8_t *left, size_t left_len, const uint8_t *right, size_t right_len, const uint8_t *weight,
-                      size_t weight_len, uint8_t *mark, size_t mark_len, uint32_t r, uint32_t t, uint8_t *answer, size_t answer_len);
+/* Builds a network with exactly t rows at junction r, and marks its rows: every other one with
+ * exactly t rows at r costs at least as much. The answer's amount is its total; the marks lent are
+ * not read. A refusal is 1, 2, 3, 4, 15, 7, 11 or 19, in this order. */
+uint32_t star_outlets(uint32_t n, const uint8_t *left, size_t left_len, const uint8_t *right,
+                      size_t right_len, const uint8_t *weight, size_t weight_len, uint8_t *mark,
+                      size_t mark_len, uint32_t r, uint32_t t, uint8_t *answer, size_t answer_len);
 
-uint32_t star_work_outlets(uint32_t n, const uint64_t *in_use, size_t in_use_words, const uint8_t *left, size_t left_len, const uint8_t *right,
-                           size_t right_len, const uint8_t *weight, size_t weight_len, uint8_t *mark, size_t mark_len, uint32_t r, uint32_t t,
-                           uint8_t *answer, size_t answer_len);
+uint32_t star_work_outlets(uint32_t n, const uint64_t *in_use, size_t in_use_words,
+                           const uint8_t *left, size_t left_len, const uint8_t *right,
+                           size_t right_len, const uint8_t *weight, size_t weight_len,
+                           uint8_t *mark, size_t mark_len, uint32_t r, uint32_t t, uint8_t *answer,
+                           size_t answer_len);
 
-/* Reads an STP text: a first line that opens with 33D32945; sections, of which one is named Graph, with its lines Nodes N, Edges M,
- * E LEFT RIGHT PRICE for each row, END; and EOF. Sections of other names are skipped. left, right and weight are lent for 1,024 rows:
- * 1,024, 1,024 and 4,096 bytes. The m rows of the text are written at the top, and rows past m keep their content. A PRICE may open
- * with -; one outside -2,147,483,648 to 2,147,483,647 is a word that cannot stand. A refusal is 12, 13, 1, 2, 3, 4 or 15, in this order. The first m
- * rows (4 m bytes of weight) are what star_cst and star_mst1 take. */
-uint32_t star_import(const uint8_t *text, size_t text_len, uint8_t *left, size_t left_len, uint8_t *right, size_t right_len,
-                     uint8_t *weight, size_t weight_len, uint8_t *answer, size_t answer_len);
+/* Reads an STP text: a first line that opens with 33D32945; sections, of which one is named Graph,
+ * with its lines Nodes N, Edges M, E LEFT RIGHT PRICE for each row, END; and EOF. Sections of other
+ * names are skipped. left, right and weight are lent for 1,024 rows: 1,024, 1,024 and 4,096 bytes.
+ * The m rows of the text are written at the top, and rows past m keep their content. A PRICE may
+ * open with -; one outside -2,147,483,648 to 2,147,483,647 is a word that cannot stand. A refusal
+ * is 12, 13, 1, 2, 3, 4 or 15, in this order. The first m rows (4 m bytes of weight) are what
+ * star_cst and star_mst1 take. */
+uint32_t star_import(const uint8_t *text, size_t text_len, uint8_t *left, size_t left_len,
+                     uint8_t *right, size_t right_len, uint8_t *weight, size_t weight_len,
+                     uint8_t *answer, size_t answer_len);
 
-/* Packs a price into the weight column, and reads one, at an index from 0 on, as left[index]: row i is at index i - 1. */
+/* Packs a price into the weight column, and reads one, at an index from 0 on, as left[index]: row i
+ * is at index i - 1. */
 STAR_INLINE void star_put_price(uint8_t *weight, size_t index, int32_t price) {
     int k;
     for (k = 0; k < 4; k++) weight[4 * index + (size_t)k] = (uint8_t)((uint32_t)price >> (8 * k));
@@ -373,17 +453,20 @@ STAR_INLINE int32_t star_get_price(const uint8_t *weight, size_t index) {
     return bits <= INT32_MAX ? (int32_t)bits : -1 - (int32_t)~bits;
 }
 
-/* The sixteen bytes of every door but star_import and a refused star_digs_text, and the first sixteen of star_quote, as fields; those that a kind
- * lacks are 0. */
+/* The sixteen bytes of every door but star_import and a refused star_digs_text, and the first
+ * sixteen of star_quote, as fields; those that a kind lacks are 0. */
 struct star_answer {
     unsigned kind;   /* byte 0: enum star_kind */
     unsigned number; /* byte 1: enum star_refusal, 0 unless refused */
-    unsigned out;    /* bytes 2 and 3: lighter: the row to take out; refused: the place; star_other, passed and not the only one: a row to take out */
+    unsigned out;    /* bytes 2 and 3: lighter: the row to take out; refused: the place; star_other,
+                        passed and not the only one: a row to take out */
     unsigned in;     /* bytes 4 and 5: lighter: the row to put in; star_other: as out */
-    unsigned only;   /* byte 6: 1 where star_cst or star_other passes the claim and no other network has its total; 0 in every other answer */
-    int64_t amount;  /* bytes 8 to 15, two's complement: passed: the total; lighter: the saving, above 0 and at most 4,294,967,295;
-                        star_breaking: the breaking price; star_digs: the list's length; star_add: the new row's position;
-                        star_mend: the number of records */
+    unsigned only;   /* byte 6: 1 where star_cst or star_other passes the claim and no other network
+                        has its total; 0 in every other answer */
+    int64_t amount;  /* bytes 8 to 15, two's complement: passed: the total; lighter: the saving,
+                        above 0 and at most 4,294,967,295; star_breaking: the breaking price;
+                        star_digs: the list's length; star_add: the new row's position; star_mend:
+                        the number of records */
 };
 
 STAR_INLINE struct star_answer star_read_answer(const uint8_t bytes[16]) {
@@ -420,7 +503,8 @@ STAR_INLINE struct star_quoted star_read_quoted(const uint8_t bytes[24]) {
     return q;
 }
 
-/* The sixteen bytes of star_import, and of a refused star_digs_text, as fields; those that a kind lacks are 0. */
+/* The sixteen bytes of star_import, and of a refused star_digs_text, as fields; those that a kind
+ * lacks are 0. */
 struct star_imported {
     unsigned kind;   /* byte 0: STAR_PASSED or STAR_REFUSED */
     unsigned number; /* byte 1: enum star_refusal, 0 unless refused */
@@ -450,10 +534,10 @@ struct star_table {
     uint64_t in_use[STAR_COLUMN_WORDS]; /* the rows in use, as star_in_use reads them */
     uint8_t left[STAR_MAX_ROWS];        /* the ends of row i at index i - 1 */
     uint8_t right[STAR_MAX_ROWS];
-    uint8_t weight[4 * STAR_MAX_ROWS];  /* the prices, as star_get_price reads them */
-    uint8_t mark[STAR_MAX_ROWS];        /* the claim */
-    uint32_t numbers[STAR_MAX_ROWS];    /* where the last star_table_add or star_table_merge has put
-                                           row i, 0 for nowhere */
+    uint8_t weight[4 * STAR_MAX_ROWS]; /* the prices, as star_get_price reads them */
+    uint8_t mark[STAR_MAX_ROWS];       /* the claim */
+    uint32_t numbers[STAR_MAX_ROWS];   /* where the last star_table_add or star_table_merge has put
+                                          row i, 0 for nowhere */
 };
 
 /* What is said of a plan: struct star_answer with both totals. Fields that a kind lacks are 0. */
@@ -512,8 +596,8 @@ struct star_verdict star_table_mend(struct star_table *t, struct star_record *re
  * does. */
 struct star_verdict star_table_outlets(struct star_table *t, uint32_t junction, uint32_t count);
 
-/* Marks a least network made from the least rows of each run alone, as star_districts does; the last
- * of the ends is 1,024. forests has 1,024 bytes. */
+/* Marks a least network made from the least rows of each run alone, as star_districts does; the
+ * last of the ends is 1,024. forests has 1,024 bytes. */
 struct star_verdict star_table_districts(struct star_table *t, const uint32_t *ends, size_t count,
                                          uint8_t *forests);
 
@@ -535,19 +619,20 @@ struct star_answer star_table_digs(const struct star_table *t, uint8_t *text);
 struct star_answer star_table_paths(const struct star_table *t, uint32_t from, uint64_t *matrix);
 
 /* Reads a table from a text: an STP text as star_import does, then no row is marked; or a planner's
- * table as the console reads it, by the same C code, with marks and struck rows. One whose first word
- * is 33D32945 is an STP text. A refusal leaves the table as it was. It is one of star_import; of a
- * planner's table 12, with the first byte of the first line that cannot stand, or 2, and what else is
- * wrong with its rows is told by the next call that looks at them. The calling thread has 1,440 KiB
- * of stack left. */
+ * table as the console reads it, by the same C code, with marks and struck rows. One whose first
+ * word is 33D32945 is an STP text. A refusal leaves the table as it was. It is one of star_import;
+ * of a planner's table 12, with the first byte of the first line that cannot stand, or 2, and what
+ * else is wrong with its rows is told by the next call that looks at them. The calling thread has
+ * 1,440 KiB of stack left. */
 struct star_imported star_table_read(struct star_table *t, const char *text, size_t len);
 
 /* The room that the text of star_table_write needs at most. */
 enum { STAR_MAX_TABLE_TEXT = 32768 };
 
 /* Writes the table as the text that the console reads: 'junctions N', then a line a row, its two
- * junctions, price and mark; one that was struck opens with 'struck'. Returns the bytes of the text;
- * where that is below size, all of it is written with a zero byte behind it, else nothing is. */
+ * junctions, price and mark; one that was struck opens with 'struck'. Returns the bytes of the
+ * text; where that is below size, all of it is written with a zero byte behind it, else nothing
+ * is. */
 size_t star_table_write(const struct star_table *t, char *text, size_t size);
 
 #ifdef __cplusplus

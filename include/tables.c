@@ -42,8 +42,7 @@ struct star_answer star_table_strike(struct star_table *t, uint32_t row) {
 
 struct star_answer star_table_merge(struct star_table *t) {
     uint8_t answer[STAR_ANSWER_BYTES];
-    star_merge(t->in_use, STAR_COLUMN_WORDS, COLUMNS(t), t->numbers, STAR_MAX_ROWS,
-               ANSWER(answer));
+    star_merge(t->in_use, STAR_COLUMN_WORDS, COLUMNS(t), t->numbers, STAR_MAX_ROWS, ANSWER(answer));
     return carried(t, answer);
 }
 
