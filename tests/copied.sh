@@ -36,7 +36,7 @@ restore() { # puts back what a trial has changed
     cp -a target/objects "$at/target"
     cp -p crates.txt crates.sum "$at"
     cp -p crates/slice/src/lib.rt "$at/crates/slice/src"
-    cp -p crates/reader/src/lib.rt "$at/crates/reader/src"
+    cp -p crates/stp_reader/src/lib.rt "$at/crates/stp_reader/src"
 }
 restore
 

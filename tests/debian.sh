@@ -51,10 +51,10 @@ holds python env PYTHONPATH="$usr/lib/python3/dist-packages" \
 holds manual [ -s "$usr/share/man/man3/star_cst.3.gz" ]
 
 # A core that is not of the record is not packaged.
-echo '// changed' >>"$work/star/crates/door/src/lib.rt"
+echo '// changed' >>"$work/star/crates/cst_door/src/lib.rt"
 again() { (cd "$work/star" && dpkg-buildpackage -b -us -uc -nc) >"$work/changed" 2>&1; }
 fails() { ! "$@"; }
 holds changed fails again
-holds changed-said grep -q 'the sources of door differ' "$work/changed"
+holds changed-said grep -q 'the sources of cst_door differ' "$work/changed"
 echo "$passed passed, $failed failed"
 [ "$failed" = 0 ]

@@ -58,7 +58,7 @@ holds 'prove: all' says "$crates of $crates crates"
 holds 'prove: none twice' [ -z "$(sort "$at/asked" | uniq -d)" ]
 listed=$(sed -n 's/^\([a-z0-9_]*\):.*/\1/p' crates.txt | sort)
 holds 'prove: every crate' [ "$(sort "$at/asked")" = "$listed" ]
-for crate in slice search mst1 quote mend door outletsdoor; do
+for crate in slice search mst1 quote mend cst_door outlets_door; do
     holds "prove: below $crate" below "$crate"
 done
 holds 'prove: no log on the screen' fails says '^fn '
@@ -70,9 +70,9 @@ holds 'install: proved here' says 'is proved here, with this kit'
 # Where nothing has changed no archive is made anew; where a source has, those above it are.
 prove
 holds 'prove again: no archive' [ -z "$(doors_asked)" ]
-printf ' ' >>"$at/crates/reader/src/lib.rt"
+printf ' ' >>"$at/crates/stp_reader/src/lib.rt"
 prove
-holds 'prove one: those above it' [ "$(doors_asked)" = 'digsdoor importdoor' ]
+holds 'prove one: those above it' [ "$(doors_asked)" = 'digs_door stp_door' ]
 
 # What is not proved is told, and is not installed.
 printf ' ' >>"$at/crates/slice/src/lib.rt"
@@ -103,7 +103,7 @@ cat >"$work/gate/make" <<'TEXT'
 #!/bin/sh
 echo "$2" >>"$PROVING/asked"
 if [ "$2" = recorded ] && [ -e fault ]; then
-    echo "record: the code of libdoor.a differs"
+    echo "record: the code of libcst_door.a differs"
     echo "92 passed, 1 failed"
     exit 1
 fi

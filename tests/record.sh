@@ -15,22 +15,22 @@ holds 'install: the library' [ -s "$work/installed/lib/libstar.a" ]
 holds 'install: what it needs alone' [ ! -e "$at/target/objects/libprograms.a" ]
 
 # make console builds the C over the archives that are there, whatever the sources are.
-before=$(stat -c %y "$at/target/objects/libdoor.a")
+before=$(stat -c %y "$at/target/objects/libcst_door.a")
 sleep 1
 echo >>"$at/console/main.c"
-touch "$at/crates/door/src/lib.rt"
+touch "$at/crates/cst_door/src/lib.rt"
 made console
 holds 'console: the C anew' [ "$at/target/c/star" -nt "$at/console/main.c" ]
-holds 'console: the same archives' [ "$(stat -c %y "$at/target/objects/libdoor.a")" = "$before" ]
+holds 'console: the same archives' [ "$(stat -c %y "$at/target/objects/libcst_door.a")" = "$before" ]
 holds 'no rt' [ ! -e "$work/asked" ]
 
 # A source changed by a blank, a dependency more, a file more.
 restore
 printf ' ' >>"$at/crates/slice/src/lib.rt"
 refused 'a blank' 'the sources of slice differ'
-definition=$(ls crates/demand3/specs/*.antt | head -n 1)
+definition=$(ls crates/star_meaning/specs/*.antt | head -n 1)
 printf ' ' >>"$at/$definition"
-refused 'a blank in a definition' 'the sources of demand3 differ'
+refused 'a blank in a definition' 'the sources of star_meaning differ'
 cp -p "$definition" "$at/$definition"
 sed -i 's/^slice: /slice: refusal /' "$at/crates.txt"
 refused 'a dependency more' 'the sources of slice differ'
@@ -42,15 +42,15 @@ rm "$at/crates/slice/proofs/More.antt"
 # An object of another crate: as its archive, under the name of the one that is wanted, in the
 # library alone; a member more; C that has the name of a door.
 objects=$at/target/objects library=$at/target/c/libstar.a
-cp "$objects/libworkdoor.a" "$objects/libdoor.a"
-refused 'the archive of another crate' 'the code of libdoor.a differs'
-(cd "$work" && ar x "$objects/libworkdoor.a" && mv workdoor.o door.o && cp door.o more.o)
-rm "$objects/libdoor.a"
-ar rc "$objects/libdoor.a" "$work/door.o"
-refused 'an object of another crate' 'the code of libdoor.a differs'
+cp "$objects/libmst1_door.a" "$objects/libcst_door.a"
+refused 'the archive of another crate' 'the code of libcst_door.a differs'
+(cd "$work" && ar x "$objects/libmst1_door.a" && mv mst1_door.o cst_door.o && cp cst_door.o more.o)
+rm "$objects/libcst_door.a"
+ar rc "$objects/libcst_door.a" "$work/cst_door.o"
+refused 'an object of another crate' 'the code of libcst_door.a differs'
 made checked
-ar r "$library" "$work/door.o" 2>/dev/null
-refused 'an object of another crate in the library' 'the code of libdoor.a differs'
+ar r "$library" "$work/cst_door.o" 2>/dev/null
+refused 'an object of another crate in the library' 'the code of libcst_door.a differs'
 made checked
 ar r "$library" "$work/more.o" 2>/dev/null
 refused 'a member more' 'crates.sum has no line for the code of libmore.a'
@@ -58,12 +58,12 @@ made checked
 printf 'int star_cst(void);\nint star_cst(void) { return 1; }\n' >"$work/star.c"
 "${CC:-cc}" -c -o "$work/star.o" "$work/star.c"
 ar r "$library" "$work/star.o" 2>/dev/null
-refused 'C in the place of a door' 'door.o has star_cst too\|star.o has star_cst too'
+refused 'C in the place of a door' 'cst_door.o has star_cst too\|star.o has star_cst too'
 
 # A record of another kit, one with a line left out, one with a line too many, none.
 sed -i 's/^kit .*/kit another 1/' "$at/crates.sum"
 refused 'another kit' 'the kit is another ('
-for line in 'source slice' 'code door' 'kit'; do
+for line in 'source slice' 'code cst_door' 'kit'; do
     sed -i "/^$line /d" "$at/crates.sum"
     refused "no line $line" 'crates.sum has no line for '
 done
@@ -80,7 +80,7 @@ if command -v rt >/dev/null; then
     (cd "$at" && make -s run) >"$work/said" 2>&1
     holds 'fresh: not proved' says 'the core is not proved: the sources of slice differ'
     holds 'fresh: the yard' says 'Total 12'
-    holds 'fresh: the object says so' grep -q 'rattle unproved' "$objects/libdoor.a"
+    holds 'fresh: the object says so' grep -q 'rattle unproved' "$objects/libcst_door.a"
     cp -p crates/slice/src/lib.rt "$at/crates/slice/src/lib.rt"
     made tell
     holds 'fresh: of the record' says "$same"

@@ -9,7 +9,7 @@ clang="$kit/on/$(uname -m)/toolchain/bin/clang --target=$(uname -m)-unknown-linu
 work=$(mktemp -d)
 trap 'rm -rf "$work"' EXIT
 sh tools/keeping.sh "$work"
-for crate in importdoor digsdoor; do
+for crate in stp_door digs_door; do
     RATTLE_HOME=$work/kit sh tools/compile.sh "$crate" "$work/$crate.a"
     $clang -x ir -O1 -fPIC -fsanitize-coverage=inline-8bit-counters,pc-table \
         -c "$work/kept1.bc" -o "$work/$crate.o"

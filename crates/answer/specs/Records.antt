@@ -2,7 +2,7 @@
 -- Assumes nothing.
 use Rattle.answer.specs.declared.Record.{Record}
 use Rattle.rowset.specs.Integers.{fromBits}
-use Rattle.star.specs.Door.{Fields}
+use Rattle.star_spec.specs.Door.{Fields}
 
 -- the record's fields
 unfoldable pub fieldsOf : Record → Fields

@@ -1,7 +1,7 @@
 // The sixteen bytes of an answer, written in one place for every door, and the fields of what is done or refused.
 use refusal::Outcome;
 ghost use mathlib.Core.Path.{_≡_};
-ghost use Rattle.star.specs.Door.{fieldBytes, answerAfter, outcomeFields};
+ghost use Rattle.star_spec.specs.Door.{fieldBytes, answerAfter, outcomeFields};
 ghost use Rattle.answer.specs.Records.{fieldsOf};
 ghost use Rattle.refusal.specs.Outcomes.{refusalOf};
 

@@ -10,16 +10,16 @@ use mathlib.Core.List.{List}
 use mathlib.Core.Option.{Option, none, some}
 use mathlib.Core.Path.{_≡_, refl, sym, _∙_, ap, fun-ext}
 use native.Mathlib.Omega.{arith}
-use Rattle.graph.proofs.Builder.{built-spanning, not-built}
-use Rattle.graph.specs.Builder.{Fragment, tree}
-use Rattle.graph.specs.Graph.{Graph, Sound}
-use Rattle.graph.specs.Tree.{SpanningTree, onPath}
-use Rattle.matrix.specs.Matrix.{matrixColumn}
+use Rattle.graph_theory.proofs.Builder.{built-spanning, not-built}
+use Rattle.graph_theory.specs.Builder.{Fragment, tree}
+use Rattle.graph_theory.specs.Graph.{Graph, Sound}
+use Rattle.graph_theory.specs.Tree.{SpanningTree, onPath}
+use Rattle.path_matrix.specs.Matrix.{matrixColumn}
 use Rattle.mst1.proofs.Answers.{loaded-weights, loaded-graph}
 use Rattle.mst1.specs.steps.Growth.{loadedGraph, Grows}
 use Rattle.path.specs.steps.Walks.{walk}
-use Rattle.prices.proofs.Lacking.{lacking-sound, lacking-tree}
-use Rattle.prices.specs.Breaking.{lacking, heaviestBetween, breaking}
+use Rattle.price_theory.proofs.Lacking.{lacking-sound, lacking-tree}
+use Rattle.price_theory.specs.Breaking.{lacking, heaviestBetween, breaking}
 use Rattle.refusal.specs.Outcomes.{refusalOf}
 use Rattle.refusal.specs.declared.Outcome.{Outcome}
 use Rattle.refusal.specs.declared.Outcome.the-variants.{Done, Refused}
@@ -30,17 +30,17 @@ use Rattle.rowset.specs.Integers.{signed}
 use Rattle.rowset.specs.Searches.{largest}
 use Rattle.rowset.specs.Sets.{upTo, both, takeOut, uppermost}
 use Rattle.slice.specs.Slices.{size}
-use Rattle.star.proofs.Accepted.{Taken, taken, row-used, sound}
-use Rattle.star.specs.Accepted.{Row}
-use Rattle.star.specs.Call.{Call, rowsOf, used, graphOf, weightOf}
-use Rattle.star.specs.Mst1.{chosenRows}
-use Rattle.star.specs.Refusals.{Accepted, cause, isNone, orElse, refusal}
+use Rattle.star_spec.proofs.Accepted.{Taken, taken, row-used, sound}
+use Rattle.star_spec.specs.Accepted.{Row}
+use Rattle.star_spec.specs.Call.{Call, rowsOf, used, graphOf, weightOf}
+use Rattle.star_spec.specs.Mst1.{chosenRows}
+use Rattle.star_spec.specs.Refusals.{Accepted, cause, isNone, orElse, refusal}
 use Rattle.table.proofs.Loads.{load-taken, loaded-taken}
 use Rattle.table.specs.Loads.{loadedRow}
-use Rattle.quoting.proofs.Causes.{causes-in-order, row-asked}
-use Rattle.quoting.proofs.Means.{last-cause}
-use Rattle.quoting.specs.Breaking.{unanswered, breaksAt, neverBreaks, breakingTold, breakingOr, breakingPrice}
-use Rattle.quoting.specs.Quote.{rowAsked}
+use Rattle.price_spec.proofs.Causes.{causes-in-order, row-asked}
+use Rattle.price_spec.proofs.Means.{last-cause}
+use Rattle.price_spec.specs.Breaking.{unanswered, breaksAt, neverBreaks, breakingTold, breakingOr, breakingPrice}
+use Rattle.price_spec.specs.Quote.{rowAsked}
 use Rattle.breaking.proofs.Paths.{path-heaviest}
 use Rattle.path.proofs.Trees.{walked-path}
 

@@ -6,8 +6,8 @@ use lib.Signed.{ltZ}
 use mathlib.Core.Bool.{Bool, false, _&&_}
 use mathlib.Core.Path.{_≡_, fun-ext}
 use native.Mathlib.Omega.{arith}
-use Rattle.graph.specs.Graph.{Graph, Sound}
-use Rattle.graph.specs.Tree.{SpanningTree, onPath}
+use Rattle.graph_theory.specs.Graph.{Graph, Sound}
+use Rattle.graph_theory.specs.Tree.{SpanningTree, onPath}
 use Rattle.path.proofs.Trees.{path-bounds}
 use Rattle.rowset.proofs.Laws.{refuted, clash, any-cut, uppermost-cut}
 use Rattle.rowset.proofs.Searches.{largest-in}

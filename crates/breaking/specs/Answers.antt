@@ -2,7 +2,7 @@
 -- Assumes nothing.
 use Rattle.breaking.specs.declared.Breaks.{Breaks}
 use Rattle.breaking.specs.declared.Breaks.the-variants.{At, Never, Refused}
-use Rattle.quoting.specs.Breaking.{BreakingAnswer, unanswered, breaksAt, neverBreaks}
+use Rattle.price_spec.specs.Breaking.{BreakingAnswer, unanswered, breaksAt, neverBreaks}
 use Rattle.rowset.specs.Integers.{signed}
 
 unfoldable pub answerOf : Breaks → BreakingAnswer

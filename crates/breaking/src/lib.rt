@@ -3,17 +3,17 @@
 ghost use Prim.Native.Nat.{ℕ};
 ghost use mathlib.Core.Bool.{Bool};
 ghost use mathlib.Core.Path.{_≡_};
-ghost use Rattle.matrix.specs.Matrix.{matrixColumn};
+ghost use Rattle.path_matrix.specs.Matrix.{matrixColumn};
 ghost use Rattle.path.specs.steps.Walks.{walk};
 ghost use Rattle.rowset.specs.Bytes.{inRow};
 ghost use Rattle.rowset.specs.Integers.{signed};
 ghost use Rattle.rowset.specs.Searches.{largest};
 ghost use Rattle.rowset.specs.Sets.{uppermost};
 ghost use Rattle.slice.specs.Slices.{size, component};
-ghost use Rattle.star.specs.Call.{tableOf};
+ghost use Rattle.star_spec.specs.Call.{tableOf};
 ghost use Rattle.table.specs.Loads.{loadedRow};
-ghost use Rattle.quoting.specs.Breaking.{breakingPrice};
-ghost use Rattle.quoting.specs.Quote.{asked, askedWork};
+ghost use Rattle.price_spec.specs.Breaking.{breakingPrice};
+ghost use Rattle.price_spec.specs.Quote.{asked, askedWork};
 ghost use Rattle.breaking.specs.Answers.{answerOf};
 ghost use Rattle.breaking.specs.steps.Routes.{Found};
 use refusal::Outcome;
@@ -51,17 +51,17 @@ fn path_between(
     ensures { λ r. ⌜ component r ≡ matrixColumn (walk (loadedRow 1 (now (left .entry))) (loadedRow 1 (now (right .entry))) (component tree) u (now (own .entry)) n .words) v ⌝ }
 {
     path::walk(left, right, tree, u, n, own);
-    matrix::read_column(own, v)
+    path_matrix::read_column(own, v)
 }
 
 // The price of the uppermost of a slice's heaviest rows.
 fn heaviest_price(weight: &[u8], x: Slice) -> u32
     ensures { λ r. ⌜ r ≡ inRow 4 (now (weight .entry)) (uppermost size (largest size (λ i. signed (loadedRow 4 (now (weight .entry)) i)) (component x))) ⌝ }
 {
-    let mut weights = [0u64; loads::ALL];
-    loads::put_prices(weight, &mut weights);
-    let heaviest = slice::fnd(extremes::max_from(&weights, 0, x));
-    checks::row_weight(weight, heaviest)
+    let mut weights = [0u64; table_loads::ALL];
+    table_loads::put_prices(weight, &mut weights);
+    let heaviest = slice::fnd(search_extremes::max_from(&weights, 0, x));
+    table_checks::row_weight(weight, heaviest)
 }
 
 // What the trees of a table of m rows, of which those of a slice are in use, say of a row: where a tree is built without the row, that there is a route, and the tree's rows; else the answer.
@@ -132,8 +132,8 @@ fn told(n: u32, left: &[u8], right: &[u8], weight: &[u8], row: u32, around: Arou
     if !around.route {
         return around.answer;
     }
-    let u = checks::row_byte(left, row as usize) as u32;
-    let v = checks::row_byte(right, row as usize) as usize;
+    let u = table_checks::row_byte(left, row as usize) as u32;
+    let v = table_checks::row_byte(right, row as usize) as usize;
     let mut own = [0u64; path::ALL_WORDS];
     let path = path_between(n, left, right, around.chosen, u, v, &mut own);
     Breaks::At(heaviest_price(weight, path))

@@ -15,7 +15,7 @@ use native.Mathlib.Decide.{ℕ-discrete, decLt}
 use native.Mathlib.Nat.{one-mul, add-zero, mul-zero, mul-comm, add-comm, lt-of-lt-of-le}
 use native.Mathlib.Omega.{arith}
 use Rattle.claim.specs.Claims.{claimRows}
-use Rattle.matrix.proofs.Laws.{wordAt-bit, wordAt-bound}
+use Rattle.path_matrix.proofs.Laws.{wordAt-bit, wordAt-bound}
 use Rattle.rowset.proofs.Laws.{clash}
 use Rattle.rowset.specs.Bytes.{little, inRow}
 use Rattle.rowset.specs.Sets.{empty, upTo}
@@ -24,7 +24,7 @@ use Rattle.slice.proofs.Laws.{component-ext}
 use Rattle.slice.proofs.Sets.{upTo-inside}
 use Rattle.slice.specs.Slices.{size, bit, component}
 use Rattle.slice.specs.declared.Slice.{Slice}
-use Rattle.star.specs.Call.{marked}
+use Rattle.star_spec.specs.Call.{marked}
 
 -- the rows of a claim that fits a slice are those that it marks
 pub claimRows-marked : (l : List ℕ) → length l ≤ size → claimRows l ≡ marked l

@@ -12,7 +12,7 @@ use native.Mathlib.Decide.{decLt}
 use native.Mathlib.Nat.{add-zero, add-suc, sub-self, div-one, div-eq-of-lt, div-le-self, lt-of-lt-of-le, lt-of-le-of-lt}
 use native.Mathlib.Numerals.{add-one}
 use native.Mathlib.Omega.{arith}
-use Rattle.checks.proofs.Laws.{count-in, count-out}
+use Rattle.table_checks.proofs.Laws.{count-in, count-out}
 use Rattle.rowset.proofs.Laws.{clash}
 use Rattle.rowset.specs.Bytes.{inRow}
 use Rattle.rowset.specs.Sets.{sum, count}

@@ -9,11 +9,11 @@ ghost use Rattle.rowset.specs.Sets.{both};
 ghost use Rattle.rowset.specs.Words.{wordAt};
 ghost use Rattle.rowset.specs.steps.Flipped.{flipped};
 ghost use Rattle.slice.specs.Slices.{size, bit, component};
-ghost use Rattle.star.specs.Call.{marked, claimOf};
+ghost use Rattle.star_spec.specs.Call.{marked, claimOf};
 ghost use Rattle.claim.specs.Claims.{claimRows};
 ghost use Rattle.claim.specs.steps.Added.{Added};
-use checks::row_weight;
 use slice::Slice;
+use table_checks::row_weight;
 
 // 2 ^ 31: the first of 32 bits.
 const OFFSET: u32 = 2147483648;
@@ -64,7 +64,7 @@ pub fn write_claim(mark: &mut [u8], rows: Slice)
 {
     let mut i = 0;
     while i < mark.len() {
-        mark[i] = inplace::row_in(&rows.words, i + 1) as u8;
+        mark[i] = slice_words::row_in(&rows.words, i + 1) as u8;
         i += 1;
     }
 }

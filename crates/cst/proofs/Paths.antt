@@ -12,7 +12,7 @@ use lib.ListN.{length, take, drop, take-append-drop}
 use lib.Seq.{take-at}
 use lib.Signed.{_≤ℤ_}
 use native.Mathlib.Omega.{arith}
-use Rattle.graph.specs.Tree.{onPath}
+use Rattle.graph_theory.specs.Tree.{onPath}
 use Rattle.refusal.specs.declared.Refusal.{Refusal}
 use Rattle.rowset.proofs.Integers.{integers, total-cut}
 use Rattle.rowset.proofs.Laws.{refuted, clash, in-upTo, any-cut, any-found, uppermost-cut, uppermost-ext, uppermost-some, uppermost-zero, xor-self}
@@ -23,20 +23,20 @@ use Rattle.rowset.specs.Integers.{fromBits, total}
 use Rattle.rowset.specs.Searches.{greaterThan, sameAs}
 use Rattle.rowset.specs.Sets.{upTo, both, oneOf, without, takeOut, any, uppermost}
 use Rattle.rowset.specs.Words.{columnWords, matrixWords}
-use Rattle.matrix.proofs.Laws.{length-matrixWords, matrix-column}
-use Rattle.matrix.specs.Matrix.{matrixColumn}
+use Rattle.path_matrix.proofs.Laws.{length-matrixWords, matrix-column}
+use Rattle.path_matrix.specs.Matrix.{matrixColumn}
 use Rattle.slice.specs.Slices.{size}
 use Rattle.table.proofs.Loads.{load-taken, loaded-taken}
 use Rattle.table.specs.Loads.{loadedRow}
-use Rattle.star.proofs.Accepted.{none-head, none-tail, none-both, none-nil, Taken, taken, used-row, sound}
-use Rattle.star.specs.Accepted.{Row}
-use Rattle.star.specs.Call.{Call, rowsOf, used, graphOf, weightOf, marked, claimed, claimWeight}
-use Rattle.star.specs.Cst.{refused, passed, lighter, between, heavier, improves, rowIn, rowOut, equals, replaces, equalIn, equalOut, only, judged, verdict, cst, rowsBeside, equalRows}
-use Rattle.star.specs.MatrixPath.{pathColumn, matrixPath, matrixOr, matrixAfter}
-use Rattle.star.specs.Refusals.{maxVertices, cstCauses, tableCauses, refusal}
+use Rattle.star_spec.proofs.Accepted.{none-head, none-tail, none-both, none-nil, Taken, taken, used-row, sound}
+use Rattle.star_spec.specs.Accepted.{Row}
+use Rattle.star_spec.specs.Call.{Call, rowsOf, used, graphOf, weightOf, marked, claimed, claimWeight}
+use Rattle.star_spec.specs.Cst.{refused, passed, lighter, between, heavier, improves, rowIn, rowOut, equals, replaces, equalIn, equalOut, only, judged, verdict, cst, rowsBeside, equalRows}
+use Rattle.star_spec.specs.MatrixPath.{pathColumn, matrixPath, matrixOr, matrixAfter}
+use Rattle.star_spec.specs.Refusals.{maxVertices, cstCauses, tableCauses, refusal}
 use Rattle.path.proofs.Result.{own-answer, own-paths}
 use Rattle.path.specs.steps.Walks.{ownPath, ownAfter}
-use Rattle.checks.proofs.Laws.{uppermost-bound}
+use Rattle.table_checks.proofs.Laws.{uppermost-bound}
 use Rattle.claim.proofs.Laws.{claimRows-marked}
 use Rattle.claim.specs.Claims.{claimRows}
 use Rattle.cst.proofs.Refused.{causes-refusal, path-refusal}

@@ -13,10 +13,10 @@ use Rattle.path.proofs.Result.{own-answer}
 use Rattle.path.specs.steps.Walks.{ownPath}
 use Rattle.refusal.specs.declared.Refusal.{Refusal}
 use Rattle.rowset.specs.Words.{columnWords}
-use Rattle.star.proofs.Accepted.{none-cause}
-use Rattle.star.specs.Call.{Call}
-use Rattle.star.specs.MatrixPath.{matrixPath}
-use Rattle.star.specs.Refusals.{maxVertices, cause, badVertices, badSource, shortMatrix, tableCauses, matrixPathCauses, cstCauses, orElse, refusal}
+use Rattle.star_spec.proofs.Accepted.{none-cause}
+use Rattle.star_spec.specs.Call.{Call}
+use Rattle.star_spec.specs.MatrixPath.{matrixPath}
+use Rattle.star_spec.specs.Refusals.{maxVertices, cause, badVertices, badSource, shortMatrix, tableCauses, matrixPathCauses, cstCauses, orElse, refusal}
 
 -- vertex 1 is a source of every graph with a vertex
 good-source : (c : Call) → 1 ≤ c .n → badSource c 1 ≡ none

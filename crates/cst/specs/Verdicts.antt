@@ -1,7 +1,7 @@
 -- What a verdict says, by its cases: passed carries the weight, an integer, as the 64 bits that stand for it in two's complement, and yes or no, lighter the rows out and in and the saving, and refused the refusal's number and place;
 -- and the rows of an exchange that gives another tree of the same weight. Assumes nothing.
 use Rattle.rowset.specs.Integers.{fromBits}
-use Rattle.star.specs.Cst.{Answer, refused, passed, lighter, EqualRows}
+use Rattle.star_spec.specs.Cst.{Answer, refused, passed, lighter, EqualRows}
 use Rattle.cst.specs.declared.Checked.{Checked}
 use Rattle.cst.specs.declared.Verdict.{Verdict}
 use Rattle.cst.specs.declared.Verdict.the-variants.{Passed, Lighter, Refused}

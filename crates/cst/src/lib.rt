@@ -10,25 +10,25 @@ ghost use Rattle.rowset.specs.Integers.{fromBits};
 ghost use Rattle.rowset.specs.Searches.{greaterThan, sameAs};
 ghost use Rattle.rowset.specs.Words.{columnWords};
 ghost use Rattle.slice.specs.Slices.{size, component};
-ghost use Rattle.star.specs.Cst.{cst, equalRows};
-ghost use Rattle.star.specs.Call.{Call, tableOf, callOf, workOf};
-ghost use Rattle.star.specs.Refusals.{maxVertices};
+ghost use Rattle.star_spec.specs.Cst.{cst, equalRows};
+ghost use Rattle.star_spec.specs.Call.{Call, tableOf, callOf, workOf};
+ghost use Rattle.star_spec.specs.Refusals.{maxVertices};
 ghost use Rattle.table.specs.Loads.{loadedRow};
-ghost use Rattle.lent.specs.steps.Integers.{integersAfter};
+ghost use Rattle.search_columns.specs.steps.Integers.{integersAfter};
 ghost use Rattle.cst.specs.steps.Paths.{weightIn, foundOn, exchangeOf, remembered, firstLighter, firstEqual, Walked};
 ghost use Rattle.cst.specs.steps.Records.{recordOf};
 ghost use Rattle.cst.specs.Verdicts.{answerOf, equalRowsOf};
-use checks::row_byte;
-use checks::row_weight;
 use claim::flipped_weight;
-use great::Compared;
 use refusal::Outcome;
 use refusal::Refusal;
+use search_great::Compared;
 use slice::Slice;
 use slice::difference;
 use slice::rows::rows_among;
 use slice::rows::rows_to;
 use slice::words::rows_in_use;
+use table_checks::row_byte;
+use table_checks::row_weight;
 
 // Two numbers of vertices that many tables do not exceed, and the words of a path matrix for as many.
 const FEW: u32 = 16;
@@ -95,10 +95,10 @@ fn compared_rows(
     let node2 = row_byte(right, i) as usize;
     let w = row_weight(weight, i);
     let x = slice::xor(
-        matrix::read_column(matrix, node1),
-        matrix::read_column(matrix, node2),
+        path_matrix::read_column(matrix, node1),
+        path_matrix::read_column(matrix, node2),
     );
-    great::great_from(weights, first, w, x)
+    search_great::great_from(weights, first, w, x)
 }
 
 // The exchange of row out for row into, which is not heavier. The difference of their weights is that of their flipped weights.
@@ -137,14 +137,14 @@ fn first_found(
     ensures lighter { λ r. ⌜ r .lighter ≡ firstLighter (now (matrix .entry)) (now (left .entry)) (now (right .entry)) (now (weight .entry)) (component rows) ⌝ }
     ensures equal { λ r. ⌜ (r .lighter .into ≡ 0 → r .equal ≡ firstEqual (now (matrix .entry)) (now (left .entry)) (now (right .entry)) (now (weight .entry)) (component rows)) ⌝ }
 {
-    let mut weights = [0u64; loads::ALL];
-    loads::put_prices(weight, &mut weights);
-    let first = loads::sign_columns(&weights);
+    let mut weights = [0u64; table_loads::ALL];
+    table_loads::put_prices(weight, &mut weights);
+    let first = table_loads::sign_columns(&weights);
     let mut into = 0;
     let mut i = 0;
     while i < m {
         let at = i + 1;
-        if inplace::row_in(&rows.words, at) {
+        if slice_words::row_in(&rows.words, at) {
             let y = compared_rows(matrix, &weights, first, left, right, weight, at);
             let heavier = y.greater;
             if slice::some(heavier) {

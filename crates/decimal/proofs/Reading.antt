@@ -12,8 +12,8 @@ use native.Mathlib.Omega.{arith}
 use Rattle.decimal.proofs.Laws.{natural-digit, natural-more}
 use Rattle.decimal.specs.Decimal.{digitsBy, natural, integer}
 use Rattle.decimal.specs.Reading.{readNatural, readInteger, ReadsBack}
-use Rattle.words.specs.Bytes.{within}
-use Rattle.words.specs.Numbers.{allDigits, isEmpty, decimal, opensBelow, below}
+use Rattle.stp_words.specs.Bytes.{within}
+use Rattle.stp_words.specs.Numbers.{allDigits, isEmpty, decimal, opensBelow, below}
 
 -- a digit is a byte of 48 to 57
 digit-within : (d : ℕ) → d < 10 → within 48 57 (48 + d) ≡ true

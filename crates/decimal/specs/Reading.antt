@@ -9,7 +9,7 @@ use mathlib.Core.Path.{_≡_}
 use lib.IntN.{ℤ, pos}
 use lib.ListN.{drop}
 use Rattle.decimal.specs.Decimal.{natural, integer}
-use Rattle.words.specs.Numbers.{allDigits, isEmpty, decimal, opensBelow, below}
+use Rattle.stp_words.specs.Numbers.{allDigits, isEmpty, decimal, opensBelow, below}
 
 -- the natural that bytes are: digits alone, at least one
 unfoldable pub readNatural : List ℕ → Option ℕ

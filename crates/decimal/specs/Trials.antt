@@ -7,7 +7,7 @@ use mathlib.Core.Path.{_≡_}
 use lib.IntN.{ℤ, pos, negsuc}
 use Rattle.decimal.specs.Decimal.{natural, integer}
 use Rattle.decimal.specs.Reading.{readNatural, readInteger}
-use Rattle.words.specs.Bytes.{bytes}
+use Rattle.stp_words.specs.Bytes.{bytes}
 
 -- what is printed: at the powers of ten, at the ends of 32 and of 64 bits; negsuc n is -(n + 1)
 abbrev PrintedHold : Type 0

@@ -10,15 +10,15 @@ use mathlib.Core.Option.{Option, none, some}
 use mathlib.Core.Path.{_≡_, refl, sym, _∙_, ap}
 use native.Mathlib.Nat.{mod-one}
 use native.Mathlib.Omega.{arith}
-use Rattle.districting.proofs.Causes.{causes-in-order, none-applies, taken-means, words-rise}
-use Rattle.districting.specs.Districts.{forestRows, cityTree, cityRows, noCity, runCauses, districtCauses, answerOr, districtsAnswer, columnOr, districtsForests, districtsMarks}
-use Rattle.districting.specs.Means.{Taken}
+use Rattle.districts_spec.proofs.Causes.{causes-in-order, none-applies, taken-means, words-rise}
+use Rattle.districts_spec.specs.Districts.{forestRows, cityTree, cityRows, noCity, runCauses, districtCauses, answerOr, districtsAnswer, columnOr, districtsForests, districtsMarks}
+use Rattle.districts_spec.specs.Means.{Taken}
 use Rattle.districts.specs.steps.Divided.{Divided}
-use Rattle.forest.proofs.Districts.{districts-hold}
-use Rattle.forest.specs.Districts.{forests, within, districts, Districts}
-use Rattle.forests.proofs.Cut.{forests-cut}
-use Rattle.graph.specs.Builder.{Fragment, tree}
-use Rattle.graph.specs.Graph.{Graph}
+use Rattle.districts_theory.proofs.Districts.{districts-hold}
+use Rattle.districts_theory.specs.Districts.{forests, within, districts, Districts}
+use Rattle.districts_forests.proofs.Cut.{forests-cut}
+use Rattle.graph_theory.specs.Builder.{Fragment, tree}
+use Rattle.graph_theory.specs.Graph.{Graph}
 use Rattle.mst1.proofs.Answers.{loaded-weights}
 use Rattle.mst1.proofs.Cut.{over, tree-cut}
 use Rattle.mst1.specs.steps.Growth.{loadedGraph, Grows}
@@ -32,10 +32,10 @@ use Rattle.rowset.specs.Bytes.{inRow}
 use Rattle.rowset.specs.Integers.{fromBits, signed, total}
 use Rattle.rowset.specs.Sets.{empty}
 use Rattle.slice.specs.Slices.{size}
-use Rattle.star.proofs.Accepted as accepted
-use Rattle.star.specs.Call.{Call, rowsOf, used, graphOf, weightOf, claimOf}
-use Rattle.star.specs.Mst1.{BuildAnswer, unbuilt, treeBuilt, chosenRows}
-use Rattle.star.specs.Refusals.{cause, isNone, orElse, refusal}
+use Rattle.star_spec.proofs.Accepted as accepted
+use Rattle.star_spec.specs.Call.{Call, rowsOf, used, graphOf, weightOf, claimOf}
+use Rattle.star_spec.specs.Mst1.{BuildAnswer, unbuilt, treeBuilt, chosenRows}
+use Rattle.star_spec.specs.Refusals.{cause, isNone, orElse, refusal}
 use Rattle.table.proofs.Loads.{load-taken, loaded-taken}
 use Rattle.table.specs.Loads.{loadedRow}
 

@@ -9,7 +9,7 @@ use mathlib.Core.Bool.{false}
 use mathlib.Core.List.{List}
 use mathlib.Core.Path.{_≡_, sym, _∙_, ap}
 use native.Mathlib.Numerals.{add-one}
-use Rattle.forest.specs.Districts.{risesTo}
+use Rattle.districts_theory.specs.Districts.{risesTo}
 
 module _ (ends : List ℕ) (m p j : ℕ) (inv : risesTo m p (drop j ends) ≡ risesTo m 0 ends) where
   -- an end that is not above the one before

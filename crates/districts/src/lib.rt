@@ -1,15 +1,15 @@
 // Districts first, then the city: for each run of the rows a least forest, and then a tree from the forests' rows alone.
 ghost use mathlib.Core.Path.{_≡_};
-ghost use Rattle.districting.specs.Districts.{badRuns, runCauses, districtsAnswer, districtsForests, districtsMarks};
-ghost use Rattle.forest.specs.Districts.{risesTo};
+ghost use Rattle.districts_spec.specs.Districts.{badRuns, runCauses, districtsAnswer, districtsForests, districtsMarks};
+ghost use Rattle.districts_theory.specs.Districts.{risesTo};
 ghost use Rattle.mst1.specs.Answers.{answerOf};
-ghost use Rattle.lent.specs.steps.Integers.{integersAfter};
+ghost use Rattle.search_columns.specs.steps.Integers.{integersAfter};
 ghost use Rattle.mst1.specs.steps.Growth.{graphBy, loadedGraph};
 ghost use Rattle.refusal.specs.Outcomes.{refusalOf};
 ghost use Rattle.rowset.specs.Integers.{signed};
 ghost use Rattle.slice.specs.Slices.{component};
-ghost use Rattle.star.specs.Call.{tableOf, callOf, workOf};
-ghost use Rattle.star.specs.Refusals.{refusal};
+ghost use Rattle.star_spec.specs.Call.{tableOf, callOf, workOf};
+ghost use Rattle.star_spec.specs.Refusals.{refusal};
 ghost use Rattle.table.specs.Loads.{loadedRow};
 ghost use Rattle.districts.specs.steps.Divided.{Divided};
 use mst1::Built;
@@ -53,7 +53,7 @@ fn runs_check(ends: &[u32], m: usize) -> Outcome
     ensures { λ r. ⌜ refusalOf r ≡ badRuns m (now (ends .entry)) ⌝ }
 {
     let rising = ends_rise(ends, m);
-    checks::refused_if(MAX_ENDS < ends.len() || !rising, 14)
+    table_checks::refused_if(MAX_ENDS < ends.len() || !rising, 14)
 }
 
 // Causes 1 to 4, 15 and 14; 3 looks at both lent columns.
@@ -73,10 +73,10 @@ pub fn call_check(
         let c = tableOf n m whole (component rows) (now (left .entry)) (now (right .entry)) (now (weight .entry)) (now (mark .entry)) in
         ⌜ refusalOf r ≡ refusal (runCauses c (now (forests .entry)) (now (ends .entry))) ⌝ }
 {
-    let sizes = checks::size_check(n, m);
-    let column = checks::first(sizes, checks::refused_if(forests.len() != m, 3));
-    let table = checks::table_check(n, m, whole, rows, left, right, weight, mark);
-    checks::first(column, checks::first(table, runs_check(ends, m)))
+    let sizes = table_checks::size_check(n, m);
+    let column = table_checks::first(sizes, table_checks::refused_if(forests.len() != m, 3));
+    let table = table_checks::table_check(n, m, whole, rows, left, right, weight, mark);
+    table_checks::first(column, table_checks::first(table, runs_check(ends, m)))
 }
 
 // The forests of the runs of a slice's rows, and the tree of n vertices from the forests' rows alone, over byte columns of ends and lent columns of weights; of the weights the first columns are left out.
@@ -91,7 +91,7 @@ fn grow_city(
 ) -> City
     ensures { λ r. ⌜ Divided (graphBy (loadedRow 1 (now (left .entry))) (loadedRow 1 (now (right .entry))) rows n) (integersAfter (now (weight .entry)) first) (now (ends .entry)) (component (r .forests)) (r .whole) (component (r .chosen)) ⌝ }
 {
-    let forests = forests::forests_of(left, right, weight, first, rows, n, ends);
+    let forests = districts_forests::forests_of(left, right, weight, first, rows, n, ends);
     let tree = mst1::grow_tree(left, right, weight, first, forests, n);
     let whole = tree.whole;
     let chosen = tree.chosen;
@@ -116,9 +116,9 @@ pub fn city_of(
         let g = loadedGraph n m (component rows) (now (left .entry)) (now (right .entry)) in
         ⌜ Divided g (λ i. signed (loadedRow 4 (now (weight .entry)) i)) (now (ends .entry)) (component (r .forests)) (r .whole) (component (r .chosen)) ⌝ }
 {
-    let mut weights = [0u64; loads::ALL];
-    loads::put_prices(weight, &mut weights);
-    let first = loads::sign_columns(&weights);
+    let mut weights = [0u64; table_loads::ALL];
+    table_loads::put_prices(weight, &mut weights);
+    let first = table_loads::sign_columns(&weights);
     let used = slice::rows::rows_among(m, rows);
     grow_city(left, right, &weights, first, used, n as usize, ends)
 }

@@ -23,9 +23,9 @@ use Rattle.slice.proofs.Bits.{bit-set, bit-of-zero}
 use Rattle.slice.proofs.Sets.{upTo-inside, upTo-bounds, upTo-below, upTo-above}
 use Rattle.slice.proofs.Merge.{Merged}
 use Rattle.slice.specs.Slices.{size, bit, component}
-use Rattle.lent.specs.steps.Rows.{NonePast}
-use Rattle.loads.proofs.Numbers.{none-stored}
-use Rattle.inplace.proofs.Joining.{joined}
+use Rattle.search_columns.specs.steps.Rows.{NonePast}
+use Rattle.table_loads.proofs.Numbers.{none-stored}
+use Rattle.slice_words.proofs.Joining.{joined}
 use Rattle.incidence.specs.steps.Rows.{placesAt, rowsAt, MatchedEach, withBit, rowPut, rowsPut, columnWidth, Bytes, Blank, EachMatch}
 
 -- ── A row comes to a column ──

@@ -6,7 +6,7 @@ ghost use mathlib.Core.Path.{_≡_};
 ghost use lib.Dec.{eqb};
 ghost use lib.ListN.{length};
 ghost use mathlib.Core.List.{List};
-ghost use Rattle.lent.specs.steps.Rows.{NonePast};
+ghost use Rattle.search_columns.specs.steps.Rows.{NonePast};
 ghost use Rattle.rowset.specs.Sets.{either};
 ghost use Rattle.rowset.specs.Words.{inWords};
 ghost use Rattle.slice.specs.Slices.{size};
@@ -29,7 +29,7 @@ pub const OF_SIXTEEN: usize = 4096;
 pub fn words_of(rows: &[u64; COLUMN]) -> usize
     ensures { λ r. ⌜ (r ≤ 16) × NonePast r (inWords (now (rows .entry))) × (r ≡ columnWidth (inWords (now (rows .entry)))) ⌝ }
 {
-    let end = inplace::last_row(rows);
+    let end = slice_words::last_row(rows);
     if end <= BITS {
         return 1;
     }
@@ -77,13 +77,13 @@ pub fn match_each(
         × (now (lefts .exit) ≡ put (loadedRow 1 (now (left .entry))) (now (lefts .entry)))
         × (now (rights .exit) ≡ put (loadedRow 1 (now (right .entry))) (now (rights .entry))) ⌝ }
 {
-    let end = inplace::last_row(rows);
+    let end = slice_words::last_row(rows);
     let mut i = 0;
     while i < end {
         i += 1;
-        if inplace::row_in(rows, i) {
-            put_at(lefts, words, loads::end_at(left, i), i);
-            put_at(rights, words, loads::end_at(right, i), i);
+        if slice_words::row_in(rows, i) {
+            put_at(lefts, words, table_loads::end_at(left, i), i);
+            put_at(rights, words, table_loads::end_at(right, i), i);
         }
     }
 }

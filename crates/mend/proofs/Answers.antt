@@ -13,20 +13,20 @@ use Rattle.claim.proofs.Laws.{claimRows-marked}
 use Rattle.claim.specs.Claims.{claimRows}
 use Rattle.cst.proofs.Paths.{refused-walk, done-walk, done-loads}
 use Rattle.cst.specs.steps.Paths.{Walked}
-use Rattle.demand3.proofs.Demand3.{demand3}
-use Rattle.demand3.specs.Demand3.{ClaimTree}
-use Rattle.drawings.specs.Mend.{fewRecords, shortList, claimCauses, mendCauses, drawn, redrawn, unmended, mendedBy, answerOr, mend, marksOr, mendMarks, listOr, mendList}
-use Rattle.exchange.specs.Turned.{PathsFrom}
-use Rattle.graph.proofs.Builder.{tree-connected, built-least, not-connected}
-use Rattle.graph.specs.Builder.{Fragment, tree}
-use Rattle.graph.specs.Graph.{Graph, Sound, Inside}
-use Rattle.graph.specs.Tree.{SpanningTree, onPath}
-use Rattle.matrix.proofs.Laws.{length-matrixWords}
-use Rattle.mending.proofs.Promise.{joined-tree, spanned, mends}
-use Rattle.mending.specs.Mending.{Drawing, gapless, exchanged}
+use Rattle.star_meaning.proofs.Demand3.{demand3}
+use Rattle.star_meaning.specs.Demand3.{ClaimTree}
+use Rattle.mend_spec.specs.Mend.{fewRecords, shortList, claimCauses, mendCauses, drawn, redrawn, unmended, mendedBy, answerOr, mend, marksOr, mendMarks, listOr, mendList}
+use Rattle.path_exchange.specs.Turned.{PathsFrom}
+use Rattle.graph_theory.proofs.Builder.{tree-connected, built-least, not-connected}
+use Rattle.graph_theory.specs.Builder.{Fragment, tree}
+use Rattle.graph_theory.specs.Graph.{Graph, Sound, Inside}
+use Rattle.graph_theory.specs.Tree.{SpanningTree, onPath}
+use Rattle.path_matrix.proofs.Laws.{length-matrixWords}
+use Rattle.mend_theory.proofs.Promise.{joined-tree, spanned, mends}
+use Rattle.mend_theory.specs.Mending.{Drawing, gapless, exchanged}
 use Rattle.path.proofs.Paths as P
-use Rattle.record.specs.declared.Record.{Record}
-use Rattle.recordlist.specs.steps.Stored.{storedTo}
+use Rattle.mend_record.specs.declared.Record.{Record}
+use Rattle.mend_list.specs.steps.Stored.{storedTo}
 use Rattle.refusal.specs.declared.Refusal.{Refusal}
 use Rattle.rowset.proofs.Laws.{both-subset}
 use Rattle.rowset.proofs.Members.{both-in}
@@ -35,18 +35,18 @@ use Rattle.rowset.specs.Integers.{signed}
 use Rattle.rowset.specs.Sets.{upTo, both}
 use Rattle.rowset.specs.Words.{columnWords, matrixWords}
 use Rattle.slice.specs.Slices.{size}
-use Rattle.star.proofs.Accepted.{none-head, none-tail, cause-none, refusal-append, Taken, taken, used-row, sound, accepted-means}
-use Rattle.star.proofs.Claims.{claimOf-length, marked-claimOf, claimOf-bytes}
-use Rattle.star.specs.Accepted.{AcceptedTable}
-use Rattle.star.specs.Call.{Call, rowsOf, used, graphOf, weightOf, marked, claimed, withClaim, claimOf}
-use Rattle.star.specs.MatrixPath.{pathColumn, matrixPath, matrixOr, matrixAfter}
-use Rattle.star.specs.Refusals.{Accepted, maxVertices, cause, isNone, noTree, tableCauses, badClaim, badCount, unjoined, cstCauses, orElse, refusal}
+use Rattle.star_spec.proofs.Accepted.{none-head, none-tail, cause-none, refusal-append, Taken, taken, used-row, sound, accepted-means}
+use Rattle.star_spec.proofs.Claims.{claimOf-length, marked-claimOf, claimOf-bytes}
+use Rattle.star_spec.specs.Accepted.{AcceptedTable}
+use Rattle.star_spec.specs.Call.{Call, rowsOf, used, graphOf, weightOf, marked, claimed, withClaim, claimOf}
+use Rattle.star_spec.specs.MatrixPath.{pathColumn, matrixPath, matrixOr, matrixAfter}
+use Rattle.star_spec.specs.Refusals.{Accepted, maxVertices, cause, isNone, noTree, tableCauses, badClaim, badCount, unjoined, cstCauses, orElse, refusal}
 use Rattle.table.specs.Loads.{loadedRow}
-use Rattle.groups.proofs.Joining.{Second, passes-shown}
-use Rattle.groups.proofs.Listed.{Shows}
+use Rattle.mend_groups.proofs.Joining.{Second, passes-shown}
+use Rattle.mend_groups.proofs.Listed.{Shows}
 use Rattle.mend.proofs.Written.{stored-all}
 use Rattle.mend.proofs.Third.{Third, third-after}
-use Rattle.groups.specs.steps.Machine.{State, numbered, visits, twoPasses}
+use Rattle.mend_groups.specs.steps.Machine.{State, numbered, visits, twoPasses}
 use Rattle.mend.specs.steps.Machine.{swapAt}
 
 -- the causes in order

@@ -8,7 +8,7 @@ use mathlib.Core.List.{List, [], _∷_}
 use mathlib.Core.Path.{_≡_, refl, sym, _∙_, ap}
 use native.Mathlib.Decide.{decLt}
 use native.Mathlib.Omega.{arith}
-use Rattle.drawings.specs.Mend.{redrawnFrom, redrawn}
+use Rattle.mend_spec.specs.Mend.{redrawnFrom, redrawn}
 
 -- the byte of row i
 abbrev pub byteOf : (U S : ℕ → Bool) → ℕ → ℕ → ℕ

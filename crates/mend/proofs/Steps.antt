@@ -8,8 +8,8 @@ use mathlib.Core.Bool.{Bool, true, false, cond}
 use mathlib.Core.List.{List}
 use mathlib.Core.Path.{_≡_, refl}
 use native.Mathlib.Omega.{arith}
-use Rattle.checks.proofs.Laws.{uppermost-bound}
-use Rattle.groups.specs.steps.Machine.{State, noted}
+use Rattle.table_checks.proofs.Laws.{uppermost-bound}
+use Rattle.mend_groups.specs.steps.Machine.{State, noted}
 use Rattle.rowset.specs.Bytes.{inRow}
 use Rattle.rowset.specs.steps.Flipped.{flipped}
 use Rattle.slice.specs.Slices.{size}

@@ -10,16 +10,16 @@ use mathlib.Core.Bool.{Bool, true, false, not, cond, _&&_}
 use mathlib.Core.List.{List}
 use mathlib.Core.Path.{_≡_, refl, sym, _∙_, ap, ap₂, subst, fun-ext}
 use native.Mathlib.Omega.{arith}
-use Rattle.exchange.proofs.Turned.{length-all-turned, paths-turned}
-use Rattle.exchange.specs.Turned.{columnsTurned, PathsFrom, ringOf}
-use Rattle.graph.proofs.Exchange.{exchange-spanning}
-use Rattle.graph.proofs.Path.{path-inside, path-columns}
-use Rattle.graph.proofs.Reach.{same-truth}
-use Rattle.graph.specs.Graph.{Graph, Sound}
-use Rattle.graph.specs.Tree.{SpanningTree, onPath, exchange}
-use Rattle.mending.proofs.Drawing.{done-length}
-use Rattle.mending.proofs.Visits.{rowOut-some, rowOut-heaviest}
-use Rattle.mending.specs.Mending.{Drawing, exchangeOf, unmarkRow, markRow, apply, done, down, rowOut, exchangeFor, exchangeAt}
+use Rattle.path_exchange.proofs.Turned.{length-all-turned, paths-turned}
+use Rattle.path_exchange.specs.Turned.{columnsTurned, PathsFrom, ringOf}
+use Rattle.graph_theory.proofs.Exchange.{exchange-spanning}
+use Rattle.graph_theory.proofs.Path.{path-inside, path-columns}
+use Rattle.graph_theory.proofs.Reach.{same-truth}
+use Rattle.graph_theory.specs.Graph.{Graph, Sound}
+use Rattle.graph_theory.specs.Tree.{SpanningTree, onPath, exchange}
+use Rattle.mend_theory.proofs.Drawing.{done-length}
+use Rattle.mend_theory.proofs.Visits.{rowOut-some, rowOut-heaviest}
+use Rattle.mend_theory.specs.Mending.{Drawing, exchangeOf, unmarkRow, markRow, apply, done, down, rowOut, exchangeFor, exchangeAt}
 use Rattle.rowset.proofs.Laws.{refuted, uppermost-cut}
 use Rattle.rowset.proofs.Searches.{largest-in, largest-greatest, in-largest}
 use Rattle.rowset.proofs.Signed.{signed-order}
@@ -30,10 +30,10 @@ use Rattle.rowset.specs.Sets.{oneOf, put, takeOut, uppermost}
 use Rattle.rowset.specs.Words.{columnWords}
 use Rattle.rowset.specs.steps.Flipped.{flipped}
 use Rattle.slice.specs.Slices.{size, written}
-use Rattle.groups.proofs.Joining.{written-out, written-in}
-use Rattle.groups.proofs.Listed.{Shows, shows-noted}
+use Rattle.mend_groups.proofs.Joining.{written-out, written-in}
+use Rattle.mend_groups.proofs.Listed.{Shows, shows-noted}
 use Rattle.mend.proofs.Steps.{swap-unused, swap-marked, swap-none, swap-swaps}
-use Rattle.groups.specs.steps.Machine.{State, noted, visits}
+use Rattle.mend_groups.specs.steps.Machine.{State, noted, visits}
 use Rattle.mend.specs.steps.Machine.{pathOf, heaviest, outOf, swapped, swapAt}
 
 -- the heaviest of positions of 1 to m are found among 1 to k too

@@ -8,10 +8,10 @@ use mathlib.Core.List.{List, [], _∷_, _++_}
 use mathlib.Core.Path.{_≡_, refl, sym, _∙_, ap, ap₂}
 use native.Mathlib.Nat.{zero-add}
 use native.Mathlib.Omega.{arith}
-use Rattle.drawings.specs.Mend.{listed}
-use Rattle.groups.specs.steps.Machine.{numbersOf}
-use Rattle.record.specs.declared.Record.{Record}
-use Rattle.recordlist.specs.steps.Stored.{recordAt, storedTo}
+use Rattle.mend_spec.specs.Mend.{listed}
+use Rattle.mend_groups.specs.steps.Machine.{numbersOf}
+use Rattle.mend_record.specs.declared.Record.{Record}
+use Rattle.mend_list.specs.steps.Stored.{recordAt, storedTo}
 
 -- a record of the numbers is that record
 numbers-at : (rs : List Record) (l : List ℕ) (k : ℕ) (d : Record) → k < length rs → record { kind = getD (numbersOf rs ++ l) (3 * k) 0; out = getD (numbersOf rs ++ l) (3 * k + 1) 0; into = getD (numbersOf rs ++ l) (3 * k + 2) 0 } ≡ getD rs k d

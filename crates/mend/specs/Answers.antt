@@ -1,7 +1,7 @@
 -- What the mender says, by its cases: the number of records, or the refusal.
 -- Assumes nothing.
 use Prim.Native.Nat.{ℕ}
-use Rattle.drawings.specs.Mend.{MendAnswer, unmended, mendedBy}
+use Rattle.mend_spec.specs.Mend.{MendAnswer, unmended, mendedBy}
 use Rattle.mend.specs.declared.Mended.{Mended}
 use Rattle.mend.specs.declared.Mended.the-variants.{Records, Refused}
 

@@ -8,29 +8,28 @@ ghost use mathlib.Core.Bool.{Bool, true, cond};
 ghost use mathlib.Core.List.{List};
 ghost use mathlib.Core.Option.{none};
 ghost use mathlib.Core.Path.{_≡_};
-ghost use Rattle.matrix.specs.Matrix.{matrixColumn};
+ghost use Rattle.path_matrix.specs.Matrix.{matrixColumn};
 ghost use Rattle.refusal.specs.Outcomes.{refusalOf};
 ghost use Rattle.rowset.specs.Bytes.{inRow};
 ghost use Rattle.rowset.specs.Columns.{width};
 ghost use Rattle.rowset.specs.Integers.{integerIn, signed};
 ghost use Rattle.rowset.specs.Sets.{upTo, both};
 ghost use Rattle.slice.specs.Slices.{size, component};
-ghost use Rattle.star.specs.Call.{Call, tableOf, callOf, workOf, claimOf};
-ghost use Rattle.star.specs.MatrixPath.{matrixPath, matrixAfter};
-ghost use Rattle.star.specs.Refusals.{orElse, refusal};
+ghost use Rattle.star_spec.specs.Call.{Call, tableOf, callOf, workOf, claimOf};
+ghost use Rattle.star_spec.specs.MatrixPath.{matrixPath, matrixAfter};
+ghost use Rattle.star_spec.specs.Refusals.{orElse, refusal};
 ghost use Rattle.table.specs.Loads.{loadedRow};
-ghost use Rattle.drawings.specs.Mend.{claimCauses, fewRecords, redrawn, unmended, mend, mendMarks, mendList};
-ghost use Rattle.record.specs.declared.Record.{Record};
-ghost use Rattle.recordlist.specs.steps.Stored.{storedTo};
+ghost use Rattle.mend_spec.specs.Mend.{claimCauses, fewRecords, redrawn, unmended, mend, mendMarks, mendList};
+ghost use Rattle.mend_record.specs.declared.Record.{Record};
+ghost use Rattle.mend_list.specs.steps.Stored.{storedTo};
 ghost use Rattle.mend.specs.Answers.{answerOf, countOf};
-ghost use Rattle.groups.specs.steps.Machine.{stateOf, visits};
+ghost use Rattle.mend_groups.specs.steps.Machine.{stateOf, visits};
 ghost use Rattle.mend.specs.steps.Machine.{pathOf, outOf, swapped, swapAt};
-use checks::row_byte;
 use claim::flipped_weight;
-use groups::Drawn;
-use record::Record;
-use recordlist::NUMBERS;
-use recordlist::write_records;
+use mend_groups::Drawn;
+use mend_list::NUMBERS;
+use mend_list::write_records;
+use mend_record::Record;
 use refusal::Outcome;
 use refusal::Refusal;
 use slice::SIZE;
@@ -39,6 +38,7 @@ use slice::WORDS;
 use slice::rows::rows_among;
 use slice::rows::rows_to;
 use slice::words::rows_in_use;
+use table_checks::row_byte;
 
 // The kind of a record of an exchange; drops and additions are 1 and 2.
 const EXCHANGE: u32 = 3;
@@ -62,14 +62,17 @@ fn path_of(own: &[u64], left: &[u8], right: &[u8], i: usize) -> Slice
 {
     let a = row_byte(left, i) as usize;
     let b = row_byte(right, i) as usize;
-    slice::xor(matrix::read_column(own, a), matrix::read_column(own, b))
+    slice::xor(
+        path_matrix::read_column(own, a),
+        path_matrix::read_column(own, b),
+    )
 }
 
 // FND of MAX: the heaviest row of a path, the uppermost among equals, where it is heavier than row i; else 0. `weights` has the words of the weight column as a table, of which the first columns are left out.
 fn row_out(path: Slice, weights: &[u64], first: usize, weight: &[u8], i: usize) -> usize
     ensures { λ r. ⌜ r ≡ outOf (integerIn (matrixColumn (now (weights .entry))) first (width - first)) (now (weight .entry)) (component path) i ⌝ }
 {
-    let e = slice::fnd(extremes::max_from(weights, first, path));
+    let e = slice::fnd(search_extremes::max_from(weights, first, path));
     if flipped_weight(weight, i) < flipped_weight(weight, e) {
         return e;
     }
@@ -89,9 +92,9 @@ fn swap(
     requires { ⌜ (out ≤ size) × (i < 2 ^ 32) × (3 * s .count + 3 ≤ length (now list)) ⌝ }
     ensures { λ r. ⌜ stateOf r (now (list .exit)) (now (own .exit)) ≡ swapped n (component path) out i (stateOf s (now (list .entry)) (now (own .entry))) ⌝ }
 {
-    exchange::turn_columns(own, n, out, slice::put(path, i, true));
+    path_exchange::turn_columns(own, n, out, slice::put(path, i, true));
     let count = s.count;
-    groups::note(list, count, EXCHANGE, out as u32, i as u32);
+    mend_groups::note(list, count, EXCHANGE, out as u32, i as u32);
     Drawn {
         marks: slice::put(slice::put(s.marks, out, false), i, true),
         count: count + 1,
@@ -184,9 +187,9 @@ fn exchange_rows(
     ensures passed { λ r. ⌜ stateOf r (now (list .exit)) (now (own .exit)) ≡ visits (swapAt n (component used) (λ k. signed (inRow 4 (now (weight .entry)) k)) (now (left .entry)) (now (right .entry)) (now (weight .entry))) m (stateOf start (now (list .entry)) (now (own .entry))) ⌝ }
     ensures few { λ r. ⌜ r .count ≤ 3 * m ⌝ }
 {
-    let mut weights = [0u64; loads::ALL];
-    loads::put_prices(weight, &mut weights);
-    let first = loads::sign_columns(&weights);
+    let mut weights = [0u64; table_loads::ALL];
+    table_loads::put_prices(weight, &mut weights);
+    let first = table_loads::sign_columns(&weights);
     swap_rows(
         n,
         m,
@@ -261,8 +264,8 @@ fn mend_check(
         let c = tableOf n m whole (component rows) (now (left .entry)) (now (right .entry)) (now (weight .entry)) (now (mark .entry)) in
         ⌜ refusalOf r ≡ orElse (refusal (claimCauses c)) (fewRecords m records) ⌝ }
 {
-    let claim = checks::claim_check(n, m, whole, rows, left, right, weight, mark);
-    checks::first(claim, checks::refused_if(records / 2 < m, 16))
+    let claim = table_checks::claim_check(n, m, whole, rows, left, right, weight, mark);
+    table_checks::first(claim, table_checks::refused_if(records / 2 < m, 16))
 }
 
 // A refusal: no record is to be written.
@@ -306,7 +309,7 @@ fn redraw(
     let used = rows_among(m, rows);
     let marked = claim::claim_rows(mark, used);
     let mut list = [0u32; NUMBERS];
-    let tree = groups::two_passes(m, used, left, right, marked, &mut list);
+    let tree = mend_groups::two_passes(m, used, left, right, marked, &mut list);
     let mut own = [0u64; path::ALL_WORDS];
     let walked = tree_paths(n, m, whole, rows, left, right, weight, tree.marks, &mut own);
     let Outcome::Done = walked else {

@@ -10,9 +10,9 @@ use lib.IntN.{ℤ}
 use lib.ListN.{length}
 use native.Mathlib.Nat.{mod-one, mul-mod-right}
 use native.Mathlib.Omega.{arith}
-use Rattle.graph.specs.Builder.{Fragment, tree}
-use Rattle.graph.specs.Graph.{Graph}
-use Rattle.graph.proofs.Builder.{built-spanning}
+use Rattle.graph_theory.specs.Builder.{Fragment, tree}
+use Rattle.graph_theory.specs.Graph.{Graph}
+use Rattle.graph_theory.proofs.Builder.{built-spanning}
 use Rattle.refusal.specs.Outcomes.{refusalOf}
 use Rattle.refusal.specs.declared.Outcome.{Outcome}
 use Rattle.refusal.specs.declared.Outcome.the-variants.{Done, Refused}
@@ -24,10 +24,10 @@ use Rattle.rowset.proofs.Integers.{total-cut}
 use Rattle.rowset.proofs.Laws.{refuted, upTo-in}
 use Rattle.rowset.proofs.Members.{both-in}
 use Rattle.slice.specs.Slices.{size}
-use Rattle.star.specs.Call.{Call, rowsOf, used, graphOf, weightOf, claimOf}
-use Rattle.star.specs.Mst1.{BuildAnswer, unbuilt, treeBuilt, chosenRows, treeRows, built, builtMarks, mst1, mst1Marks}
-use Rattle.star.specs.Refusals.{cause, isNone, noTree, tableCauses, mst1Causes, refusal, orElse, Accepted}
-use Rattle.star.proofs.Accepted.{refusal-append, Taken, taken, used-row, sound}
+use Rattle.star_spec.specs.Call.{Call, rowsOf, used, graphOf, weightOf, claimOf}
+use Rattle.star_spec.specs.Mst1.{BuildAnswer, unbuilt, treeBuilt, chosenRows, treeRows, built, builtMarks, mst1, mst1Marks}
+use Rattle.star_spec.specs.Refusals.{cause, isNone, noTree, tableCauses, mst1Causes, refusal, orElse, Accepted}
+use Rattle.star_spec.proofs.Accepted.{refusal-append, Taken, taken, used-row, sound}
 use Rattle.table.specs.Loads.{loadedRow}
 use Rattle.table.proofs.Loads.{load-taken, loaded-taken}
 use Rattle.mst1.specs.steps.Growth.{loadedGraph, Grows}

@@ -5,8 +5,8 @@ use lib.IntN.{ℤ}
 use mathlib.Core.Bool.{Bool, false}
 use mathlib.Core.Option.{Option, none, some}
 use mathlib.Core.Path.{_≡_, refl, _∙_, ap}
-use Rattle.graph.specs.Builder.{Fragment, nothing, cheapest, choose, first, next, fragment, treeOf, tree}
-use Rattle.graph.specs.Graph.{Graph, crosses, withEnds}
+use Rattle.graph_theory.specs.Builder.{Fragment, nothing, cheapest, choose, first, next, fragment, treeOf, tree}
+use Rattle.graph_theory.specs.Graph.{Graph, crosses, withEnds}
 use Rattle.rowset.proofs.Laws.{refuted, clash, uppermost-cut}
 use Rattle.rowset.proofs.Searches.{smallest-in, smallest-cut}
 use Rattle.rowset.specs.Searches.{smallest}

@@ -11,15 +11,15 @@ use native.Mathlib.Numerals.{add-one}
 use native.Mathlib.Omega.{arith}
 use lib.Dec.{eqb}
 use lib.IntN.{ℤ}
-use Rattle.graph.specs.Builder.{cheapest, treeOf, tree}
-use Rattle.graph.specs.Graph.{Graph}
+use Rattle.graph_theory.specs.Builder.{cheapest, treeOf, tree}
+use Rattle.graph_theory.specs.Graph.{Graph}
 use Rattle.rowset.specs.Searches.{equalTo, smallest}
 use Rattle.rowset.specs.Sets.{empty, either, oneOf, put, uppermost}
 use Rattle.rowset.proofs.Laws.{in-upTo, uppermost-some}
 use Rattle.slice.specs.Slices.{size, component, written}
 use Rattle.slice.specs.declared.Slice.{Slice}
-use Rattle.star.specs.Mst1.{chosenRows}
-use Rattle.star.specs.Refusals.{isNone}
+use Rattle.star_spec.specs.Mst1.{chosenRows}
+use Rattle.star_spec.specs.Refusals.{isNone}
 use Rattle.mst1.specs.steps.Growth.{graphBy, Grows, Reached, meeting}
 use Rattle.mst1.proofs.Steps.{farBy, first-reached, next-reached}
 

@@ -8,11 +8,11 @@ use mathlib.Core.Path.{_≡_, refl, sym, ap, _∙_, fun-ext}
 use lib.Dec.{eqb}
 use lib.IntN.{ℤ}
 use native.Mathlib.Omega.{arith}
-use Rattle.graph.specs.Builder.{cheapest, choose, first, next, fragment, treeOf, tree}
-use Rattle.graph.specs.Graph.{Graph, crosses, withEnds}
-use Rattle.graph.specs.steps.Trail.{far}
-use Rattle.graph.proofs.Reach.{crossing-far-end}
-use Rattle.graph.proofs.Trail.{far-end}
+use Rattle.graph_theory.specs.Builder.{cheapest, choose, first, next, fragment, treeOf, tree}
+use Rattle.graph_theory.specs.Graph.{Graph, crosses, withEnds}
+use Rattle.graph_theory.specs.steps.Trail.{far}
+use Rattle.graph_theory.proofs.Reach.{crossing-far-end}
+use Rattle.graph_theory.proofs.Trail.{far-end}
 use Rattle.rowset.specs.Searches.{equalTo, smallest}
 use Rattle.rowset.specs.Sets.{empty, both, either, oneOf, put}
 use Rattle.rowset.proofs.Laws.{upwards, uppermost-some}

@@ -3,7 +3,7 @@
 use Rattle.mst1.specs.declared.Built.{Built}
 use Rattle.mst1.specs.declared.Built.the-variants.{Tree, Refused}
 use Rattle.rowset.specs.Integers.{fromBits}
-use Rattle.star.specs.Mst1.{BuildAnswer, unbuilt, treeBuilt}
+use Rattle.star_spec.specs.Mst1.{BuildAnswer, unbuilt, treeBuilt}
 
 unfoldable pub answerOf : Built → BuildAnswer
 answerOf (Tree bits) = treeBuilt (fromBits 64 bits)

@@ -4,17 +4,17 @@ ghost use mathlib.Core.Path.{_≡_};
 ghost use mathlib.Core.Bool.{Bool, true};
 ghost use Prim.Native.Nat.{ℕ, _-_, _≤_};
 ghost use Rattle.incidence.specs.steps.Rows.{Blank, EachMatch};
-ghost use Rattle.lent.specs.steps.Rows.{NonePast};
+ghost use Rattle.search_columns.specs.steps.Rows.{NonePast};
 ghost use Rattle.rowset.specs.Integers.{integerIn, signed};
 ghost use Rattle.rowset.specs.Searches.{smallest};
 ghost use Rattle.rowset.specs.Sets.{empty, uppermost};
-ghost use Rattle.matrix.specs.Matrix.{matrixColumn};
+ghost use Rattle.path_matrix.specs.Matrix.{matrixColumn};
 ghost use Rattle.slice.specs.Slices.{size, component};
-ghost use Rattle.star.specs.Mst1.{mst1, mst1Marks};
-ghost use Rattle.star.specs.Call.{tableOf, callOf, workOf};
+ghost use Rattle.star_spec.specs.Mst1.{mst1, mst1Marks};
+ghost use Rattle.star_spec.specs.Call.{tableOf, callOf, workOf};
 ghost use Rattle.table.specs.Loads.{loadedRow};
 ghost use Rattle.table.specs.Tables.{width};
-ghost use Rattle.lent.specs.steps.Integers.{integersAfter};
+ghost use Rattle.search_columns.specs.steps.Integers.{integersAfter};
 ghost use Rattle.mst1.specs.steps.Growth.{graphBy, loadedGraph, Grows, Reached, Begun};
 ghost use Rattle.mst1.specs.Answers.{answerOf};
 use refusal::Outcome;
@@ -48,7 +48,7 @@ struct Fragment {
 pub fn cheapest(weight: &[u64], first: usize, x: Slice) -> usize
     ensures { λ r. ⌜ r ≡ uppermost size (smallest size (integerIn (matrixColumn (now (weight .entry))) first (width - first)) (component x)) ⌝ }
 {
-    slice::fnd(extremes::min_from(weight, first, x))
+    slice::fnd(search_extremes::min_from(weight, first, x))
 }
 
 // No rows: the whole tree of one vertex, or what is left where there is no tree.
@@ -73,8 +73,8 @@ fn begin(
 ) -> Fragment
     ensures { λ r. ⌜ ((rows : ℕ → Bool) → EachMatch words (now («left_at» .entry)) (loadedRow 1 (now (left .entry))) rows → EachMatch words (now («right_at» .entry)) (loadedRow 1 (now (right .entry))) rows → Begun (loadedRow 1 (now (left .entry))) (loadedRow 1 (now (right .entry))) rows i (component (r .lefts)) (component (r .rights)) (component (r .chosen))) ⌝ }
 {
-    let u = loads::end_at(left, i);
-    let v = loads::end_at(right, i);
+    let u = table_loads::end_at(left, i);
+    let v = table_loads::end_at(right, i);
     let mut lefts = [0u64; WORDS];
     incidence::join_at(&mut lefts, left_at, words, u);
     incidence::join_at(&mut lefts, left_at, words, v);
@@ -118,14 +118,14 @@ fn grow_from(
         if i == 0 {
             return nothing(false);
         }
-        let far = if inplace::row_in(&lefts, i) {
-            loads::end_at(right, i)
+        let far = if slice_words::row_in(&lefts, i) {
+            table_loads::end_at(right, i)
         } else {
-            loads::end_at(left, i)
+            table_loads::end_at(left, i)
         };
         incidence::join_at(&mut lefts, left_at, words, far);
         incidence::join_at(&mut rights, right_at, words, far);
-        inplace::put_row(&mut chosen, i);
+        slice_words::put_row(&mut chosen, i);
         k += 1;
     }
     Grown {
@@ -203,9 +203,9 @@ pub fn grow_tree(
 pub fn tree_of(n: u32, m: usize, rows: Slice, left: &[u8], right: &[u8], weight: &[u8]) -> Grown
     ensures { λ r. ⌜ Grows (loadedGraph n m (component rows) (now (left .entry)) (now (right .entry))) (λ i. signed (loadedRow 4 (now (weight .entry)) i)) (r .whole) (component (r .chosen)) ⌝ }
 {
-    let mut weights = [0u64; loads::ALL];
-    loads::put_prices(weight, &mut weights);
-    let first = loads::sign_columns(&weights);
+    let mut weights = [0u64; table_loads::ALL];
+    table_loads::put_prices(weight, &mut weights);
+    let first = table_loads::sign_columns(&weights);
     let used = slice::rows::rows_among(m, rows);
     grow_tree(left, right, &weights, first, used, n as usize)
 }
@@ -225,7 +225,7 @@ pub fn mst1_rows(
         let c = tableOf n m whole (component rows) (now (left .entry)) (now (right .entry)) (now (weight .entry)) (now (mark .entry)) in
         ⌜ (answerOf r ≡ mst1 c) × (now (mark .exit) ≡ mst1Marks c) ⌝ }
 {
-    if let Outcome::Refused(refusal) = checks::table_check(
+    if let Outcome::Refused(refusal) = table_checks::table_check(
         n,
         m,
         whole,

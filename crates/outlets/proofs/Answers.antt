@@ -7,10 +7,10 @@ use mathlib.Core.List.{List}
 use mathlib.Core.Option.{none, some}
 use mathlib.Core.Path.{_≡_, sym, _∙_, ap}
 use native.Mathlib.Omega.{arith}
-use Rattle.connections.proofs.Causes.{causes-in-order, vertex-asked}
-use Rattle.connections.specs.Outlets.{treeAt, isMissing, rowsIn, noTreeWith, vertexAsked, outletCauses, outletsOr, outlets, marksOr, outletMarks}
-use Rattle.degree.proofs.Promise.{degrees}
-use Rattle.graph.specs.Builder.{tree}
+use Rattle.outlets_spec.proofs.Causes.{causes-in-order, vertex-asked}
+use Rattle.outlets_spec.specs.Outlets.{treeAt, isMissing, rowsIn, noTreeWith, vertexAsked, outletCauses, outletsOr, outlets, marksOr, outletMarks}
+use Rattle.outlets_theory.proofs.Promise.{degrees}
+use Rattle.graph_theory.specs.Builder.{tree}
 use Rattle.refusal.specs.Outcomes.{refusalOf}
 use Rattle.refusal.specs.declared.Outcome.{Outcome}
 use Rattle.refusal.specs.declared.Outcome.the-variants.{Done, Refused}
@@ -20,11 +20,11 @@ use Rattle.rowset.proofs.Laws.{refuted}
 use Rattle.rowset.specs.Bytes.{inRow}
 use Rattle.rowset.specs.Integers.{fromBits, signed, total}
 use Rattle.slice.specs.Slices.{size}
-use Rattle.star.proofs.Accepted.{taken, used-row, sound}
-use Rattle.star.specs.Accepted.{Vertex}
-use Rattle.star.specs.Call.{Call, rowsOf, graphOf, weightOf, claimOf}
-use Rattle.star.specs.Mst1.{BuildAnswer, unbuilt, treeBuilt}
-use Rattle.star.specs.Refusals.{cause, isNone, noTree, orElse, refusal, Accepted}
+use Rattle.star_spec.proofs.Accepted.{taken, used-row, sound}
+use Rattle.star_spec.specs.Accepted.{Vertex}
+use Rattle.star_spec.specs.Call.{Call, rowsOf, graphOf, weightOf, claimOf}
+use Rattle.star_spec.specs.Mst1.{BuildAnswer, unbuilt, treeBuilt}
+use Rattle.star_spec.specs.Refusals.{cause, isNone, noTree, orElse, refusal, Accepted}
 
 -- this answer, and these marks
 abbrev pub Answers : Call → (r n : ℕ) → BuildAnswer → List ℕ → Type 0

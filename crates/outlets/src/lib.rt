@@ -1,11 +1,11 @@
 // Connections at a vertex: a least spanning tree with exactly t rows at vertex r. The start prefers rows at r; then exchanges take rows at r out, the cheapest first, until t are left.
 ghost use mathlib.Core.Path.{_≡_};
-ghost use Rattle.connections.specs.Outlets.{vertexAsked, outlets, outletMarks};
+ghost use Rattle.outlets_spec.specs.Outlets.{vertexAsked, outlets, outletMarks};
 ghost use Rattle.mst1.specs.Answers.{answerOf};
 ghost use Rattle.refusal.specs.Outcomes.{refusalOf};
 ghost use Rattle.slice.specs.Slices.{component};
-ghost use Rattle.star.specs.Call.{tableOf, callOf, workOf};
-ghost use Rattle.star.specs.Refusals.{refusal};
+ghost use Rattle.star_spec.specs.Call.{tableOf, callOf, workOf};
+ghost use Rattle.star_spec.specs.Refusals.{refusal};
 use mst1::Built;
 use refusal::Outcome;
 use refusal::Refusal;
@@ -31,8 +31,8 @@ pub fn vertex_check(
         let c = tableOf n m whole (component rows) (now (left .entry)) (now (right .entry)) (now (weight .entry)) (now (mark .entry)) in
         ⌜ refusalOf o ≡ refusal (vertexAsked c r) ⌝ }
 {
-    let table = checks::table_check(n, m, whole, rows, left, right, weight, mark);
-    checks::first(table, checks::refused_if(r == 0 || n < r, 7))
+    let table = table_checks::table_check(n, m, whole, rows, left, right, weight, mark);
+    table_checks::first(table, table_checks::refused_if(r == 0 || n < r, 7))
 }
 
 // The tree with exactly t rows at r over a table of m rows, of which those of a slice are in use: the refusal, and the marks stay as they were; or the tree's weight, and the marks are 1 for each of its rows and 0 for every other.
@@ -65,7 +65,7 @@ pub fn outlets_rows(
     ) {
         return Built::Refused(refusal);
     }
-    let made = exact::make(n, m, rows, left, right, weight, r, t);
+    let made = outlets_exact::make(n, m, rows, left, right, weight, r, t);
     if !made.joined {
         return Built::Refused(Refusal {
             number: 11,

@@ -8,9 +8,9 @@ use native.Mathlib.Omega.{arith}
 use Rattle.rowset.specs.Sets.{upTo, without, uppermost}
 use Rattle.rowset.proofs.Laws.{in-upTo, uppermost-none, uppermost-zero, uppermost-some, uppermost-is}
 use Rattle.slice.specs.Slices.{size}
-use Rattle.star.specs.Call.{Call}
-use Rattle.star.specs.Refusals.{tableCauses, badClaim, badSource, shortMatrix, badCount, beforeWalk, orElse, refusal}
-use Rattle.checks.proofs.Laws.{refusal-both, refusal-one}
+use Rattle.star_spec.specs.Call.{Call}
+use Rattle.star_spec.specs.Refusals.{tableCauses, badClaim, badSource, shortMatrix, badCount, beforeWalk, orElse, refusal}
+use Rattle.table_checks.proofs.Laws.{refusal-both, refusal-one}
 
 -- ── The uppermost of 1 to m, by the uppermost of 1 to k, for sets that agree on 1 to m ──
 

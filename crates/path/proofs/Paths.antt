@@ -8,21 +8,21 @@ use mathlib.Core.List.{List}
 use mathlib.Core.Option.{none}
 use mathlib.Core.Path.{_≡_, sym, ap, _∙_}
 use native.Mathlib.Omega.{arith}
-use Rattle.graph.specs.Graph.{Inside, Walk, joined}
-use Rattle.graph.specs.steps.Trail.{trail}
-use Rattle.graph.specs.Tree.{SpanningTree}
-use Rattle.graph.proofs.Joined.{unjoined-none}
-use Rattle.graph.proofs.Path.{tree-joined}
-use Rattle.graph.proofs.Reach.{walk-then, walk-back}
-use Rattle.graph.proofs.Trail.{trail-vertices, trail-columns}
+use Rattle.graph_theory.specs.Graph.{Inside, Walk, joined}
+use Rattle.graph_theory.specs.steps.Trail.{trail}
+use Rattle.graph_theory.specs.Tree.{SpanningTree}
+use Rattle.graph_theory.proofs.Joined.{unjoined-none}
+use Rattle.graph_theory.proofs.Path.{tree-joined}
+use Rattle.graph_theory.proofs.Reach.{walk-then, walk-back}
+use Rattle.graph_theory.proofs.Trail.{trail-vertices, trail-columns}
 use Rattle.rowset.specs.Bytes.{inRow}
 use Rattle.rowset.specs.Words.{columnWords, columnWordsFrom, matrixWords}
 use Rattle.rowset.proofs.Members.{both-in}
-use Rattle.matrix.proofs.Laws.{columns-whole}
-use Rattle.star.specs.Call.{Call, used, graphOf, marked, claimed}
-use Rattle.star.specs.MatrixPath.{pathColumn}
-use Rattle.star.specs.Refusals.{badCount, unjoined}
-use Rattle.star.proofs.Accepted.{Taken, sound, cause-none, causeAt-none}
+use Rattle.path_matrix.proofs.Laws.{columns-whole}
+use Rattle.star_spec.specs.Call.{Call, used, graphOf, marked, claimed}
+use Rattle.star_spec.specs.MatrixPath.{pathColumn}
+use Rattle.star_spec.specs.Refusals.{badCount, unjoined}
+use Rattle.star_spec.proofs.Accepted.{Taken, sound, cause-none, causeAt-none}
 use Rattle.path.specs.steps.Walks.{State, walk}
 use Rattle.path.proofs.Walks.{Shows, walk-shows}
 

@@ -17,15 +17,15 @@ use Rattle.refusal.specs.declared.Refusal.{Refusal}
 use Rattle.rowset.specs.Bytes.{inRow}
 use Rattle.rowset.specs.Words.{columnWords, matrixWords}
 use Rattle.rowset.proofs.Laws.{clash}
-use Rattle.star.specs.Call.{Call, rowsOf, used, claimed}
-use Rattle.star.specs.MatrixPath.{matrixPath, matrixOr, matrixAfter, pathColumn}
-use Rattle.star.specs.Refusals.{maxVertices, tableCauses, badClaim, badSource, shortMatrix, badCount, unreached, unjoined, beforeWalk, orElse, refusal, matrixPathCauses}
-use Rattle.star.proofs.Accepted.{Taken, taken, none-head, none-tail, cause-none}
+use Rattle.star_spec.specs.Call.{Call, rowsOf, used, claimed}
+use Rattle.star_spec.specs.MatrixPath.{matrixPath, matrixOr, matrixAfter, pathColumn}
+use Rattle.star_spec.specs.Refusals.{maxVertices, tableCauses, badClaim, badSource, shortMatrix, badCount, unreached, unjoined, beforeWalk, orElse, refusal, matrixPathCauses}
+use Rattle.star_spec.proofs.Accepted.{Taken, taken, none-head, none-tail, cause-none}
 use Rattle.table.specs.Loads.{loadedRow}
 use Rattle.table.proofs.Loads.{load-taken, loaded-taken}
 use Rattle.claim.proofs.Laws.{claimRows-marked}
 use Rattle.path.specs.steps.Walks.{State, callWalk, ownPath, ownAfter}
-use Rattle.checks.proofs.Laws.{refusal-both, refusal-one, refused-first, done-next}
+use Rattle.table_checks.proofs.Laws.{refusal-both, refusal-one, refused-first, done-next}
 use Rattle.path.proofs.Paths.{walked, walked-joined, walked-paths, joined-tree}
 
 -- the answer is that of the checks, or else that of the walk

@@ -11,9 +11,9 @@ use mathlib.Core.Path.{_≡_, refl, sym, ap, _∙_, subst}
 use Rattle.rowset.specs.Searches.{equalTo}
 use Rattle.rowset.specs.Sets.{empty, either, oneOf, uppermost}
 use Rattle.rowset.specs.Words.{inWords}
-use Rattle.inplace.proofs.Joining.{zeros-none}
-use Rattle.inplace.proofs.Laws.{words-component}
-use Rattle.matrix.specs.Matrix.{matrixColumn, withColumn}
+use Rattle.slice_words.proofs.Joining.{zeros-none}
+use Rattle.slice_words.proofs.Laws.{words-component}
+use Rattle.path_matrix.specs.Matrix.{matrixColumn, withColumn}
 use Rattle.slice.specs.Slices.{size, written}
 use Rattle.path.proofs.Walks.{along-none, along-ahead, along-back}
 use Rattle.path.specs.steps.Walks.{State, nowhere, arrive, pass, along, step, steps, walk}

@@ -6,13 +6,13 @@ use mathlib.Core.Bool.{Bool, true}
 use mathlib.Core.List.{List}
 use mathlib.Core.Path.{_≡_, _∙_, ap}
 use native.Mathlib.Omega.{arith}
-use Rattle.graph.proofs.Path.{path-inside, tree-joined}
-use Rattle.graph.proofs.Trail.{trail-vertices, trail-columns}
-use Rattle.graph.specs.Graph.{Graph, Sound, joined}
-use Rattle.graph.specs.Tree.{SpanningTree, onPath}
-use Rattle.graph.specs.steps.Trail.{trail}
-use Rattle.matrix.proofs.Laws.{matrixColumn-words}
-use Rattle.matrix.specs.Matrix.{matrixColumn}
+use Rattle.graph_theory.proofs.Path.{path-inside, tree-joined}
+use Rattle.graph_theory.proofs.Trail.{trail-vertices, trail-columns}
+use Rattle.graph_theory.specs.Graph.{Graph, Sound, joined}
+use Rattle.graph_theory.specs.Tree.{SpanningTree, onPath}
+use Rattle.graph_theory.specs.steps.Trail.{trail}
+use Rattle.path_matrix.proofs.Laws.{matrixColumn-words}
+use Rattle.path_matrix.specs.Matrix.{matrixColumn}
 use Rattle.rowset.proofs.Laws.{both-inside}
 use Rattle.rowset.specs.Words.{columnWords, columnWordsFrom}
 use Rattle.slice.specs.Slices.{size}

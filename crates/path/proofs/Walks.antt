@@ -10,16 +10,16 @@ use mathlib.Core.Logic.{_≢_}
 use mathlib.Core.Path.{_≡_, refl, sym, ap, ap₂, _∙_, fun-ext, subst}
 use native.Mathlib.Decide.{ℕ-discrete}
 use native.Mathlib.Omega.{arith}
-use Rattle.graph.specs.Graph.{Graph, Sound, Inside, crosses}
-use Rattle.graph.specs.steps.Trail.{Trail, near, far, extend, trail}
-use Rattle.graph.proofs.Trail.{near-vertex, far-vertex, trail-vertex, trail-inside}
+use Rattle.graph_theory.specs.Graph.{Graph, Sound, Inside, crosses}
+use Rattle.graph_theory.specs.steps.Trail.{Trail, near, far, extend, trail}
+use Rattle.graph_theory.proofs.Trail.{near-vertex, far-vertex, trail-vertex, trail-inside}
 use Rattle.rowset.specs.Searches.{equalTo}
 use Rattle.rowset.specs.Sets.{empty, both, either, oneOf, put, uppermost}
 use Rattle.rowset.specs.Words.{columnWords, columnWordsFrom}
 use Rattle.rowset.proofs.Laws.{clash, put-other, in-upTo, uppermost-cut, uppermost-some, both-inside}
-use Rattle.matrix.specs.Matrix.{columnOf, withColumn}
+use Rattle.path_matrix.specs.Matrix.{columnOf, withColumn}
 use Rattle.slice.specs.Slices.{size, written}
-use Rattle.matrix.proofs.Laws.{matrixColumn-words, columnOf-same, columnOf-other, length-withColumn}
+use Rattle.path_matrix.proofs.Laws.{matrixColumn-words, columnOf-same, columnOf-other, length-withColumn}
 use Rattle.path.specs.steps.Walks.{State, nowhere, arrive, pass, along, step, steps, walk}
 
 -- the rows of T whose end in the column e is a vertex of Q

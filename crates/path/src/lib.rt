@@ -6,23 +6,23 @@ ghost use mathlib.Core.List.{[], _∷_, _++_};
 ghost use Prim.Native.Nat.{ℕ, _≤_};
 ghost use lib.ListN.{length, take, drop};
 ghost use Rattle.refusal.specs.Outcomes.{refusalOf};
-ghost use Rattle.matrix.specs.Matrix.{matrixColumn, withColumn};
+ghost use Rattle.path_matrix.specs.Matrix.{matrixColumn, withColumn};
 ghost use Rattle.incidence.specs.steps.Rows.{Blank, EachMatch};
-ghost use Rattle.lent.specs.steps.Rows.{NonePast};
+ghost use Rattle.search_columns.specs.steps.Rows.{NonePast};
 ghost use Rattle.slice.specs.Slices.{size, component, written};
-ghost use Rattle.star.specs.MatrixPath.{matrixPath, matrixAfter};
-ghost use Rattle.star.specs.Refusals.{wrongSource, fewWords, unreached, beforeWalk, refusal};
-ghost use Rattle.star.specs.Call.{tableOf, callOf, workOf};
+ghost use Rattle.star_spec.specs.MatrixPath.{matrixPath, matrixAfter};
+ghost use Rattle.star_spec.specs.Refusals.{wrongSource, fewWords, unreached, beforeWalk, refusal};
+ghost use Rattle.star_spec.specs.Call.{tableOf, callOf, workOf};
 ghost use Rattle.table.specs.Loads.{loadedRow};
 ghost use Rattle.path.specs.steps.Walks.{walk, Walked, claimWalk, ownPath, ownAfter};
-use checks::first;
-use checks::refused_at;
-use checks::refused_if;
 use refusal::Outcome;
 use slice::Slice;
 use slice::rows::rows_among;
 use slice::rows::rows_to;
 use slice::words::rows_in_use;
+use table_checks::first;
+use table_checks::refused_at;
+use table_checks::refused_if;
 
 // The words of a slice and of a column of a path matrix, and of a matrix with as many columns as there can be vertices.
 const WORDS: usize = 16;
@@ -43,9 +43,9 @@ fn choose(test: bool, first: u32, second: u32) -> u32
 fn lead(own: &mut [u64], i: usize, u: u32, v: u32)
     ensures { λ r. ⌜ now (own .exit) ≡ withColumn (now (own .entry)) v (written (matrixColumn (now (own .entry)) u) i true) ⌝ }
 {
-    let path = matrix::read_column(own, u as usize);
-    matrix::write_column(own, v as usize, path);
-    matrix::put_component(own, v as usize, i);
+    let path = path_matrix::read_column(own, u as usize);
+    path_matrix::write_column(own, v as usize, path);
+    path_matrix::put_component(own, v as usize, i);
 }
 
 // The walk, where `left_at` and `right_at` have the rows that MATCH gives for each end, in columns of so many words. At each step the uppermost row with exactly one end reached is taken from that end to
@@ -62,28 +62,28 @@ fn walk_found(
 ) -> Slice
     ensures { λ r. ⌜ ((rows : ℕ → Bool) → EachMatch words (now («left_at» .entry)) (loadedRow 1 (now (left .entry))) rows → EachMatch words (now («right_at» .entry)) (loadedRow 1 (now (right .entry))) rows → Walked (walk (loadedRow 1 (now (left .entry))) (loadedRow 1 (now (right .entry))) rows s (now (own .entry)) n) (component r) (now (own .exit))) ⌝ }
 {
-    matrix::write_column(own, s as usize, Slice::empty());
+    path_matrix::write_column(own, s as usize, Slice::empty());
     let mut lefts = [0u64; WORDS];
     incidence::join_at(&mut lefts, left_at, words, s);
     let mut rights = [0u64; WORDS];
     incidence::join_at(&mut rights, right_at, words, s);
     let mut reached = [0u64; WORDS];
-    inplace::put_row(&mut reached, s as usize);
+    slice_words::put_row(&mut reached, s as usize);
     let mut k = 0;
     while k < n {
-        let i = inplace::first_difference(&lefts, &rights);
+        let i = slice_words::first_difference(&lefts, &rights);
         if i == 0 {
             return Slice { words: reached };
         }
-        let ahead = inplace::row_in(&lefts, i);
-        let a = loads::end_at(left, i);
-        let b = loads::end_at(right, i);
+        let ahead = slice_words::row_in(&lefts, i);
+        let a = table_loads::end_at(left, i);
+        let b = table_loads::end_at(right, i);
         let u = choose(ahead, a, b);
         let v = choose(ahead, b, a);
         lead(own, i, u, v);
         incidence::join_at(&mut lefts, left_at, words, v);
         incidence::join_at(&mut rights, right_at, words, v);
-        inplace::put_row(&mut reached, v as usize);
+        slice_words::put_row(&mut reached, v as usize);
         k += 1;
     }
     Slice { words: reached }
@@ -178,12 +178,12 @@ fn path_check(
         let c = tableOf n m whole (component rows) (now (left .entry)) (now (right .entry)) (now (weight .entry)) (now (mark .entry)) in
         ⌜ refusalOf r ≡ refusal (beforeWalk c s words) ⌝ }
 {
-    let claim = checks::claim_check(n, m, whole, rows, left, right, weight, mark);
+    let claim = table_checks::claim_check(n, m, whole, rows, left, right, weight, mark);
     let Outcome::Done = claim else {
         return claim;
     };
     let call = call_check(n, s, words);
-    first(call, checks::count_check(n, m, rows, mark))
+    first(call, table_checks::count_check(n, m, rows, mark))
 }
 
 // The walk over the rows of a slice among the first m that the claim marks, and cause 10.

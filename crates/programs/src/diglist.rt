@@ -1,12 +1,12 @@
 // Reads an STP text on standard input and prints the dig list of MST1's tree: a line a row with its position, ends and weight, and the total; or the line of a refusal.
-// The page is made whole by printer::print_text, whose contract says what it is, before a byte is printed.
+// The page is made whole by digs::print_text, whose contract says what it is, before a byte is printed.
 ghost use mathlib.Core.Logic.{_⊎_};
 ghost use mathlib.Core.Path.{_≡_};
 ghost use Prim.Native.Nat.{_≤_};
-ghost use Rattle.listing.specs.DigList.{textList, printed, exitStatus};
+ghost use Rattle.digs_spec.specs.DigList.{textList, printed, exitStatus};
 use crate::output::write_bytes;
+use digs::LIST_BYTES;
 use libc::STDIN_FILENO;
-use printer::LIST_BYTES;
 use streams::first;
 
 // One byte more than the longest text that is taken, so that a longer one is noticed.
@@ -31,7 +31,7 @@ fn list(text: &[u8]) -> u32
     ensures few { λ r. ⌜ r ≤ 2 ⌝ }
 {
     let mut bytes = [0u8; LIST_BYTES];
-    let page = printer::print_text(text, &mut bytes);
+    let page = digs::print_text(text, &mut bytes);
     let status = page.status;
     let size = page.size;
     write_list(text, first(&bytes, size), status)

@@ -6,8 +6,8 @@ use decimal::put_byte;
 use decimal::put_natural;
 use decimal::put_price;
 use decimal::put_text;
+use digs::Page;
 use libc::STDIN_FILENO;
-use printer::Page;
 use refusal::Refusal;
 use stp::Imported;
 use stp::Sizes;
@@ -37,9 +37,9 @@ fn pair(out: &mut [u8], at: usize, a: u32, b: u32) -> usize {
 
 // Row i: its ends and its weight.
 fn row(out: &mut [u8], at: usize, left: &[u8], right: &[u8], weight: &[u8], i: usize) -> usize {
-    let a = checks::row_byte(left, i) as u64;
-    let b = checks::row_byte(right, i) as u64;
-    let w = checks::row_weight(weight, i);
+    let a = table_checks::row_byte(left, i) as u64;
+    let b = table_checks::row_byte(right, i) as u64;
+    let w = table_checks::row_weight(weight, i);
     let first = number(out, at, a, b' ');
     let second = number(out, first, b, b' ');
     let third = put_price(out, second, w);

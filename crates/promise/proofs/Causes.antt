@@ -9,19 +9,19 @@ use mathlib.Core.List.{List, [], _∷_, _++_}
 use mathlib.Core.Option.{Option, none, some}
 use mathlib.Core.Path.{_≡_, refl, sym, ap, subst}
 use native.Mathlib.Omega.{arith}
-use Rattle.demand3.proofs.Demand3.{apart}
+use Rattle.star_meaning.proofs.Demand3.{apart}
 use Rattle.promise.proofs.Trees.{call, row-there, row-here}
 use Rattle.promise.specs.Promise as P
 use Rattle.refusal.specs.declared.Refusal.{Refusal}
 use Rattle.rowset.proofs.Laws.{clash, any-found, any-none, uppermost-none, uppermost-some}
 use Rattle.rowset.specs.Bytes.{inRow}
 use Rattle.rowset.specs.Sets.{uppermost}
-use Rattle.star.proofs.Accepted.{pair-same, same-pair, row-used, used-row}
-use Rattle.star.proofs.Claims.{inRow-byte}
-use Rattle.star.specs.Accepted.{Row, Vertex, SamePair}
-use Rattle.star.specs.Call.{Call, used}
-use Rattle.star.specs.Refusals.{maxVertices, cause, causeAt, badVertices, tooManyRows, badLengths, wrongEnds, wrongRow, badEnds, badRow, repeatsAbove, repeats, repeatedRow, tableCauses, orElse, refusal}
-use Rattle.star.specs.Refusals as Refusals
+use Rattle.star_spec.proofs.Accepted.{pair-same, same-pair, row-used, used-row}
+use Rattle.star_spec.proofs.Claims.{inRow-byte}
+use Rattle.star_spec.specs.Accepted.{Row, Vertex, SamePair}
+use Rattle.star_spec.specs.Call.{Call, used}
+use Rattle.star_spec.specs.Refusals.{maxVertices, cause, causeAt, badVertices, tooManyRows, badLengths, wrongEnds, wrongRow, badEnds, badRow, repeatsAbove, repeats, repeatedRow, tableCauses, orElse, refusal}
+use Rattle.star_spec.specs.Refusals as Refusals
 
 -- a disjunction that fails, and one of two that fail
 or-parts : (a b : Bool) → (a || b) ≡ false → (a ≡ false) × (b ≡ false)

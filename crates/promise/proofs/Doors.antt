@@ -12,8 +12,8 @@ use Rattle.promise.specs.Promise as P
 use Rattle.rowset.proofs.Laws.{in-upTo}
 use Rattle.rowset.specs.Sets.{upTo}
 use Rattle.rowset.specs.Words.{inWords}
-use Rattle.star.specs.Call.{callOf, workOf}
-use Rattle.star.specs.Door.{doorReturns, cstDoor, otherDoor, mst1Door, mst1DoorMarks}
+use Rattle.star_spec.specs.Call.{callOf, workOf}
+use Rattle.star_spec.specs.Door.{doorReturns, cstDoor, otherDoor, mst1Door, mst1DoorMarks}
 
 -- the rows in use, as a call has them
 all-rows : (m k : ℕ) → k < m → upTo m (suc k) ≡ true

@@ -12,24 +12,24 @@ use mathlib.Core.Option.{none, some}
 use mathlib.Core.Path.{_≡_, refl, sym, ap, _∙_, subst}
 use native.Mathlib.Decide.{decLt, ℕ-discrete}
 use native.Mathlib.Omega.{arith}
-use Rattle.demand3.proofs.Bytes.{standing, accepted, turned, cst-turned, other-turned, mst1-turned, unbuilt-fields, cst-door-means, other-door-means, mst1-door-means}
-use Rattle.demand3.specs.Bytes.{Written, CheckedMeans, OtherMeans, BuiltMeans, CstCall, OtherCall}
-use Rattle.demand3.specs.Demand3.{ClaimTree, ZeroOrOne, Fault, bad-byte, bad-count, cut-off}
-use Rattle.demand3.specs.Only.{NoOther}
+use Rattle.star_meaning.proofs.Bytes.{standing, accepted, turned, cst-turned, other-turned, mst1-turned, unbuilt-fields, cst-door-means, other-door-means, mst1-door-means}
+use Rattle.star_meaning.specs.Bytes.{Written, CheckedMeans, OtherMeans, BuiltMeans, CstCall, OtherCall}
+use Rattle.star_meaning.specs.Demand3.{ClaimTree, ZeroOrOne, Fault, bad-byte, bad-count, cut-off}
+use Rattle.star_meaning.specs.Only.{NoOther}
 use Rattle.promise.proofs.Causes.{turned-first, accepted-first, accepted-here, accepted-there}
 use Rattle.promise.proofs.Trees.{number-little, amount-read, call, row-there, row-here, walk-there, walk-here, weight-same, count-there, count-here, tree-there, tree-here, least-here, least-there}
 use Rattle.promise.specs.Promise as P
 use Rattle.refusal.specs.declared.Refusal.{Refusal}
 use Rattle.rowset.proofs.Integers.{eq-parts, pos-parts, minus, parts-le}
 use Rattle.rowset.specs.Bytes.{little, inRow}
-use Rattle.star.proofs.Accepted.{accepted-means}
-use Rattle.star.proofs.Claims.{inRow-byte, marked-byte}
-use Rattle.star.specs.Accepted.{Row, AcceptedTable}
-use Rattle.star.specs.Call.{Call, marked, claimWeight, exchanged}
-use Rattle.star.specs.Cst.{Answer, refused, passed, lighter, cst, EqualRows, equalRows}
-use Rattle.star.specs.Door.{Fields, fields, builtFields, fieldsBeside, otherFields, readBack, doorReturns, cstDoor, mst1Door, otherDoor, mst1DoorMarks}
-use Rattle.star.specs.Mst1.{BuildAnswer, unbuilt, treeBuilt, mst1}
-use Rattle.star.specs.Refusals.{tableCauses, refusal, Accepted}
+use Rattle.star_spec.proofs.Accepted.{accepted-means}
+use Rattle.star_spec.proofs.Claims.{inRow-byte, marked-byte}
+use Rattle.star_spec.specs.Accepted.{Row, AcceptedTable}
+use Rattle.star_spec.specs.Call.{Call, marked, claimWeight, exchanged}
+use Rattle.star_spec.specs.Cst.{Answer, refused, passed, lighter, cst, EqualRows, equalRows}
+use Rattle.star_spec.specs.Door.{Fields, fields, builtFields, fieldsBeside, otherFields, readBack, doorReturns, cstDoor, mst1Door, otherDoor, mst1DoorMarks}
+use Rattle.star_spec.specs.Mst1.{BuildAnswer, unbuilt, treeBuilt, mst1}
+use Rattle.star_spec.specs.Refusals.{tableCauses, refusal, Accepted}
 
 -- ── What is read of sixteen bytes ──
 

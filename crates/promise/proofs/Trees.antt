@@ -10,19 +10,19 @@ use mathlib.Core.List.{List}
 use mathlib.Core.Path.{_≡_, refl, sym, ap, _∙_, subst}
 use native.Mathlib.Decide.{decLt}
 use native.Mathlib.Omega.{arith}
-use Rattle.demand3.specs.Demand3.{ClaimTree, LeastClaim}
-use Rattle.graph.specs.Graph.{Graph, stay, ahead}
-use Rattle.graph.specs.Graph as G
+use Rattle.star_meaning.specs.Demand3.{ClaimTree, LeastClaim}
+use Rattle.graph_theory.specs.Graph.{Graph, stay, ahead}
+use Rattle.graph_theory.specs.Graph as G
 use Rattle.promise.specs.Promise as P
 use Rattle.rowset.proofs.Laws.{in-upTo}
 use Rattle.rowset.proofs.Members.{both-in, in-both}
 use Rattle.rowset.specs.Bytes.{little, inRow}
 use Rattle.rowset.specs.Integers.{fromBits, total}
 use Rattle.rowset.specs.Sets.{count, sum, both}
-use Rattle.star.proofs.Accepted.{row-used, used-row}
-use Rattle.star.proofs.Claims.{inRow-byte, marked-byte, marked-zero}
-use Rattle.star.specs.Accepted.{Row}
-use Rattle.star.specs.Call.{Call, tableOf, used, graphOf, weightOf, claimed, claimWeight}
+use Rattle.star_spec.proofs.Accepted.{row-used, used-row}
+use Rattle.star_spec.proofs.Claims.{inRow-byte, marked-byte, marked-zero}
+use Rattle.star_spec.specs.Accepted.{Row}
+use Rattle.star_spec.specs.Call.{Call, tableOf, used, graphOf, weightOf, claimed, claimWeight}
 
 -- numbers in bytes, and the signed number of a word
 pub number-little : (b : List ℕ) (k j : ℕ) → P.number b k j ≡ little b k j

@@ -10,10 +10,10 @@ use mathlib.Core.List.{List}
 use mathlib.Core.Option.{Option, none, some}
 use mathlib.Core.Path.{_≡_, refl, sym, _∙_, ap, fun-ext}
 use native.Mathlib.Omega.{arith}
-use Rattle.graph.specs.Builder.{tree}
+use Rattle.graph_theory.specs.Builder.{tree}
 use Rattle.mst1.proofs.Answers.{loaded-weights, loaded-graph, tree-inside}
 use Rattle.mst1.specs.steps.Growth.{loadedGraph, Grows}
-use Rattle.prices.specs.Quote.{priced}
+use Rattle.price_theory.specs.Quote.{priced}
 use Rattle.refusal.specs.Outcomes.{refusalOf}
 use Rattle.refusal.specs.declared.Outcome.{Outcome}
 use Rattle.refusal.specs.declared.Outcome.the-variants.{Done, Refused}
@@ -22,15 +22,15 @@ use Rattle.rowset.proofs.Integers.{total-cut}
 use Rattle.rowset.specs.Bytes.{inRow}
 use Rattle.rowset.specs.Integers.{fromBits, signed, total}
 use Rattle.slice.specs.Slices.{size}
-use Rattle.star.proofs.Accepted.{Taken, taken}
-use Rattle.star.specs.Accepted.{Row}
-use Rattle.star.specs.Call.{Call, rowsOf, used, graphOf, weightOf}
-use Rattle.star.specs.Mst1.{chosenRows}
-use Rattle.star.specs.Refusals.{Accepted, cause, isNone, noTree, orElse, refusal}
+use Rattle.star_spec.proofs.Accepted.{Taken, taken}
+use Rattle.star_spec.specs.Accepted.{Row}
+use Rattle.star_spec.specs.Call.{Call, rowsOf, used, graphOf, weightOf}
+use Rattle.star_spec.specs.Mst1.{chosenRows}
+use Rattle.star_spec.specs.Refusals.{Accepted, cause, isNone, noTree, orElse, refusal}
 use Rattle.table.proofs.Loads.{load-taken, loaded-taken}
 use Rattle.table.specs.Loads.{loadedRow}
-use Rattle.quoting.proofs.Causes.{causes-in-order, row-asked}
-use Rattle.quoting.specs.Quote.{rowAsked, quoteCauses, builtTotal, newPrices, unquoted, quoted, quoteOr, quote}
+use Rattle.price_spec.proofs.Causes.{causes-in-order, row-asked}
+use Rattle.price_spec.specs.Quote.{rowAsked, quoteCauses, builtTotal, newPrices, unquoted, quoted, quoteOr, quote}
 
 -- a call that the checks accept: the table is accepted and the row in use, so that its bytes and the row fit a column of 1,024 prices
 module _ (c : Call) (k : ℕ) {o : Outcome} (checked : refusalOf o ≡ refusal (rowAsked c k)) (done : o ≡ Done) where

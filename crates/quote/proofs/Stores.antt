@@ -12,7 +12,7 @@ use mathlib.Core.Path.{_≡_, refl, sym, _∙_, ap}
 use native.Mathlib.Decide.{decLt}
 use native.Mathlib.Numerals.{add-one}
 use native.Mathlib.Omega.{arith}
-use Rattle.checks.proofs.Laws.{little-four}
+use Rattle.table_checks.proofs.Laws.{little-four}
 use Rattle.rowset.specs.Bytes.{little, inRow}
 
 -- the first i bytes are those of the column, and the others 0

@@ -2,7 +2,7 @@
 -- Assumes nothing.
 use Rattle.quote.specs.declared.Quoted.{Quoted}
 use Rattle.quote.specs.declared.Quoted.the-variants.{Totals, Refused}
-use Rattle.quoting.specs.Quote.{QuoteAnswer, unquoted, quoted}
+use Rattle.price_spec.specs.Quote.{QuoteAnswer, unquoted, quoted}
 use Rattle.rowset.specs.Integers.{fromBits}
 
 unfoldable pub answerOf : Quoted → QuoteAnswer

@@ -7,9 +7,9 @@ ghost use mathlib.Core.Path.{_≡_};
 ghost use Rattle.refusal.specs.Outcomes.{refusalOf};
 ghost use Rattle.rowset.specs.Bytes.{inRow};
 ghost use Rattle.slice.specs.Slices.{component};
-ghost use Rattle.star.specs.Call.{tableOf};
-ghost use Rattle.star.specs.Refusals.{refusal};
-ghost use Rattle.quoting.specs.Quote.{asked, askedWork, rowAsked, quote};
+ghost use Rattle.star_spec.specs.Call.{tableOf};
+ghost use Rattle.star_spec.specs.Refusals.{refusal};
+ghost use Rattle.price_spec.specs.Quote.{asked, askedWork, rowAsked, quote};
 ghost use Rattle.quote.specs.Answers.{answerOf};
 use refusal::Outcome;
 use refusal::Refusal;
@@ -54,9 +54,9 @@ pub fn row_check(
         let c = tableOf n m whole (component rows) (now (left .entry)) (now (right .entry)) (now (weight .entry)) (now (left .entry)) in
         ⌜ refusalOf r ≡ refusal (rowAsked c row) ⌝ }
 {
-    let table = checks::table_check(n, m, whole, rows, left, right, weight, left);
+    let table = table_checks::table_check(n, m, whole, rows, left, right, weight, left);
     let asked = slice::get(slice::rows::rows_among(m, rows), row as usize);
-    checks::first(table, checks::refused_if(!asked, 7))
+    table_checks::first(table, table_checks::refused_if(!asked, 7))
 }
 
 // The prices of a column, 0 in the rows past its end.

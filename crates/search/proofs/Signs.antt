@@ -9,8 +9,8 @@ use mathlib.Core.Path.{_≡_, refl, sym, ap, _∙_, fun-ext, subst}
 use lib.IntN.{ℤ}
 use lib.ListN.{getD}
 use lib.Pow.{high}
-use Rattle.lent.proofs.Loops.{none, column-read, component-in}
-use Rattle.lent.proofs.Signs.{bits-parts, first-split}
+use Rattle.search_columns.proofs.Loops.{none, column-read, component-in}
+use Rattle.search_columns.proofs.Signs.{bits-parts, first-split}
 use Rattle.rowset.proofs.Integers.{up, down, integers}
 use Rattle.rowset.proofs.Laws.{any-none, refuted, clash, upwards, xor-false-same}
 use Rattle.rowset.proofs.Numbers.{number-split, number-below}

@@ -1,7 +1,7 @@
-// The searches MATCH, MIN, MAX and GREAT over the rows of a table that a slice selects. Their loops stand in the crates `matching`, `great` and `extremes`, over columns that are lent, where the first columns may be left out.
+// The searches MATCH, MIN, MAX and GREAT over the rows of a table that a slice selects. Their loops stand in the crates `search_match`, `search_great` and `search_extremes`, over columns that are lent, where the first columns may be left out.
 // What a row holds in the others is the row itself, for MATCH, where every row is below 2 ^ (32 - first) (the law `small-row`); the integer is the row's, for GREAT, MIN and MAX, where `sign_columns` are left out (the law `sign-row`).
-use great::Compared;
-use matching::Matched;
+use search_great::Compared;
+use search_match::Matched;
 use slice::Slice;
 use table::Table;
 ghost use mathlib.Core.Path.{_≡_};
@@ -34,8 +34,8 @@ pub fn sign_columns(t: Table) -> usize
 pub fn match_rows(t: Table, w: u32, x: Slice) -> Slice
     ensures { λ r. ⌜ component r ≡ equalTo (row t) w (component x) ⌝ }
 {
-    let stored = lent::columns_of(t);
-    matching::match_from(&stored.columns, 0, w, x)
+    let stored = search_columns::columns_of(t);
+    search_match::match_from(&stored.columns, 0, w, x)
 }
 
 // MATCH whole: the selected rows that equal w, and the number of columns read from column 32 to the left until no row was left in the running.
@@ -43,8 +43,8 @@ pub fn match_count(t: Table, w: u32, x: Slice) -> Matched
     ensures rows { λ r. ⌜ component (r .rows) ≡ equalTo (row t) w (component x) ⌝ }
     ensures read { λ r. ⌜ r .read ≡ columnsRead size (column t) w (component x) ⌝ }
 {
-    let stored = lent::columns_of(t);
-    matching::match_right(&stored.columns, 0, w, x)
+    let stored = search_columns::columns_of(t);
+    search_match::match_right(&stored.columns, 0, w, x)
 }
 
 // GREAT: the selected rows that are greater than w, in the order of the integers that 32 bits stand for, and those that equal it.
@@ -52,22 +52,22 @@ pub fn great(t: Table, w: u32, x: Slice) -> Compared
     ensures greater { λ r. ⌜ component (r .greater) ≡ greaterThan (λ i. signed (row t i)) (signed w) (component x) ⌝ }
     ensures equal { λ r. ⌜ component (r .equal) ≡ sameAs (λ i. signed (row t i)) (signed w) (component x) ⌝ }
 {
-    let stored = lent::columns_of(t);
-    great::great_from(&stored.columns, 0, w, x)
+    let stored = search_columns::columns_of(t);
+    search_great::great_from(&stored.columns, 0, w, x)
 }
 
 // MIN: the selected rows than which no selected row is smaller, in that order.
 pub fn min(t: Table, x: Slice) -> Slice
     ensures { λ r. ⌜ component r ≡ smallest size (λ i. signed (row t i)) (component x) ⌝ }
 {
-    let stored = lent::columns_of(t);
-    extremes::min_from(&stored.columns, 0, x)
+    let stored = search_columns::columns_of(t);
+    search_extremes::min_from(&stored.columns, 0, x)
 }
 
 // MAX: the selected rows than which no selected row is larger, in that order.
 pub fn max(t: Table, x: Slice) -> Slice
     ensures { λ r. ⌜ component r ≡ largest size (λ i. signed (row t i)) (component x) ⌝ }
 {
-    let stored = lent::columns_of(t);
-    extremes::max_from(&stored.columns, 0, x)
+    let stored = search_columns::columns_of(t);
+    search_extremes::max_from(&stored.columns, 0, x)
 }

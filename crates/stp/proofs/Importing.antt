@@ -12,15 +12,15 @@ use mathlib.Core.Path.{_≡_, refl, sym, ap, _∙_}
 use native.Mathlib.Omega.{arith}
 use Rattle.refusal.specs.declared.Refusal.{Refusal}
 use Rattle.rowset.specs.Sets.{upTo, both}
-use Rattle.star.specs.Call as call
-use Rattle.star.specs.Call.{Call, callOf}
-use Rattle.star.specs.Refusals.{maxRows, cause, badVertices, tooManyRows, badLengths, rowCauses, tableCauses, orElse, refusal}
-use Rattle.star.proofs.Accepted.{none-head, none-tail, none-cons, none-both, none-nil, none-cause, cause-none, refusal-append}
-use Rattle.star.proofs.Plain.{few-plain}
-use Rattle.steinlib.specs.Import.{tableOf, badColumns, badEdges, importCauses, untaken, taken, sizes, answered, filled, columnsOf}
-use Rattle.steinlib.specs.Reader.{Read, Reading, broken, whole}
-use Rattle.reader.specs.Readings.{finished}
-use Rattle.reader.specs.declared.lines.Step.{Step}
+use Rattle.star_spec.specs.Call as call
+use Rattle.star_spec.specs.Call.{Call, callOf}
+use Rattle.star_spec.specs.Refusals.{maxRows, cause, badVertices, tooManyRows, badLengths, rowCauses, tableCauses, orElse, refusal}
+use Rattle.star_spec.proofs.Accepted.{none-head, none-tail, none-cons, none-both, none-nil, none-cause, cause-none, refusal-append}
+use Rattle.star_spec.proofs.Plain.{few-plain}
+use Rattle.stp_spec.specs.Import.{tableOf, badColumns, badEdges, importCauses, untaken, taken, sizes, answered, filled, columnsOf}
+use Rattle.stp_spec.specs.Reader.{Read, Reading, broken, whole}
+use Rattle.stp_reader.specs.Readings.{finished}
+use Rattle.stp_reader.specs.declared.lines.Step.{Step}
 
 -- causes of which one applies decide before later ones
 refusal-first : (xs ys : List (Option Refusal)) (x : Refusal) → refusal xs ≡ some x → refusal (xs ++ ys) ≡ some x

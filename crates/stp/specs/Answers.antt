@@ -1,6 +1,6 @@
 -- What an import's answer says, by its cases.
 -- Assumes nothing.
-use Rattle.steinlib.specs.Import.{ImportAnswer, untaken, taken}
+use Rattle.stp_spec.specs.Import.{ImportAnswer, untaken, taken}
 use Rattle.stp.specs.declared.Imported.{Imported}
 use Rattle.stp.specs.declared.Imported.the-variants.{Taken, Refused}
 

@@ -4,21 +4,21 @@ ghost use mathlib.Core.Option.{none};
 ghost use mathlib.Core.Path.{_≡_};
 ghost use Prim.Native.Nat.{_*_, _≤_};
 ghost use lib.ListN.{length, take, drop, getD};
-ghost use Rattle.reader.specs.Readings.{Sized, readOf, rowsOf, finished};
+ghost use Rattle.stp_reader.specs.Readings.{Sized, readOf, rowsOf, finished};
 ghost use Rattle.refusal.specs.Outcomes.{refusalOf};
-ghost use Rattle.star.specs.Refusals.{badVertices, tooManyRows, rowCauses, refusal};
-ghost use Rattle.steinlib.specs.Import.{imported, maxText, readText, tableOf, badColumns, importCauses, leftAfter, rightAfter, weightAfter};
+ghost use Rattle.star_spec.specs.Refusals.{badVertices, tooManyRows, rowCauses, refusal};
+ghost use Rattle.stp_spec.specs.Import.{imported, maxText, readText, tableOf, badColumns, importCauses, leftAfter, rightAfter, weightAfter};
 ghost use Rattle.stp.specs.Answers.{answerOf};
 ghost use Rattle.stp.specs.steps.Settled.{Settled};
-use reader::lines::EDGES;
-use reader::lines::FOUND;
-use reader::lines::LINES;
-use reader::lines::NODES;
-use reader::lines::ROWS;
-use reader::lines::Step;
-use reader::lines::WEIGHT_BYTES;
 use refusal::Outcome;
 use refusal::Refusal;
+use stp_reader::lines::EDGES;
+use stp_reader::lines::FOUND;
+use stp_reader::lines::LINES;
+use stp_reader::lines::NODES;
+use stp_reader::lines::ROWS;
+use stp_reader::lines::Step;
+use stp_reader::lines::WEIGHT_BYTES;
 
 // The number of vertices and of rows that were read.
 pub struct Sizes {
@@ -61,7 +61,7 @@ fn rows_check(
     let m = found[LINES] as usize;
     let end = 4 * m;
     let rows = slice::rows::rows_to(m);
-    checks::table_check(
+    table_checks::table_check(
         found[NODES],
         m,
         true,
@@ -96,7 +96,7 @@ fn import_check(
     if found[LINES] != found[EDGES] {
         return refused(13);
     }
-    let size = checks::size_check(found[NODES], found[LINES] as usize);
+    let size = table_checks::size_check(found[NODES], found[LINES] as usize);
     let Outcome::Refused(refusal) = size else {
         return rows_check(found, left, right, weight, l, r, w);
     };
@@ -178,7 +178,7 @@ pub fn import(text: &[u8], left: &mut [u8], right: &mut [u8], weight: &mut [u8])
     ensures rights { λ r. ⌜ now (right .exit) ≡ rightAfter (now (text .entry)) (now (left .entry)) (now (right .entry)) (now (weight .entry)) ⌝ }
     ensures weights { λ r. ⌜ now (weight .exit) ≡ weightAfter (now (text .entry)) (now (left .entry)) (now (right .entry)) (now (weight .entry)) ⌝ }
 {
-    let read = reader::read(text);
+    let read = stp_reader::read(text);
     let found = read.found;
     let lefts = read.left;
     let rights = read.right;

@@ -14,7 +14,7 @@ use Rattle.slice.proofs.Bits.{bit-of-zero}
 use Rattle.slice.proofs.Laws.{component-outside}
 use Rattle.slice.proofs.Sets.{upTo-inside}
 use Rattle.slice.proofs.Stores.{getD-within}
-use Rattle.planes.proofs.Words.{blank-empty}
+use Rattle.slice_planes.proofs.Words.{blank-empty}
 use Rattle.rowset.proofs.Laws.{clash}
 use Rattle.table.specs.Tables.{width, blank, column, row, NothingOutside}
 use Rattle.table.specs.declared.Table.{Table}

@@ -16,10 +16,10 @@ use Rattle.rowset.specs.Columns.{inColumns}
 use Rattle.refusal.specs.declared.Refusal.{Refusal}
 use Rattle.rowset.specs.Sets.{upTo}
 use Rattle.rowset.specs.Bytes.{little, inRow}
-use Rattle.planes.specs.Planes.{plane, bitPlane}
+use Rattle.slice_planes.specs.Planes.{plane, bitPlane}
 use Rattle.slice.specs.Slices.{size, component}
 use Rattle.slice.specs.declared.Slice.{Slice}
-use Rattle.planes.specs.declared.Planes.{Planes}
+use Rattle.slice_planes.specs.declared.Planes.{Planes}
 use Rattle.slice.proofs.Bits.{bit-of-zero}
 use Rattle.slice.proofs.Sets.{upTo-inside, upTo-below, upTo-above}
 use Rattle.slice.proofs.Stores.{getD-within}

@@ -7,7 +7,7 @@ use lib.ListN.{length, getD}
 use Rattle.rowset.specs.Columns.{inColumns}
 pub use Rattle.rowset.specs.Columns.{width}
 use Rattle.rowset.specs.Sets.{empty, upTo}
-pub use Rattle.planes.specs.Planes.{blank}
+pub use Rattle.slice_planes.specs.Planes.{blank}
 use Rattle.slice.specs.Slices.{size, component}
 use Rattle.table.specs.declared.Table.{Table}
 

@@ -6,9 +6,9 @@ ghost use Rattle.slice.specs.Slices.{component};
 ghost use Rattle.table.specs.Tables.{column, row};
 ghost use Rattle.table.specs.Loads.{loadRefused, loadRefusal, loadedRow};
 ghost use Rattle.table.specs.steps.Loading.{byteIn, upperBytes};
-use planes::Planes;
 use refusal::Refusal;
 use slice::Slice;
+use slice_planes::Planes;
 
 // The number of columns of a table, and of those left of the last eight.
 pub const WIDTH: usize = 32;
@@ -94,7 +94,7 @@ fn filled(column: &[u8], count: u32) -> Table
     let mut k = count;
     while 0 < k {
         k -= 1;
-        let p = planes::split(column, count, k);
+        let p = slice_planes::split(column, count, k);
         t = append(t, p);
     }
     t

@@ -12,8 +12,8 @@ use mathlib.Core.Path.{_≡_, refl, sym, ap, _∙_}
 use native.Mathlib.Omega.{arith}
 use Rattle.claim.proofs.Laws.{claimRows-marked}
 use Rattle.claim.specs.Claims.{claimRows}
-use Rattle.plans.proofs.Causes.{none-before, first-refused, second-refused, both-taken}
-use Rattle.plans.specs.Which.{neither, firstPlan, secondPlan, lighterPlan, which}
+use Rattle.which_spec.proofs.Causes.{none-before, first-refused, second-refused, both-taken}
+use Rattle.which_spec.specs.Which.{neither, firstPlan, secondPlan, lighterPlan, which}
 use Rattle.refusal.specs.Outcomes.{refusalOf}
 use Rattle.refusal.specs.declared.Outcome.{Outcome}
 use Rattle.refusal.specs.declared.Outcome.the-variants.{Done, Refused}
@@ -25,9 +25,9 @@ use Rattle.rowset.specs.Bytes.{inRow}
 use Rattle.rowset.specs.Integers.{fromBits, signed, total}
 use Rattle.rowset.specs.Sets.{upTo, both}
 use Rattle.slice.specs.Slices.{size}
-use Rattle.star.proofs.Accepted.{Taken, taken, used-row}
-use Rattle.star.specs.Call.{Call, rowsOf, used, weightOf, marked, claimed, claimWeight, withClaim}
-use Rattle.star.specs.Refusals.{tableCauses, cstCauses, refusal}
+use Rattle.star_spec.proofs.Accepted.{Taken, taken, used-row}
+use Rattle.star_spec.specs.Call.{Call, rowsOf, used, weightOf, marked, claimed, claimWeight, withClaim}
+use Rattle.star_spec.specs.Refusals.{tableCauses, cstCauses, refusal}
 
 -- ── The order of the integers of 64 bits ──
 

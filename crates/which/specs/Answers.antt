@@ -1,6 +1,6 @@
 -- What a decision says, by its cases: the plan that stands with its weight, the integer that its 64 bits stand for, or the refusal.
 -- Assumes nothing.
-use Rattle.plans.specs.Which.{Standing, neither, firstPlan, secondPlan}
+use Rattle.which_spec.specs.Which.{Standing, neither, firstPlan, secondPlan}
 use Rattle.rowset.specs.Integers.{fromBits}
 use Rattle.which.specs.declared.Decision.{Decision}
 use Rattle.which.specs.declared.Decision.the-variants.{First, Second, Refused}

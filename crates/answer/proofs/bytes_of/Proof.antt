@@ -6,7 +6,7 @@ use Rattle.answer.proofs.bytes_of.Statement.{statement}
 use Rattle.answer.proofs.bytes_of.Tie as tie
 use Rattle.answer.specs.Records.{fieldsOf}
 use Rattle.rowset.proofs.Signed.{bits-again}
-use Rattle.star.specs.Door.{bytesOf, fieldBytes}
+use Rattle.star_spec.specs.Door.{bytesOf, fieldBytes}
 
 returns : tie.Need-returns
 unfolding fieldsOf bytesOf fieldBytes

@@ -6,7 +6,7 @@ use Rattle.answer.proofs.of_outcome.Statement.{statement}
 use Rattle.answer.proofs.of_outcome.Tie as tie
 use Rattle.refusal.specs.Outcomes.{refusalOf}
 use Rattle.rowset.specs.Integers.{fromBits}
-use Rattle.star.specs.Door.{fields, outcomeFields}
+use Rattle.star_spec.specs.Door.{fields, outcomeFields}
 
 returns : tie.Need-returns
 unfolding fieldsOf outcomeFields refusalOf fromBits

@@ -9,7 +9,7 @@ use native.Mathlib.Omega.{arith}
 use Rattle.answer.proofs.Copies.{copy-more, copy-all}
 use Rattle.answer.proofs.write_answer.Statement.{statement}
 use Rattle.answer.proofs.write_answer.Tie as tie
-use Rattle.star.specs.Door.{wellLent, answerAfter}
+use Rattle.star_spec.specs.Door.{wellLent, answerAfter}
 
 abbrev Inv-loop : tie.InvT-loop
 Inv-loop answer₀ bytes i₀ answer i = (i ≤ 16) × (length answer ≡ 16) × (length bytes ≡ 16) × (take i answer ≡ take i bytes)

@@ -1,7 +1,7 @@
 -- `breaking::breaking` meets its contract: the plain call with its rows as a slice holds them. Assumes nothing.
 use borrow.Author.Needs.{needs}
 use mathlib.Core.Path.{_∙_}
-use Rattle.quoting.proofs.Plain.{plain-breaking}
+use Rattle.price_spec.proofs.Plain.{plain-breaking}
 use Rattle.breaking.proofs.breaking.Statement.{statement}
 use Rattle.breaking.proofs.breaking.Tie as tie
 

@@ -3,7 +3,7 @@ use borrow.Author.Needs.{needs}
 use Prim.Native.Nat.{ℕ}
 use mathlib.Core.Bool.{Bool}
 use mathlib.Core.Path.{_≡_}
-use Rattle.loads.proofs.Numbers.{zeros, length-put}
+use Rattle.table_loads.proofs.Numbers.{zeros, length-put}
 use Rattle.rowset.specs.Columns.{width, inColumns}
 use Rattle.rowset.specs.Integers.{integerIn, signed}
 use Rattle.breaking.proofs.heaviest_price.Statement.{statement}

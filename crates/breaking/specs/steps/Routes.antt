@@ -4,15 +4,15 @@ use lib.ListN.{length}
 use mathlib.Core.Bool.{Bool, true, false}
 use mathlib.Core.List.{List}
 use mathlib.Core.Path.{_≡_}
-use Rattle.matrix.specs.Matrix.{matrixColumn}
+use Rattle.path_matrix.specs.Matrix.{matrixColumn}
 use Rattle.path.specs.steps.Walks.{walk}
-use Rattle.quoting.specs.Breaking.{BreakingAnswer, breaksAt, breakingPrice}
+use Rattle.price_spec.specs.Breaking.{BreakingAnswer, breaksAt, breakingPrice}
 use Rattle.rowset.specs.Bytes.{inRow}
 use Rattle.rowset.specs.Integers.{signed}
 use Rattle.rowset.specs.Searches.{largest}
 use Rattle.rowset.specs.Sets.{uppermost}
 use Rattle.slice.specs.Slices.{size}
-use Rattle.star.specs.Call.{Call}
+use Rattle.star_spec.specs.Call.{Call}
 use Rattle.table.specs.Loads.{loadedRow}
 
 -- the price x of the heaviest row that a walk over the chosen rows has between row k's ends is the breaking price

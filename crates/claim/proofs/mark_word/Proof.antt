@@ -11,7 +11,7 @@ use mathlib.Core.Path.{_≡_, refl, sym, ap, _∙_}
 use mir.Val.{boolByte}
 use native.Mathlib.Omega.{arith}
 use Rattle.rowset.specs.Words.{wordAt}
-use Rattle.star.specs.Call.{marked}
+use Rattle.star_spec.specs.Call.{marked}
 use Rattle.claim.proofs.Laws.{marked-past, word-step, word-below, word-none}
 use Rattle.claim.proofs.mark_word.Statement.{statement}
 use Rattle.claim.proofs.mark_word.Tie as tie

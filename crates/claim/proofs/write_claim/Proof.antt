@@ -7,10 +7,10 @@ use mathlib.Core.List.{List, [], _∷_}
 use mathlib.Core.Path.{_≡_, refl, sym, ap, ap₂, _∙_}
 use native.Mathlib.Nat.{zero-add}
 use native.Mathlib.Omega.{arith}
-use Rattle.inplace.proofs.Laws.{component-words}
+use Rattle.slice_words.proofs.Laws.{component-words}
 use Rattle.slice.specs.Slices.{component}
 use Rattle.slice.proofs.Stores.{Filled, filled-none, filled-more, filled-all}
-use Rattle.star.specs.Call.{claimFrom, claimOf}
+use Rattle.star_spec.specs.Call.{claimFrom, claimOf}
 use Rattle.claim.proofs.Laws.{as-digit}
 use Rattle.claim.proofs.write_claim.Statement.{statement}
 use Rattle.claim.proofs.write_claim.Tie as tie

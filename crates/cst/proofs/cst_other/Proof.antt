@@ -1,7 +1,7 @@
 -- `cst::cst_other` meets its contract: the plain call with its rows as a slice holds them. Assumes nothing.
 use borrow.Author.Needs.{needs}
 use mathlib.Core.Path.{_∙_}
-use Rattle.star.proofs.Plain.{plain-cst, plain-equalRows}
+use Rattle.star_spec.proofs.Plain.{plain-cst, plain-equalRows}
 use Rattle.cst.proofs.cst_other.Statement.{statement}
 use Rattle.cst.proofs.cst_other.Tie as tie
 

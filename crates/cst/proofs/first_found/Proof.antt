@@ -6,22 +6,22 @@ use mathlib.Core.Logic.{⊎-elim}
 use mathlib.Core.Path.{_≡_, refl, sym, ap, _∙_}
 use borrow.Author.Needs.{needs}
 use native.Mathlib.Omega.{arith}
-use Rattle.inplace.proofs.Laws.{component-words}
-use Rattle.checks.proofs.Laws.{uppermost-bound}
+use Rattle.slice_words.proofs.Laws.{component-words}
+use Rattle.table_checks.proofs.Laws.{uppermost-bound}
 use Rattle.rowset.specs.Bytes.{inRow}
 use Rattle.rowset.specs.Columns.{width}
 use Rattle.rowset.specs.Integers.{fromBits}
 use Rattle.rowset.specs.Searches.{greaterThan}
 use Rattle.rowset.specs.Sets.{any, uppermost}
 use Rattle.rowset.specs.Words.{inWords}
-use Rattle.loads.proofs.Numbers.{zeros, length-put}
-use Rattle.loads.proofs.Signs.{sign-integer, sign-bits}
+use Rattle.table_loads.proofs.Numbers.{zeros, length-put}
+use Rattle.table_loads.proofs.Signs.{sign-integer, sign-bits}
 use Rattle.slice.specs.Slices.{size, component}
 use Rattle.slice.specs.declared.Slice.{Slice}
 use Rattle.cst.proofs.Sets.{component-position}
 use Rattle.cst.proofs.Paths.{heavier-out, exchange-found, none-found, comes-in, Remembered, remembered-more, remembered-all, remembered-bound, equal-found}
 use Rattle.cst.proofs.Sets.{passed-over, later, later-all, later-none, later-next, later-skip, later-some, later-first}
-use Rattle.lent.specs.steps.Integers.{integersAfter}
+use Rattle.search_columns.specs.steps.Integers.{integersAfter}
 use Rattle.cst.specs.steps.Paths.{weightIn, someOn, firstOn, rowWith}
 use Rattle.cst.proofs.first_found.Statement.{statement}
 use Rattle.cst.proofs.first_found.Tie as tie

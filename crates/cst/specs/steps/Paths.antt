@@ -11,11 +11,11 @@ use Rattle.rowset.specs.Bytes.{inRow}
 use Rattle.rowset.specs.Integers.{signed}
 use Rattle.rowset.specs.Searches.{greaterThan, sameAs}
 use Rattle.rowset.specs.Sets.{both, oneOf, any, uppermost}
-use Rattle.matrix.specs.Matrix.{matrixColumn}
+use Rattle.path_matrix.specs.Matrix.{matrixColumn}
 use Rattle.slice.specs.Slices.{size}
-use Rattle.star.specs.Call.{Call}
-use Rattle.star.specs.MatrixPath.{pathColumn}
-use Rattle.star.specs.Refusals.{cstCauses, refusal}
+use Rattle.star_spec.specs.Call.{Call}
+use Rattle.star_spec.specs.MatrixPath.{pathColumn}
+use Rattle.star_spec.specs.Refusals.{cstCauses, refusal}
 use Rattle.cst.specs.declared.Equal.{Equal}
 use Rattle.cst.specs.declared.Exchange.{Exchange}
 

@@ -1,7 +1,7 @@
 -- `districts::call_check` meets its contract: the causes in order. Assumes nothing.
 use borrow.Author.Needs.{needs}
-use Rattle.districting.proofs.Causes.{checks-in-order}
-use Rattle.districting.specs.Districts.{badForests}
+use Rattle.districts_spec.proofs.Causes.{checks-in-order}
+use Rattle.districts_spec.specs.Districts.{badForests}
 use Rattle.districts.proofs.call_check.Statement.{statement}
 use Rattle.districts.proofs.call_check.Tie as tie
 

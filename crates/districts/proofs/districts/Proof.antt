@@ -1,7 +1,7 @@
 -- `districts::districts` meets its contract: the plain call with its rows as a slice holds them. Assumes nothing.
 use borrow.Author.Needs.{needs}
 use mathlib.Core.Path.{_∙_}
-use Rattle.districting.proofs.Plain.{plain-answer, plain-forests, plain-marks}
+use Rattle.districts_spec.proofs.Plain.{plain-answer, plain-forests, plain-marks}
 use Rattle.districts.proofs.districts.Statement.{statement}
 use Rattle.districts.proofs.districts.Tie as tie
 

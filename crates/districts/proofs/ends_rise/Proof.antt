@@ -6,7 +6,7 @@ use lib.ListN.{length, drop}
 use mathlib.Core.Path.{_≡_, refl}
 use native.Mathlib.Omega.{arith}
 use Rattle.districts.proofs.Ends.{rises-not, rises-more, rises-last}
-use Rattle.forest.specs.Districts.{risesTo}
+use Rattle.districts_theory.specs.Districts.{risesTo}
 use Rattle.districts.proofs.ends_rise.Statement.{statement}
 use Rattle.districts.proofs.ends_rise.Tie as tie
 

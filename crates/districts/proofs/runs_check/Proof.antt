@@ -3,7 +3,7 @@ use borrow.Author.Needs.{needs}
 use borrow.Author.Tests.{lt-ltb, le-ltb}
 use mathlib.Core.Logic.{⊎-elim}
 use native.Mathlib.Omega.{arith}
-use Rattle.districting.specs.Districts.{badRuns}
+use Rattle.districts_spec.specs.Districts.{badRuns}
 use Rattle.districts.proofs.runs_check.Statement.{statement}
 use Rattle.districts.proofs.runs_check.Tie as tie
 

@@ -5,8 +5,8 @@ use lib.IntN.{ℤ}
 use mathlib.Core.Bool.{Bool}
 use mathlib.Core.List.{List}
 use mathlib.Core.Path.{_≡_}
-use Rattle.forest.specs.Districts.{forests, within}
-use Rattle.graph.specs.Graph.{Graph}
+use Rattle.districts_theory.specs.Districts.{forests, within}
+use Rattle.graph_theory.specs.Graph.{Graph}
 use Rattle.mst1.specs.steps.Growth.{Grows}
 
 pub record Divided (g : Graph) (w : ℕ → ℤ) (ends : List ℕ) (rows : ℕ → Bool) (whole : Bool) (chosen : ℕ → Bool) : Type 0 where

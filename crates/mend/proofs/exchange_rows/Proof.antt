@@ -5,10 +5,10 @@ use borrow.Author.Needs.{needs}
 use lib.IntN.{ℤ}
 use mathlib.Core.Path.{_∙_, ap}
 use native.Mathlib.Omega.{arith}
-use Rattle.loads.proofs.Numbers.{zeros, length-put}
-use Rattle.loads.proofs.Signs.{sign-integer}
+use Rattle.table_loads.proofs.Numbers.{zeros, length-put}
+use Rattle.table_loads.proofs.Signs.{sign-integer}
 use Rattle.slice.specs.Slices.{component}
-use Rattle.groups.specs.steps.Machine.{stateOf, visits}
+use Rattle.mend_groups.specs.steps.Machine.{stateOf, visits}
 use Rattle.mend.specs.steps.Machine.{swapAt}
 use Rattle.mend.proofs.exchange_rows.Statement.{statement}
 use Rattle.mend.proofs.exchange_rows.Tie as tie

@@ -42,16 +42,16 @@ use denote.Triple.Walked.{says, Stays, gave-slice, stay-dropped, walkOf, AllGo, 
 use denote.Exit.{yes}
 use denote.Signature.{plain}
 use denote.Enum.Laws as EL
-use Rattle.drawings.specs.Mend.{mend as mends, mendMarks, mendList}
-use Rattle.record.specs.declared.Record.{Record}
-use Rattle.record.proofs.Record as T
-use Rattle.recordlist.specs.steps.Stored.{storedTo}
-use Rattle.recordlist.proofs.Lists.{map-same}
-use Rattle.recordlist.proofs.write_records as write
-use Rattle.recordlist.proofs.write_records.Symbol as write-def
-use Rattle.recordlist.proofs.write_records.Symbol.{name as #recordlist·write-records}
-use Rattle.recordlist.proofs.write_records.Met as write-thm
-use Rattle.star.specs.Call.{Call, callOf}
+use Rattle.mend_spec.specs.Mend.{mend as mends, mendMarks, mendList}
+use Rattle.mend_record.specs.declared.Record.{Record}
+use Rattle.mend_record.proofs.Record as T
+use Rattle.mend_list.specs.steps.Stored.{storedTo}
+use Rattle.mend_list.proofs.Lists.{map-same}
+use Rattle.mend_list.proofs.write_records as write
+use Rattle.mend_list.proofs.write_records.Symbol as write-def
+use Rattle.mend_list.proofs.write_records.Symbol.{name as #mend-list·write-records}
+use Rattle.mend_list.proofs.write_records.Met as write-thm
+use Rattle.star_spec.specs.Call.{Call, callOf}
 use Rattle.mend.specs.Answers.{answerOf, countOf}
 use Rattle.mend.specs.declared.Mended.{Mended}
 use Rattle.mend.specs.declared.Mending.{Mending}
@@ -163,7 +163,7 @@ module _ {M : Type 1} (𝓤 : URA M) (H : Heap 𝓤) (A : Atoms 𝓤) (W : Given
       nothing ! $ owned ! usize (Is usize) (uint-makes 𝓤 H A W w64) (r .count) _ (is-count r is) $ fjoin ! $ owned ! N (Is N) (array-makes 𝓤 H A W u32 (uint-makes 𝓤 H A W w32) 9216) (r .list) _ (is-list r is) $ fjoin ! $
       move ! (3 ∷ 0 ∷ []) $ fjoin ! $ move ! (1 ∷ 0 ∷ []) $ join ! $ frame ! $ done !
 
-  module _ (C : Calls 𝓤 H) (Λ : Loops 𝓤 H) (fm : FmC 𝓤 H (W .laws) C) (known-core : Triple 𝓤 (C #mend·mend-claim) (Core 𝓤 H A mem run)) (known-write : Triple 𝓤 (C #recordlist·write-records) (Write 𝓤 H A mem run)) where
+  module _ (C : Calls 𝓤 H) (Λ : Loops 𝓤 H) (fm : FmC 𝓤 H (W .laws) C) (known-core : Triple 𝓤 (C #mend·mend-claim) (Core 𝓤 H A mem run)) (known-write : Triple 𝓤 (C #mend-list·write-records) (Write 𝓤 H A mem run)) where
     walk : n < 2 ^ 32 → Room u8 (length (x-left .now)) → Room u8 (length (x-right .now)) → Room u8 (length (x-weight .now)) → Room u8 (length (x-mark .now)) → Room R (length (x-records .now))
         → ent 𝓤 (onEntry 𝓤 H A mend.signature κs qs a at) (WpFn 𝓤 H C Λ code.function (vint w32 n ∷ sliceVal (x-left .ptr) (length (x-left .now)) ∷ sliceVal (x-right .ptr) (length (x-right .now)) ∷ sliceVal (x-weight .ptr) (length (x-weight .now)) ∷ sliceVal (x-mark .ptr) (length (x-mark .now)) ∷ sliceVal (x-records .ptr) (length (x-records .now)) ∷ []) Post)
     walk fits-n room-left room-right room-weight room-mark room-records =
@@ -199,7 +199,7 @@ module _ {M : Type 1} (𝓤 : URA M) (H : Heap 𝓤) (A : Atoms 𝓤) (W : Given
         keep ! (2 ∷ 3 ∷ 0 ∷ 1 ∷ []) $ by ! (exits r ws zs is e written)))))))))))))))))))))))))
 
 module _ {M : Type 1} (𝓤 : URA M) (H : Heap 𝓤) (A : Atoms 𝓤) (W : Given 𝓤 H A) (mem : Memory → SProp 𝓤) (run : Routine → Fun 𝓤) where
-  walks : (C : Calls 𝓤 H) (Λ : Loops 𝓤 H) → FmC 𝓤 H (W .laws) C → Triple 𝓤 (C #mend·mend-claim) (Core 𝓤 H A mem run) → Triple 𝓤 (C #recordlist·write-records) (Write 𝓤 H A mem run)
+  walks : (C : Calls 𝓤 H) (Λ : Loops 𝓤 H) → FmC 𝓤 H (W .laws) C → Triple 𝓤 (C #mend·mend-claim) (Core 𝓤 H A mem run) → Triple 𝓤 (C #mend-list·write-records) (Write 𝓤 H A mem run)
       → Walks 𝓤 H A mend.ended stayed (WpFn 𝓤 H C Λ code.function) (mend.clauses 𝓤 H A mem run)
   walks C Λ fm known-core known-write = walked 𝓤 H A mend.ended stayed (mend.clauses 𝓤 H A mem run) (WpFn 𝓤 H C Λ code.function)
       (λ κs. (uint-vals w32, (slice-vals, (slice-vals, (slice-vals, (slice-vals, (slice-vals, tt)))))))
@@ -211,7 +211,7 @@ module _ {M : Type 1} (𝓤 : URA M) (H : Heap 𝓤) (A : Atoms 𝓤) (W : Given
   goes = (goes-dropped 𝓤 H A W 5 (plain (λ _. u32)) yes (λ κs x f. refl), (goes-dropped 𝓤 H A W 5 (SliceRefOf (0 ∷ []) tt (plain (λ _. u8)) (λ _. tt)) yes (λ κs x f. refl), (goes-dropped 𝓤 H A W 5 (SliceRefOf (1 ∷ []) tt (plain (λ _. u8)) (λ _. tt)) yes (λ κs x f. refl), (goes-dropped 𝓤 H A W 5 (SliceRefOf (2 ∷ []) tt (plain (λ _. u8)) (λ _. tt)) yes (λ κs x f. refl), (goes-gave-slice 𝓤 H A W 5 3 tt (plain (λ _. u8)), (goes-gave-slice 𝓤 H A W 5 4 tt (plain (λ _. R)), tt))))))
 
 meets : {M : Type 1} (𝓤 : URA M) (H : Heap 𝓤) (A : Atoms 𝓤) → Given 𝓤 H A → (mem : Memory → SProp 𝓤) (run : Routine → Fun 𝓤) (𝓣 : Tables 𝓤 H)
-    → Triple 𝓤 (𝓣 .C #mend·mend-claim) (Core 𝓤 H A mem run) → Triple 𝓤 (𝓣 .C #recordlist·write-records) (Write 𝓤 H A mem run) → Meets 𝓤 H A mend.signature (WpFn 𝓤 H (𝓣 .C) (𝓣 .Λ) code.function) (mend.spec 𝓤 H A mem run)
+    → Triple 𝓤 (𝓣 .C #mend·mend-claim) (Core 𝓤 H A mem run) → Triple 𝓤 (𝓣 .C #mend-list·write-records) (Write 𝓤 H A mem run) → Meets 𝓤 H A mend.signature (WpFn 𝓤 H (𝓣 .C) (𝓣 .Λ) code.function) (mend.spec 𝓤 H A mem run)
 meets 𝓤 H A W mem run 𝓣 known-core known-write =
     walk-meets 𝓤 H A mend.ended stayed W (goes 𝓤 H A W mem run) (mend.clauses 𝓤 H A mem run)
     (WpFn 𝓤 H (𝓣 .C) (𝓣 .Λ) code.function) (WpFn-mono 𝓤 H (W .laws) 𝓣 code.function) (walks 𝓤 H A W mem run (𝓣 .C) (𝓣 .Λ) (fmOf 𝓤 H (W .laws) 𝓣) known-core known-write)
@@ -223,4 +223,4 @@ mend-spec 𝓤 H 𝓜 𝓖 𝓡 =
     (tables 𝓤 H 𝓜 𝓡 code.env .C) (tables 𝓤 H 𝓜 𝓡 code.env .Λ) #mend·mend code.function (code.unfolded 𝓤 H 𝓜 𝓡)
     (meets 𝓤 H (𝓖 .A) (givenOf 𝓤 H 𝓜 𝓖) (𝓜 .mem) (𝓡 .run) (tablesOf 𝓤 H 𝓜 (tables 𝓤 H 𝓜 𝓡 code.env))
     (cited 𝓤 H (Core 𝓤 H (𝓖 .A) (𝓜 .mem) (𝓡 .run)) 𝓜 𝓡 code.env #mend·mend-claim core-def.routine code.calls-mend·mend-claim (core-thm.met 𝓤 H 𝓜 𝓖 𝓡))
-    (cited 𝓤 H (Write 𝓤 H (𝓖 .A) (𝓜 .mem) (𝓡 .run)) 𝓜 𝓡 code.env #recordlist·write-records write-def.routine code.calls-recordlist·write-records (write-thm.met 𝓤 H 𝓜 𝓖 𝓡)))
+    (cited 𝓤 H (Write 𝓤 H (𝓖 .A) (𝓜 .mem) (𝓡 .run)) 𝓜 𝓡 code.env #mend-list·write-records write-def.routine code.calls-mend-list·write-records (write-thm.met 𝓤 H 𝓜 𝓖 𝓡)))

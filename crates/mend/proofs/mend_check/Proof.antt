@@ -7,7 +7,7 @@ use lib.Dec.{ltb}
 use mathlib.Core.Bool.{Bool, true, false}
 use mathlib.Core.Path.{_≡_, refl, sym}
 use native.Mathlib.Omega.{arith}
-use Rattle.drawings.specs.Mend.{claimCauses}
+use Rattle.mend_spec.specs.Mend.{claimCauses}
 use Rattle.mend.proofs.mend_check.Statement.{statement}
 use Rattle.mend.proofs.mend_check.Tie as tie
 

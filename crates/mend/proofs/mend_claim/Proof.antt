@@ -1,7 +1,7 @@
 -- `mend::mend_claim` meets its contract: the plain call with its rows as a slice holds them. Assumes nothing.
 use borrow.Author.Needs.{needs}
 use mathlib.Core.Path.{_∙_}
-use Rattle.drawings.proofs.Plain.{plain-mend, plain-marks, plain-list}
+use Rattle.mend_spec.proofs.Plain.{plain-mend, plain-marks, plain-list}
 use Rattle.mend.proofs.mend_claim.Statement.{statement}
 use Rattle.mend.proofs.mend_claim.Tie as tie
 

@@ -2,7 +2,7 @@
 -- Assumes nothing.
 use borrow.Author.Needs.{needs}
 use mathlib.Core.Path.{sym, _∙_, ap}
-use Rattle.recordlist.specs.steps.Stored.{storedTo}
+use Rattle.mend_list.specs.steps.Stored.{storedTo}
 use Rattle.refusal.specs.Outcomes.{refusalOf}
 use Rattle.mend.proofs.Answers.{call-refused}
 use Rattle.mend.specs.Answers.{countOf}

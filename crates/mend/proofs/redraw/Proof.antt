@@ -4,8 +4,8 @@ use Prim.Native.Nat.{ℕ, _*_, _≤_}
 use borrow.Author.Needs.{needs}
 use mathlib.Core.Path.{_≡_, refl, sym, _∙_, ap}
 use native.Mathlib.Omega.{arith}
-use Rattle.groups.proofs.Steps.{bounded-few}
-use Rattle.recordlist.specs.steps.Stored.{storedTo}
+use Rattle.mend_groups.proofs.Steps.{bounded-few}
+use Rattle.mend_list.specs.steps.Stored.{storedTo}
 use Rattle.refusal.specs.Outcomes.{refusalOf}
 use Rattle.mend.proofs.Answers.{few-rows, no-tree, loads, mended}
 use Rattle.mend.specs.Answers.{answerOf, countOf}

@@ -2,7 +2,7 @@
 -- Assumes nothing.
 use borrow.Author.Needs.{needs}
 use native.Mathlib.Omega.{arith}
-use Rattle.groups.specs.steps.Machine.{noted}
+use Rattle.mend_groups.specs.steps.Machine.{noted}
 use Rattle.mend.specs.steps.Machine.{swapped}
 use Rattle.mend.proofs.swap.Statement.{statement}
 use Rattle.mend.proofs.swap.Tie as tie

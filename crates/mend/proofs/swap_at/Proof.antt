@@ -5,12 +5,12 @@ use borrow.Author.Needs.{needs}
 use borrow.Author.Tests.{not-true, not-false, eq-eqb, ne-eqb}
 use mathlib.Core.Path.{_≡_, sym, _∙_}
 use native.Mathlib.Omega.{arith}
-use Rattle.matrix.specs.Matrix.{matrixColumn}
+use Rattle.path_matrix.specs.Matrix.{matrixColumn}
 use Rattle.rowset.specs.Columns.{width}
 use Rattle.rowset.specs.Integers.{integerIn}
 use Rattle.slice.specs.Slices.{component}
 use Rattle.mend.proofs.Steps.{swap-unused, swap-marked, swap-none, swap-swaps, out-bound}
-use Rattle.groups.specs.steps.Machine.{stateOf}
+use Rattle.mend_groups.specs.steps.Machine.{stateOf}
 use Rattle.mend.specs.steps.Machine.{swapped}
 use Rattle.mend.proofs.swap_at.Statement.{statement}
 use Rattle.mend.proofs.swap_at.Tie as tie

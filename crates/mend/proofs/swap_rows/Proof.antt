@@ -5,13 +5,13 @@ use borrow.Author.Needs.{needs}
 use lib.ListN.{length}
 use mathlib.Core.Path.{_≡_, refl, sym, _∙_, ap}
 use native.Mathlib.Omega.{arith}
-use Rattle.matrix.specs.Matrix.{matrixColumn}
+use Rattle.path_matrix.specs.Matrix.{matrixColumn}
 use Rattle.rowset.specs.Columns.{width}
 use Rattle.rowset.specs.Integers.{integerIn}
 use Rattle.slice.specs.Slices.{size, component}
-use Rattle.groups.proofs.Steps.{visits-next}
+use Rattle.mend_groups.proofs.Steps.{visits-next}
 use Rattle.mend.proofs.Steps.{swap-count}
-use Rattle.groups.specs.steps.Machine.{State, stateOf, visits}
+use Rattle.mend_groups.specs.steps.Machine.{State, stateOf, visits}
 use Rattle.mend.specs.steps.Machine.{swapAt}
 use Rattle.mend.proofs.swap_rows.Statement.{statement}
 use Rattle.mend.proofs.swap_rows.Tie as tie

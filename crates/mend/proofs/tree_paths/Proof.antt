@@ -10,8 +10,8 @@ use mathlib.Core.Path.{_≡_, refl, sym, _∙_, ap, subst}
 use native.Mathlib.Omega.{arith}
 use Rattle.refusal.specs.Outcomes.{refusalOf}
 use Rattle.slice.specs.Slices.{size, component}
-use Rattle.star.specs.Call.{tableOf, claimFrom, claimOf}
-use Rattle.star.specs.MatrixPath.{matrixPath, matrixAfter}
+use Rattle.star_spec.specs.Call.{tableOf, claimFrom, claimOf}
+use Rattle.star_spec.specs.MatrixPath.{matrixPath, matrixAfter}
 use Rattle.mend.proofs.tree_paths.Statement.{statement}
 use Rattle.mend.proofs.tree_paths.Tie as tie
 

@@ -5,9 +5,9 @@ use lib.Dec.{eqb, ltb}
 use lib.IntN.{ℤ}
 use mathlib.Core.Bool.{Bool, true, false, cond}
 use mathlib.Core.List.{List}
-use Rattle.exchange.specs.Turned.{columnsTurned}
-use Rattle.groups.specs.steps.Machine.{State, noted}
-use Rattle.matrix.specs.Matrix.{matrixColumn}
+use Rattle.path_exchange.specs.Turned.{columnsTurned}
+use Rattle.mend_groups.specs.steps.Machine.{State, noted}
+use Rattle.path_matrix.specs.Matrix.{matrixColumn}
 use Rattle.rowset.specs.Bytes.{inRow}
 use Rattle.rowset.specs.Searches.{largest}
 use Rattle.rowset.specs.Sets.{oneOf, uppermost}

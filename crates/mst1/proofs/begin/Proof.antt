@@ -7,7 +7,7 @@ use mathlib.Core.List.{List}
 use mathlib.Core.Path.{_≡_, _∙_, ap}
 use lib.ListN.{replicate}
 use Rattle.incidence.specs.steps.Rows.{EachMatch, rowsAt}
-use Rattle.inplace.proofs.Joining.{joined-none}
+use Rattle.slice_words.proofs.Joining.{joined-none}
 use Rattle.rowset.specs.Sets.{either}
 use Rattle.rowset.specs.Words.{inWords}
 use Rattle.slice.specs.Slices.{component, bit}

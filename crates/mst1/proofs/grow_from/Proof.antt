@@ -14,7 +14,7 @@ use Rattle.slice.specs.declared.Slice.{Slice}
 use Rattle.table.specs.Loads.{loadedRow}
 use Rattle.mst1.proofs.Growth.{grows-none, grows-whole, cheapest-row, extend-reached}
 use Rattle.mst1.proofs.Steps.{next-none}
-use Rattle.lent.specs.steps.Integers.{integersAfter}
+use Rattle.search_columns.specs.steps.Integers.{integersAfter}
 use Rattle.mst1.specs.steps.Growth.{graphBy, Reached}
 use Rattle.mst1.proofs.grow_from.Statement.{statement}
 use Rattle.mst1.proofs.grow_from.Tie as tie

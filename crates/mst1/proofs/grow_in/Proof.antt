@@ -3,7 +3,7 @@
 use native.Mathlib.Omega.{arith}
 use mathlib.Core.Path.{sym, _∙_}
 use borrow.Author.Needs.{needs}
-use Rattle.graph.specs.Builder.{cheapest}
+use Rattle.graph_theory.specs.Builder.{cheapest}
 use Rattle.incidence.proofs.Laws.{each-match, from-one}
 use Rattle.rowset.specs.Words.{inWords}
 use Rattle.slice.specs.Slices.{component, bit}

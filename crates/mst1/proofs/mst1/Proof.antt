@@ -1,7 +1,7 @@
 -- `mst1::mst1` meets its contract: the plain call with its rows as a slice holds them. Assumes nothing.
 use borrow.Author.Needs.{needs}
 use mathlib.Core.Path.{_∙_}
-use Rattle.star.proofs.Plain.{plain-mst1, plain-marks}
+use Rattle.star_spec.proofs.Plain.{plain-mst1, plain-marks}
 use Rattle.mst1.proofs.mst1.Statement.{statement}
 use Rattle.mst1.proofs.mst1.Tie as tie
 

@@ -6,14 +6,14 @@ use mathlib.Core.List.{List}
 use mathlib.Core.Option.{some}
 use mathlib.Core.Path.{_≡_}
 use lib.IntN.{ℤ}
-use Rattle.graph.specs.Builder.{treeOf, tree}
-use Rattle.graph.specs.Graph.{Graph}
+use Rattle.graph_theory.specs.Builder.{treeOf, tree}
+use Rattle.graph_theory.specs.Graph.{Graph}
 use Rattle.rowset.specs.Searches.{equalTo}
 use Rattle.rowset.specs.Sets.{empty, upTo, both, either}
 use Rattle.slice.specs.Slices.{size, component, written}
 use Rattle.slice.specs.declared.Slice.{Slice}
-use Rattle.star.specs.Mst1.{chosenRows}
-use Rattle.star.specs.Refusals.{isNone}
+use Rattle.star_spec.specs.Mst1.{chosenRows}
+use Rattle.star_spec.specs.Refusals.{isNone}
 use Rattle.table.specs.Loads.{loadedRow}
 
 -- n vertices, and of the positions 1 to 1,024 the rows that a slice selects, with their left and their right ends

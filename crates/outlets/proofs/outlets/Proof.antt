@@ -1,7 +1,7 @@
 -- `outlets::outlets` meets its contract: the plain call with its rows as a slice holds them. Assumes nothing.
 use borrow.Author.Needs.{needs}
 use mathlib.Core.Path.{_∙_}
-use Rattle.connections.proofs.Plain.{plain-outlets, plain-outlet-marks}
+use Rattle.outlets_spec.proofs.Plain.{plain-outlets, plain-outlet-marks}
 use Rattle.outlets.proofs.outlets.Statement.{statement}
 use Rattle.outlets.proofs.outlets.Tie as tie
 

@@ -3,7 +3,7 @@ use mathlib.Core.Logic.{⊎-elim}
 use mathlib.Core.Path.{_∙_}
 use borrow.Author.Needs.{needs}
 use borrow.Author.Tests.{not-true, not-false}
-use Rattle.exact.proofs.Trees.{no-tree, some-tree, left-tree}
+use Rattle.outlets_exact.proofs.Trees.{no-tree, some-tree, left-tree}
 use Rattle.mst1.specs.Answers.{answerOf}
 use Rattle.rowset.proofs.Laws.{clash}
 use Rattle.outlets.proofs.Answers.{table-refused, accepted, tree-refused, exchanges-refused, exchanges-built}

@@ -2,9 +2,9 @@
 use borrow.Author.Needs.{needs}
 use borrow.Author.Tests.{eq-eqb, ne-eqb}
 use mathlib.Core.Logic.{⊎-elim}
-use Rattle.checks.proofs.Laws.{refusal-one, refusal-both}
-use Rattle.connections.specs.Outlets.{vertexAsked}
-use Rattle.star.specs.Refusals.{badSource}
+use Rattle.table_checks.proofs.Laws.{refusal-one, refusal-both}
+use Rattle.outlets_spec.specs.Outlets.{vertexAsked}
+use Rattle.star_spec.specs.Refusals.{badSource}
 use Rattle.outlets.proofs.vertex_check.Statement.{statement}
 use Rattle.outlets.proofs.vertex_check.Tie as tie
 

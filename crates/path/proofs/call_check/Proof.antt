@@ -3,7 +3,7 @@
 use borrow.Author.Needs.{needs}
 use borrow.Author.Tests.{eq-eqb, ne-eqb}
 use mathlib.Core.Logic.{⊎-elim}
-use Rattle.checks.proofs.Laws.{refusal-two}
+use Rattle.table_checks.proofs.Laws.{refusal-two}
 use Rattle.path.proofs.call_check.Statement.{statement}
 use Rattle.path.proofs.call_check.Tie as tie
 

@@ -2,7 +2,7 @@
 -- Assumes nothing.
 use Rattle.path.proofs.Causes.{unreached-within, unreached-beyond}
 use Rattle.refusal.specs.Outcomes.{refusalOf}
-use Rattle.star.specs.Refusals.{causeAt}
+use Rattle.star_spec.specs.Refusals.{causeAt}
 use borrow.Author.Needs.{needs}
 use mathlib.Core.Path.{sym, ap, _∙_}
 use native.Mathlib.Omega.{arith}

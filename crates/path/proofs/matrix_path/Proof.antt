@@ -1,7 +1,7 @@
 -- `path::matrix_path` meets its contract: the plain call with its rows as a slice holds them. Assumes nothing.
 use borrow.Author.Needs.{needs}
 use mathlib.Core.Path.{_∙_}
-use Rattle.star.proofs.Plain.{plain-path, plain-matrix}
+use Rattle.star_spec.proofs.Plain.{plain-path, plain-matrix}
 use Rattle.path.proofs.matrix_path.Statement.{statement}
 use Rattle.path.proofs.matrix_path.Tie as tie
 

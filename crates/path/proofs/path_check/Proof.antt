@@ -1,8 +1,8 @@
 -- `path::path_check` meets its contract: the check of the table and the claim refuses, or the other checks decide in their order.
 -- Assumes nothing.
-use Rattle.checks.proofs.Laws.{refused-first, done-next}
+use Rattle.table_checks.proofs.Laws.{refused-first, done-next}
 use Rattle.path.proofs.Causes.{checks-in-order}
-use Rattle.star.specs.Refusals.{badSource, shortMatrix, orElse}
+use Rattle.star_spec.specs.Refusals.{badSource, shortMatrix, orElse}
 use borrow.Author.Needs.{needs}
 use mathlib.Core.Path.{sym, ap, _∙_}
 use Rattle.path.proofs.path_check.Statement.{statement}

@@ -3,7 +3,7 @@
 use Prim.Native.Nat.{ℕ, _-_, _^_, _≤_, _<_}
 use Rattle.path.specs.steps.Walks.{State, step, steps}
 use Rattle.incidence.specs.steps.Rows.{EachMatch}
-use Rattle.inplace.proofs.Laws.{component-words}
+use Rattle.slice_words.proofs.Laws.{component-words}
 use Rattle.rowset.specs.Sets.{either}
 use Rattle.rowset.specs.Words.{inWords}
 use Rattle.table.specs.Loads.{loadedRow}

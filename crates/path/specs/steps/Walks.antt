@@ -7,12 +7,12 @@ use mathlib.Core.Option.{Option}
 use mathlib.Core.Path.{_≡_}
 use Rattle.rowset.specs.Searches.{equalTo}
 use Rattle.rowset.specs.Sets.{empty, upTo, both, either, oneOf, uppermost}
-use Rattle.matrix.specs.Matrix.{matrixColumn, withColumn}
+use Rattle.path_matrix.specs.Matrix.{matrixColumn, withColumn}
 use Rattle.refusal.specs.declared.Refusal.{Refusal}
 use Rattle.slice.specs.Slices.{size, written}
-use Rattle.star.specs.Call.{Call}
-use Rattle.star.specs.MatrixPath.{matrixOr}
-use Rattle.star.specs.Refusals.{unreached, beforeWalk, orElse, refusal}
+use Rattle.star_spec.specs.Call.{Call}
+use Rattle.star_spec.specs.MatrixPath.{matrixOr}
+use Rattle.star_spec.specs.Refusals.{unreached, beforeWalk, orElse, refusal}
 use Rattle.table.specs.Loads.{loadedRow}
 use Rattle.claim.specs.Claims.{claimRows}
 

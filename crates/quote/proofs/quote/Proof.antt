@@ -1,7 +1,7 @@
 -- `quote::quote` meets its contract: the plain call with its rows as a slice holds them. Assumes nothing.
 use borrow.Author.Needs.{needs}
 use mathlib.Core.Path.{_∙_}
-use Rattle.quoting.proofs.Plain.{plain-quote}
+use Rattle.price_spec.proofs.Plain.{plain-quote}
 use Rattle.quote.proofs.quote.Statement.{statement}
 use Rattle.quote.proofs.quote.Tie as tie
 

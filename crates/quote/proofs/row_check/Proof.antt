@@ -1,8 +1,8 @@
 -- `quote::row_check` meets its contract: the table's causes, and then that of the row. Assumes nothing.
 use borrow.Author.Needs.{needs}
-use Rattle.checks.proofs.Laws.{refusal-one, refusal-both}
-use Rattle.star.specs.Call.{used}
-use Rattle.quoting.specs.Quote.{noRow, rowAsked}
+use Rattle.table_checks.proofs.Laws.{refusal-one, refusal-both}
+use Rattle.star_spec.specs.Call.{used}
+use Rattle.price_spec.specs.Quote.{noRow, rowAsked}
 use Rattle.quote.proofs.row_check.Statement.{statement}
 use Rattle.quote.proofs.row_check.Tie as tie
 

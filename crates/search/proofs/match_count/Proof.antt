@@ -4,7 +4,7 @@ use borrow.Author.Needs.{needs}
 use native.Mathlib.Omega.{arith}
 use mathlib.Core.Path.{_∙_}
 use Rattle.rowset.specs.Counts.{columnsRead}
-use Rattle.matching.proofs.Counts.{right-row}
+use Rattle.search_match.proofs.Counts.{right-row}
 use Rattle.search.proofs.match_count.Statement.{statement}
 use Rattle.search.proofs.match_count.Tie as tie
 

@@ -1,6 +1,6 @@
 -- `stp::import` meets its contract: what follows the reading is told of the whole text. Assumes nothing.
 use borrow.Author.Needs.{needs}
-use Rattle.steinlib.specs.Import.{imported, importRefusal, leftAfter, rightAfter, weightAfter}
+use Rattle.stp_spec.specs.Import.{imported, importRefusal, leftAfter, rightAfter, weightAfter}
 use Rattle.stp.proofs.import.Statement.{statement}
 use Rattle.stp.proofs.import.Tie as tie
 

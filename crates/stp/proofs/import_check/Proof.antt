@@ -5,8 +5,8 @@ use mathlib.Core.List.{[], _∷_}
 use mathlib.Core.Option.{none}
 use mathlib.Core.Path.{_≡_, sym, ap, _∙_}
 use Rattle.refusal.specs.Outcomes.{refusalOf}
-use Rattle.star.specs.Refusals.{badVertices, tooManyRows, refusal}
-use Rattle.reader.specs.Readings.{readOf, rowsOf}
+use Rattle.star_spec.specs.Refusals.{badVertices, tooManyRows, refusal}
+use Rattle.stp_reader.specs.Readings.{readOf, rowsOf}
 use Rattle.stp.proofs.Importing.{broken-refused, edges-refused, size-first, size-taken}
 use Rattle.stp.proofs.import_check.Statement.{statement}
 use Rattle.stp.proofs.import_check.Tie as tie

@@ -8,9 +8,9 @@ use mathlib.Core.Logic.{⊎-elim}
 use mathlib.Core.Path.{refl, sym, ap, _∙_}
 use native.Mathlib.Omega.{arith}
 use Rattle.refusal.specs.Outcomes.{refusalOf}
-use Rattle.star.proofs.Accepted.{none-cons}
-use Rattle.steinlib.specs.Import.{tableOf}
-use Rattle.reader.specs.Readings.{readOf, rowsOf}
+use Rattle.star_spec.proofs.Accepted.{none-cons}
+use Rattle.stp_spec.specs.Import.{tableOf}
+use Rattle.stp_reader.specs.Readings.{readOf, rowsOf}
 use Rattle.stp.proofs.Importing.{few-rows, table-rows, columns-right, columns-first}
 use Rattle.stp.proofs.rows_check.Statement.{statement}
 use Rattle.stp.proofs.rows_check.Tie as tie

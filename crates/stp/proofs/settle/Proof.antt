@@ -7,8 +7,8 @@ use mathlib.Core.Option.{none}
 use mathlib.Core.Path.{_≡_, sym, ap, _∙_}
 use native.Mathlib.Omega.{arith}
 use Rattle.refusal.specs.Outcomes.{refusalOf}
-use Rattle.steinlib.specs.Reader.{Read}
-use Rattle.reader.specs.Readings.{readOf, rowsOf, finished}
+use Rattle.stp_spec.specs.Reader.{Read}
+use Rattle.stp_reader.specs.Readings.{readOf, rowsOf, finished}
 use Rattle.stp.specs.Answers.{answerOf}
 use Rattle.stp.specs.steps.Settled.{refusalFor}
 use Rattle.stp.proofs.Importing.{Clear, clear, whole-columns, whole-sizes, answered-some, answered-none, filled-some, filled-none}

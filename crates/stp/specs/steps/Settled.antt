@@ -6,9 +6,9 @@ use mathlib.Core.List.{List}
 use mathlib.Core.Option.{Option}
 use mathlib.Core.Path.{_≡_}
 use Rattle.refusal.specs.declared.Refusal.{Refusal}
-use Rattle.star.specs.Refusals.{refusal}
-use Rattle.steinlib.specs.Import.{importCauses, answered, filled, columnsOf}
-use Rattle.steinlib.specs.Reader.{Reading}
+use Rattle.star_spec.specs.Refusals.{refusal}
+use Rattle.stp_spec.specs.Import.{importCauses, answered, filled, columnsOf}
+use Rattle.stp_spec.specs.Reader.{Reading}
 use Rattle.stp.specs.Answers.{answerOf}
 use Rattle.stp.specs.declared.Imported.{Imported}
 

@@ -6,9 +6,9 @@ use mathlib.Core.List.{List}
 use Rattle.rowset.specs.Bytes.{little}
 use Rattle.rowset.specs.Columns.{inColumns}
 use Rattle.rowset.specs.Sets.{upTo}
-use Rattle.planes.specs.Planes.{plane}
+use Rattle.slice_planes.specs.Planes.{plane}
 use Rattle.slice.specs.Slices.{size}
-use Rattle.planes.specs.declared.Planes.{Planes}
+use Rattle.slice_planes.specs.declared.Planes.{Planes}
 
 -- the byte in row i of eight planes, of which the last is the most significant
 unfoldable pub byteIn : Planes → ℕ → ℕ

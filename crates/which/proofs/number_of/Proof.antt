@@ -1,7 +1,7 @@
 -- `which::number_of` meets its contract, case by case. Assumes nothing.
 use borrow.Author.Needs.{needs}
 use mathlib.Core.Path.{refl}
-use Rattle.plans.specs.Door.{planNumber}
+use Rattle.which_spec.specs.Door.{planNumber}
 use Rattle.which.specs.Answers.{answerOf}
 use Rattle.which.proofs.number_of.Statement.{statement}
 use Rattle.which.proofs.number_of.Tie as tie

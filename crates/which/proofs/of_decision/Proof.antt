@@ -2,7 +2,7 @@
 use borrow.Author.Needs.{needs}
 use mathlib.Core.Path.{refl}
 use Rattle.answer.specs.Records.{fieldsOf}
-use Rattle.plans.specs.Door.{whichFields}
+use Rattle.which_spec.specs.Door.{whichFields}
 use Rattle.rowset.specs.Integers.{fromBits}
 use Rattle.which.specs.Answers.{answerOf}
 use Rattle.which.proofs.of_decision.Statement.{statement}

@@ -2,7 +2,7 @@
 use borrow.Author.Needs.{needs}
 use borrow.Author.Tests.{ne-eqb}
 use mathlib.Core.Path.{refl}
-use Rattle.plans.specs.Door.{planOf, startOf}
+use Rattle.which_spec.specs.Door.{planOf, startOf}
 use Rattle.which.proofs.plan_of.Statement.{statement}
 use Rattle.which.proofs.plan_of.Tie as tie
 

@@ -1,7 +1,7 @@
 -- `which::which` meets its contract: the plain call with its rows as a slice holds them. Assumes nothing.
 use borrow.Author.Needs.{needs}
 use mathlib.Core.Path.{_∙_}
-use Rattle.plans.proofs.Plain.{plain-call}
+use Rattle.which_spec.proofs.Plain.{plain-call}
 use Rattle.which.proofs.which.Statement.{statement}
 use Rattle.which.proofs.which.Tie as tie
 

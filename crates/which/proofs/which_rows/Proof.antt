@@ -4,8 +4,8 @@ use borrow.Author.Tests.{eq-eqb, ne-eqb}
 use lib.ListN.{length}
 use mathlib.Core.Path.{refl, ap, _∙_}
 use native.Mathlib.Omega.{arith}
-use Rattle.plans.specs.Door.{whichFields, planNumber, whichDoor, whichReturns}
-use Rattle.star.specs.Door.{wellLent, answerAfter}
+use Rattle.which_spec.specs.Door.{whichFields, planNumber, whichDoor, whichReturns}
+use Rattle.star_spec.specs.Door.{wellLent, answerAfter}
 use Rattle.which.proofs.which_rows.Statement.{statement}
 use Rattle.which.proofs.which_rows.Tie as tie
 

@@ -1,0 +1,33 @@
+-- `change::wrong_sizes` meets its contract: after each `||` its value is that of the tests so far. Assumes nothing.
+use borrow.Author.Needs.{needs}
+use borrow.Author.Tests.{eq-eqb, ne-eqb}
+use lib.Dec.{eqb}
+use mathlib.Core.Bool.{not, _||_}
+use mathlib.Core.Logic.{⊎-elim}
+use mathlib.Core.Path.{_≡_}
+use Rattle.change.proofs.wrong_sizes.Statement.{statement}
+use Rattle.change.proofs.wrong_sizes.Tie as tie
+
+joined₁ : (c : tie.Joined1) →
+    let x = c .before .args in
+    c .if1 .if2 ≡ (not (eqb (x .words) 16) || not (eqb (x .left) 1024))
+joined₁ c = ⊎-elim (λ w. rw (w .1, ne-eqb _ _ (w .0 .taken))) (λ w. rw (w .1, eq-eqb _ _ (w .0 .left))) (c .if1 .came)
+
+joined₂ : (c : tie.Joined2) →
+    let x = c .before .before .args in
+    c .if2 .if3 ≡ (not (eqb (x .words) 16) || not (eqb (x .left) 1024) || not (eqb (x .right) 1024))
+joined₂ c = rw (← joined₁ (c .before)) (⊎-elim (λ w. rw (w .1, w .0 .taken)) (λ w. rw (w .1, w .0 .left)) (c .if2 .came))
+
+joined₃ : (c : tie.Joined3) →
+    let x = c .before .before .before .args in
+    c .if3 .if4 ≡ (not (eqb (x .words) 16) || not (eqb (x .left) 1024) || not (eqb (x .right) 1024) || not (eqb (x .weight) 4096))
+joined₃ c = rw (← joined₂ (c .before)) (⊎-elim (λ w. rw (w .1, w .0 .taken)) (λ w. rw (w .1, w .0 .left)) (c .if3 .came))
+
+returns : tie.Need-returns
+returns c = rw (← joined₃ (c .before), c .if4 .taken)
+
+returns-2 : tie.Need-returns-2
+returns-2 c = rw (← joined₃ (c .before), c .if4 .left)
+
+pub wrong-sizes-spec : {M : Type 1} → statement M
+wrong-sizes-spec = tie.close (tie.spec (λ c. search needs) returns returns-2)

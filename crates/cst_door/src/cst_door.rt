@@ -1,0 +1,34 @@
+// CST for C.
+use answer::write_answer;
+use answer_fields::verdict::of_verdict;
+ghost use mathlib.Core.Path.{_≡_};
+ghost use Rattle.star_spec.specs.Call.{callOf};
+ghost use Rattle.promise.specs.Promise.{plain, CstCall};
+ghost use Rattle.star_spec.specs.Door.{doorReturns, cstDoor};
+
+// CST through the door. `means` says what the bytes are worth: what is read back, and what it says of the table's spanning trees.
+#[no_mangle]
+pub extern "C" fn star_cst(
+    n: u32,
+    left: &[u8],
+    right: &[u8],
+    weight: &[u8],
+    mark: &[u8],
+    answer: &mut [u8],
+) -> u32
+    ensures returned { λ r. ⌜ r ≡ doorReturns (now (answer .entry)) ⌝ }
+    ensures answered { λ r.
+        let c = callOf n (now (left .entry)) (now (right .entry)) (now (weight .entry)) (now (mark .entry)) in
+        ⌜ now (answer .exit) ≡ cstDoor c (now (answer .entry)) ⌝ }
+    ensures means { λ r.
+        let t = plain n (now (left .entry)) (now (right .entry)) (now (weight .entry)) in
+        ⌜ CstCall t (now (mark .entry)) (now (answer .entry)) (now (answer .exit)) r ⌝ }
+{
+    if answer.len() != 16 {
+        return 0;
+    }
+    let v = cst::cst(n, left, right, weight, mark);
+    let x = of_verdict(v);
+    write_answer(answer, x);
+    1
+}

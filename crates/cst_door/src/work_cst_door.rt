@@ -1,0 +1,35 @@
+// CST over a working table for C.
+use answer::write_answer;
+use answer_fields::verdict::of_verdict;
+ghost use mathlib.Core.Path.{_≡_};
+ghost use Rattle.star_spec.specs.Call.{workOf};
+ghost use Rattle.promise.specs.Promise.{working, CstCall};
+ghost use Rattle.star_spec.specs.Door.{doorReturns, cstDoor};
+
+// CST over the rows in use, through the door. `means` says what the bytes are worth: what is read back, and what it says of the spanning trees of the rows in use.
+#[no_mangle]
+pub extern "C" fn star_work_cst(
+    n: u32,
+    words: &[u64],
+    left: &[u8],
+    right: &[u8],
+    weight: &[u8],
+    mark: &[u8],
+    answer: &mut [u8],
+) -> u32
+    ensures returned { λ r. ⌜ r ≡ doorReturns (now (answer .entry)) ⌝ }
+    ensures answered { λ r.
+        let c = workOf n (now (words .entry)) (now (left .entry)) (now (right .entry)) (now (weight .entry)) (now (mark .entry)) in
+        ⌜ now (answer .exit) ≡ cstDoor c (now (answer .entry)) ⌝ }
+    ensures means { λ r.
+        let t = working n (now (words .entry)) (now (left .entry)) (now (right .entry)) (now (weight .entry)) in
+        ⌜ CstCall t (now (mark .entry)) (now (answer .entry)) (now (answer .exit)) r ⌝ }
+{
+    if answer.len() != 16 {
+        return 0;
+    }
+    let v = cst::work_cst(n, words, left, right, weight, mark);
+    let x = of_verdict(v);
+    write_answer(answer, x);
+    1
+}

@@ -1,0 +1,41 @@
+// MatrixPath over a working table for C.
+use answer::of_outcome;
+use answer::write_answer;
+ghost use mathlib.Core.Path.{_≡_};
+ghost use Rattle.path_meaning.specs.Bytes.{PathsCall};
+ghost use Rattle.star_spec.specs.Call.{workOf};
+ghost use Rattle.star_spec.specs.Door.{doorReturns, pathsDoor, pathsDoorMatrix};
+
+// MatrixPath over the rows in use, through the door: the matrix is filled where nothing is refused, and stays as it is otherwise.
+// `means` says what the bytes and the matrix are worth: the rows on the way from s to each vertex.
+#[no_mangle]
+pub extern "C" fn star_work_paths(
+    n: u32,
+    words: &[u64],
+    left: &[u8],
+    right: &[u8],
+    weight: &[u8],
+    mark: &[u8],
+    s: u32,
+    matrix: &mut [u64],
+    answer: &mut [u8],
+) -> u32
+    ensures returned { λ r. ⌜ r ≡ doorReturns (now (answer .entry)) ⌝ }
+    ensures answered { λ r.
+        let c = workOf n (now (words .entry)) (now (left .entry)) (now (right .entry)) (now (weight .entry)) (now (mark .entry)) in
+        ⌜ now (answer .exit) ≡ pathsDoor c s (now (matrix .entry)) (now (answer .entry)) ⌝ }
+    ensures filled { λ r.
+        let c = workOf n (now (words .entry)) (now (left .entry)) (now (right .entry)) (now (weight .entry)) (now (mark .entry)) in
+        ⌜ now (matrix .exit) ≡ pathsDoorMatrix c s (now (matrix .entry)) (now (answer .entry)) ⌝ }
+    ensures means { λ r.
+        let c = workOf n (now (words .entry)) (now (left .entry)) (now (right .entry)) (now (weight .entry)) (now (mark .entry)) in
+        ⌜ PathsCall c s (now (matrix .entry)) (now (answer .entry)) (now (answer .exit)) (now (matrix .exit)) r ⌝ }
+{
+    if answer.len() != 16 {
+        return 0;
+    }
+    let o = path::work_matrix_path(n, words, left, right, weight, mark, s, matrix);
+    let x = of_outcome(o);
+    write_answer(answer, x);
+    1
+}

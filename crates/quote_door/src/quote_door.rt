@@ -1,0 +1,169 @@
+// The quote for C: twenty-four bytes, of which the first sixteen are those of every door, with the least total before, and the last eight the least total after.
+use answer::Record;
+use answer::bytes_of;
+use quote::Quoted;
+ghost use mathlib.Core.Bool.{cond};
+ghost use mathlib.Core.List.{_++_};
+ghost use mathlib.Core.Path.{_≡_};
+ghost use Rattle.answer.specs.Records.{fieldsOf};
+ghost use Rattle.quote.specs.Answers.{answerOf};
+ghost use Rattle.price_spec.specs.Bytes.{QuoteCall};
+ghost use Rattle.price_spec.specs.Door.{quoteFields, afterOf, lentQuote, quoteReturns, quoteDoor};
+ghost use Rattle.price_spec.specs.Quote.{asked, askedWork};
+ghost use Rattle.rowset.specs.Integers.{fromBits, toBits};
+ghost use Rattle.star_spec.specs.Door.{bytesOf, fieldBytes};
+
+// The length of a quote's answer.
+const LENGTH: usize = 24;
+
+// The fields of a quote: those of every door, and the 64 bits of the least total after.
+pub struct QuoteRecord {
+    pub first: Record,
+    pub after: u64,
+}
+
+// The fields of what was quoted.
+pub fn of_quoted(q: Quoted) -> QuoteRecord
+    ensures first { λ r. ⌜ fieldsOf (r .first) ≡ quoteFields (answerOf q) ⌝ }
+    ensures after { λ r. ⌜ fromBits 64 (r .after) ≡ afterOf (answerOf q) ⌝ }
+{
+    match q {
+        Quoted::Totals(t) => QuoteRecord {
+            first: Record {
+                kind: 1,
+                number: 0,
+                out: 0,
+                into: 0,
+                only: 0,
+                amount: t.before,
+            },
+            after: t.after,
+        },
+        Quoted::Refused(r) => QuoteRecord {
+            first: Record {
+                kind: 0,
+                number: r.number,
+                out: r.place,
+                into: 0,
+                only: 0,
+                amount: 0,
+            },
+            after: 0,
+        },
+    }
+}
+
+// The twenty-four bytes: the sixteen of the record, and the eight of the total after, which stand where a record has its amount.
+fn quote_bytes(x: QuoteRecord) -> [u8; LENGTH]
+    ensures { λ r. ⌜ r ≡ fieldBytes (fieldsOf (x .first)) ++ bytesOf 8 (toBits 64 (fromBits 64 (x .after))) ⌝ }
+{
+    let after = x.after;
+    let head = bytes_of(x.first);
+    let tail = bytes_of(Record {
+        kind: 0,
+        number: 0,
+        out: 0,
+        into: 0,
+        only: 0,
+        amount: after,
+    });
+    [
+        head[0],
+        head[1],
+        head[2],
+        head[3],
+        head[4],
+        head[5],
+        head[6],
+        head[7],
+        head[8],
+        head[9],
+        head[10],
+        head[11],
+        head[12],
+        head[13],
+        head[14],
+        head[15],
+        tail[8],
+        tail[9],
+        tail[10],
+        tail[11],
+        tail[12],
+        tail[13],
+        tail[14],
+        tail[15],
+    ]
+}
+
+// Writes the twenty-four bytes where the lent answer has as many; else nothing.
+fn write_quote(answer: &mut [u8], x: QuoteRecord)
+    ensures { λ _. ⌜ now (answer .exit) ≡ cond (lentQuote (now (answer .entry))) (fieldBytes (fieldsOf (x .first)) ++ bytesOf 8 (toBits 64 (fromBits 64 (x .after)))) (now (answer .entry)) ⌝ }
+{
+    if answer.len() != LENGTH {
+        return;
+    }
+    let bytes = quote_bytes(x);
+    let mut i = 0;
+    while i < LENGTH {
+        answer[i] = bytes[i];
+        i += 1;
+    }
+}
+
+// The quote through the door: row's price becomes the one whose 32 bits are price.
+// `means` says what the bytes are worth: both totals that are read back are least totals, of the table and of the table with the row's price replaced.
+#[no_mangle]
+pub extern "C" fn star_quote(
+    n: u32,
+    left: &[u8],
+    right: &[u8],
+    weight: &[u8],
+    row: u32,
+    price: u32,
+    answer: &mut [u8],
+) -> u32
+    ensures returned { λ r. ⌜ r ≡ quoteReturns (now (answer .entry)) ⌝ }
+    ensures answered { λ r.
+        let c = asked n (now (left .entry)) (now (right .entry)) (now (weight .entry)) in
+        ⌜ now (answer .exit) ≡ quoteDoor c row price (now (answer .entry)) ⌝ }
+    ensures means { λ r.
+        let c = asked n (now (left .entry)) (now (right .entry)) (now (weight .entry)) in
+        ⌜ QuoteCall c row price (now (answer .entry)) (now (answer .exit)) r ⌝ }
+{
+    if answer.len() != LENGTH {
+        return 0;
+    }
+    let q = quote::quote(n, left, right, weight, row, price);
+    let x = of_quoted(q);
+    write_quote(answer, x);
+    1
+}
+
+// The quote of a working table, whose rows in use are lent as sixteen words, through the door. `means` as above, of the rows in use.
+#[no_mangle]
+pub extern "C" fn star_work_quote(
+    n: u32,
+    words: &[u64],
+    left: &[u8],
+    right: &[u8],
+    weight: &[u8],
+    row: u32,
+    price: u32,
+    answer: &mut [u8],
+) -> u32
+    ensures returned { λ r. ⌜ r ≡ quoteReturns (now (answer .entry)) ⌝ }
+    ensures answered { λ r.
+        let c = askedWork n (now (words .entry)) (now (left .entry)) (now (right .entry)) (now (weight .entry)) in
+        ⌜ now (answer .exit) ≡ quoteDoor c row price (now (answer .entry)) ⌝ }
+    ensures means { λ r.
+        let c = askedWork n (now (words .entry)) (now (left .entry)) (now (right .entry)) (now (weight .entry)) in
+        ⌜ QuoteCall c row price (now (answer .entry)) (now (answer .exit)) r ⌝ }
+{
+    if answer.len() != LENGTH {
+        return 0;
+    }
+    let q = quote::work_quote(n, words, left, right, weight, row, price);
+    let x = of_quoted(q);
+    write_quote(answer, x);
+    1
+}

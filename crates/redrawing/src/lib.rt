@@ -1,1 +1,0 @@
-// What a mended claim and its records are worth, over every accepted table: the theorem that drawings/specs/Means.antt states. No code.

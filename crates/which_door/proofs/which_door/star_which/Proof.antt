@@ -1,0 +1,11 @@
+-- `which_door::which_door::star_which` meets its contract: what `which::which` promises, and what it means. Assumes nothing.
+use borrow.Author.Needs.{needs}
+use Rattle.which_spec.proofs.Means.{which-call}
+use Rattle.which_door.proofs.which_door.star_which.Statement.{statement}
+use Rattle.which_door.proofs.which_door.star_which.Tie as tie
+
+returns : tie.Need-returns
+returns c = which-call (c .before .before .which .ensures)
+
+pub star-which-spec : {M : Type 1} → statement M
+star-which-spec = tie.close (tie.spec (λ c κs. search needs) (λ c. search needs) returns)

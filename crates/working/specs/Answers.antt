@@ -1,9 +1,0 @@
--- What an add's answer says, by its cases.
--- Assumes nothing.
-use Rattle.worktable.specs.Changes.{AddAnswer, unadded, addedAt}
-use Rattle.working.specs.declared.Added.{Added}
-use Rattle.working.specs.declared.Added.the-variants.{At, Refused}
-
-unfoldable pub answerOf : Added → AddAnswer
-answerOf (At position) = addedAt position
-answerOf (Refused r) = unadded r
