@@ -34,7 +34,6 @@ use Rattle.rowset.specs.Sets.{empty, both}
 use Rattle.slice.specs.Slices.{size}
 use Rattle.star_spec.proofs.Accepted.{refusal-append, Taken, taken, used-row, sound}
 use Rattle.star_spec.proofs.Claims.{marked-claimOf}
-use Rattle.star_spec.proofs.Plain.{cutRows, same}
 use Rattle.star_spec.specs.Call.{Call, callOf, withClaim, rowsOf, used, graphOf, weightOf, marked, claimed, claimWeight, claimOf}
 use Rattle.star_spec.specs.Mst1.{unbuilt, treeBuilt, chosenRows, treeRows, built, builtMarks, mst1, mst1Marks}
 use Rattle.star_spec.specs.Refusals.{Accepted, cause, isNone, noTree, tableCauses, mst1Causes, orElse, refusal}
@@ -134,11 +133,6 @@ module _ (c : Call) where
             let h = dig-list-holds c accepted .mst1-tree _ tree-built in
             let z = listing-text (sym listed ∙ h .1) in
             (digList (withClaim c (mst1Marks c)), listed, prints (rw (← z) at (h .2 .short)) (rw chosen-list at p))
-
--- the plain call with its rows as a slice holds them is listed as the plain call
-pub plain-list : (n : ℕ) (left right weight : List ℕ) → tableList (cutRows n left right weight left) ≡ tableList (callOf n left right weight left)
-unfolding tableList builtList mst1 built mst1Causes
-plain-list n left right weight = same n left right weight left tableList (λ r p q. rw (p _, q _))
 
 -- ── Texts ──
 

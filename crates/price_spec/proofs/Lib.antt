@@ -1,5 +1,4 @@
 pub mod Causes
-pub mod Plain
 pub mod Means
 pub mod Bytes
 pub mod BreakingMeans

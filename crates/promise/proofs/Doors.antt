@@ -5,9 +5,10 @@ use lib.Dec.{eqb}
 use lib.ListN.{length}
 use mathlib.Core.Bool.{true}
 use mathlib.Core.List.{List}
-use mathlib.Core.Path.{_≡_}
+use mathlib.Core.Path.{_≡_, sym}
 use native.Mathlib.Omega.{arith}
 use Rattle.promise.proofs.Kept.{cst-kept, other-kept, mst1-kept}
+use Rattle.promise.proofs.Plain.{every-cst, every-other, every-mst1, every-marks}
 use Rattle.promise.specs.Promise as P
 use Rattle.rowset.proofs.Laws.{in-upTo}
 use Rattle.rowset.specs.Sets.{upTo}
@@ -29,17 +30,17 @@ word-rows words k l = rw (in-upTo 1024 (suc k) (omega arith) l, less k)
 module _ {n r : ℕ} {left right weight mark answer after : List ℕ} where
   pub plain-cst : (r ≡ doorReturns answer) × (after ≡ cstDoor (callOf n left right weight mark) answer)
       → (r ≡ doorReturns answer) × ((after ≡ cstDoor (callOf n left right weight mark) answer) × P.CstCall (P.plain n left right weight) mark answer after r)
-  plain-cst (p, q) = (p, (q, rw (p, q) (cst-kept (P.plain n left right weight) (upTo (length left)) (all-rows (length left)) mark answer)))
+  plain-cst (p, q) = (p, (q, rw (p, q, sym (every-cst n left right weight mark answer)) (cst-kept (P.plain n left right weight) (upTo (length left)) (all-rows (length left)) mark answer)))
 
   pub plain-other : (r ≡ doorReturns answer) × (after ≡ otherDoor (callOf n left right weight mark) answer)
       → (r ≡ doorReturns answer) × ((after ≡ otherDoor (callOf n left right weight mark) answer) × P.OtherCall (P.plain n left right weight) mark answer after r)
-  plain-other (p, q) = (p, (q, rw (p, q) (other-kept (P.plain n left right weight) (upTo (length left)) (all-rows (length left)) mark answer)))
+  plain-other (p, q) = (p, (q, rw (p, q, sym (every-other n left right weight mark answer)) (other-kept (P.plain n left right weight) (upTo (length left)) (all-rows (length left)) mark answer)))
 
   module _ {marks : List ℕ} where
     pub plain-mst1 : (r ≡ doorReturns answer) × ((after ≡ mst1Door (callOf n left right weight mark) answer) × (marks ≡ mst1DoorMarks (callOf n left right weight mark) answer))
         → (r ≡ doorReturns answer) × (((after ≡ mst1Door (callOf n left right weight mark) answer) × (marks ≡ mst1DoorMarks (callOf n left right weight mark) answer))
         × P.Mst1Call (P.plain n left right weight) mark answer after marks r)
-    plain-mst1 (p, (q, s)) = (p, ((q, s), rw (p, q, s) (mst1-kept (P.plain n left right weight) (upTo (length left)) (all-rows (length left)) mark answer)))
+    plain-mst1 (p, (q, s)) = (p, ((q, s), rw (p, q, s, sym (every-mst1 n left right weight mark answer), sym (every-marks n left right weight mark answer)) (mst1-kept (P.plain n left right weight) (upTo (length left)) (all-rows (length left)) mark answer)))
 
 module _ (words : List ℕ) {n r : ℕ} {left right weight mark answer after : List ℕ} where
   pub work-cst : (r ≡ doorReturns answer) × (after ≡ cstDoor (workOf n words left right weight mark) answer)

@@ -1,5 +1,6 @@
 pub mod Trees
 pub mod Causes
 pub mod Kept
+pub mod Plain
 pub mod Doors
 pub mod Yard

@@ -18,7 +18,7 @@ use Rattle.rowset.specs.Sets.{upTo, any}
 use Rattle.rowset.specs.Words.{inWords}
 use Rattle.rowset.proofs.Laws.{refuted, clash, both-inside, any-none, none-any, uppermost-none, uppermost-zero, in-upTo, upTo-in}
 use Rattle.rowset.proofs.Members.{both-in, in-both}
-use Rattle.star_spec.specs.Accepted.{Row, SamePair, GoodRows, AcceptedTable, AcceptedMeans, PlainMeans, WorkingMeans}
+use Rattle.star_spec.specs.Accepted.{Row, SamePair, GoodRows, AcceptedTable, AcceptedMeans, PlainMeans, PlainRows, WorkingMeans}
 use Rattle.star_spec.specs.Call.{Call, callOf, workOf, rowsOf, used, graphOf}
 use Rattle.star_spec.specs.Refusals.{maxVertices, maxRows, cause, causeAt, badVertices, tooManyRows, badLengths, wrongEnds, wrongRow, badEnds, badRow, samePair, repeatsAbove, repeats, repeatedRow, tableCauses, orElse, refusal, Accepted}
 
@@ -201,10 +201,11 @@ pub row-used : (c : Call) (i : ℕ) → Row c i → used c i ≡ true
 unfolding used
 row-used c i (l, h, x) = in-both (upTo (rowsOf c)) (c .inUse) i (in-upTo (rowsOf c) i l h) x
 
--- every row of a plain table is in use
-pub used-plain : (n : ℕ) (left right weight mark : List ℕ) → used (callOf n left right weight mark) ≡ upTo (length left)
+pub plain-rows : PlainRows
 unfolding used
-used-plain n left right weight mark = both-inside (length left) (upTo (length left)) (upTo-in (length left))
+plain-rows n left right weight mark h =
+    rw (both-inside 1024 (upTo (length left)) (λ i x. let b = upTo-in (length left) i x in (b .0, omega arith)))
+    (both-inside (length left) (upTo (length left)) (upTo-in (length left)))
 
 -- a component that words hold is one of 1,024
 words-row : (words : List ℕ) (i : ℕ) → inWords words i ≡ true → (1 ≤ i) × (i ≤ 1024)
@@ -372,7 +373,7 @@ plain-means n left right weight mark = (
     right-length = a .right-length;
     weight-length = a .weight-length;
     mark-length = a .mark-length;
-    good-rows = same-rows (λ i r. (r .0, r .1, in-upTo (length left) i (r .0) (r .1))) (a .good-rows);
+    good-rows = same-rows (λ i r. (r .0, r .1, in-both (upTo 1024) (upTo (length left)) i (in-upTo 1024 i (r .0) (omega (arith, a .rows))) (in-upTo (length left) i (r .0) (r .1)))) (a .good-rows);
   },
   λ p. record {
     vertices = p .vertices;

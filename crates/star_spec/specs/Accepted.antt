@@ -7,8 +7,9 @@ use mathlib.Core.Logic.{_↔_, _≢_, _⊎_}
 use mathlib.Core.Path.{_≡_}
 use lib.ListN.{length}
 use Rattle.rowset.specs.Bytes.{inRow}
+use Rattle.rowset.specs.Sets.{upTo}
 use Rattle.rowset.specs.Words.{inWords}
-use Rattle.star_spec.specs.Call.{Call, callOf, workOf}
+use Rattle.star_spec.specs.Call.{Call, callOf, workOf, used}
 use Rattle.star_spec.specs.Refusals.{Accepted}
 
 -- v is a vertex, 1 to n
@@ -58,6 +59,10 @@ pub record PlainTable (n : ℕ) (left right weight mark : List ℕ) : Type 0 whe
 
 abbrev pub PlainMeans : Type 0
 PlainMeans = (n : ℕ) (left right weight mark : List ℕ) → AcceptedTable (callOf n left right weight mark) ↔ PlainTable n left right weight mark
+
+-- up to 1,024 rows every row of a plain table is in use
+abbrev pub PlainRows : Type 0
+PlainRows = (n : ℕ) (left right weight mark : List ℕ) → length left ≤ 1024 → used (callOf n left right weight mark) ≡ upTo (length left)
 
 -- a working table that is accepted: sixteen words, and columns of 1,024 rows; what stands in rows that are not in use does not matter
 pub record WorkingTable (n : ℕ) (words left right weight mark : List ℕ) : Type 0 where

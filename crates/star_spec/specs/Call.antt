@@ -1,5 +1,5 @@
 -- What a call hands in: n, the number of rows, which of them are in use, and four byte columns; and the graph, weights and claim that they describe.
--- A plain table has a row for each byte of its left column, and every row is in use. A working table has 1,024 rows, and a lent slice says which are in use.
+-- A plain table has a row for each byte of its left column, all in use: those of 1 to 1,024, since a slice has no others. A working table has 1,024 rows, and a lent slice says which are in use.
 -- Assumes nothing.
 use Prim.Native.Nat.{ℕ, zero, suc, _-_}
 use mathlib.Core.Bool.{Bool, true, cond}
@@ -30,9 +30,9 @@ abbrev pub tableOf : (n m : ℕ) → (whole : Bool) → (inUse : ℕ → Bool) �
 tableOf n m whole inUse left right weight mark =
     record { n = n; m = m; whole = whole; inUse = inUse; left = left; right = right; weight = weight; mark = mark }
 
--- the call on a plain table with this n and these columns: a row for each byte of the left column, all in use
+-- the call on a plain table with this n and these columns: a row for each byte of the left column, those of 1 to 1,024 in use (a table of more rows is refused)
 abbrev pub callOf : (n : ℕ) → (left right weight mark : List ℕ) → Call
-callOf n left = tableOf n (length left) true (upTo (length left)) left
+callOf n left = tableOf n (length left) true (both (upTo 1024) (upTo (length left))) left
 
 -- the call on a working table: 1,024 rows, and the rows in use lent as sixteen words of 64 bits
 abbrev pub workOf : (n : ℕ) → (words left right weight mark : List ℕ) → Call

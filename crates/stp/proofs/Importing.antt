@@ -16,7 +16,6 @@ use Rattle.star_spec.specs.Call as call
 use Rattle.star_spec.specs.Call.{Call, callOf}
 use Rattle.star_spec.specs.Refusals.{maxRows, cause, badVertices, tooManyRows, badLengths, rowCauses, tableCauses, orElse, refusal}
 use Rattle.star_spec.proofs.Accepted.{none-head, none-tail, none-cons, none-both, none-nil, none-cause, cause-none, refusal-append}
-use Rattle.star_spec.proofs.Plain.{few-plain}
 use Rattle.stp_spec.specs.Import.{tableOf, badColumns, badEdges, importCauses, untaken, taken, sizes, answered, filled, columnsOf}
 use Rattle.stp_spec.specs.Reader.{Read, Reading, broken, whole}
 use Rattle.stp_reader.specs.Readings.{finished}
@@ -51,7 +50,7 @@ module _ (n m : ℕ) (size : none ≡ refusal (badVertices n ∷ tooManyRows m �
 
     -- and all m rows are in use
     pub table-rows : (rows : ℕ → Bool) → rows ≡ both (upTo maxRows) (upTo m) → refusal (tableCauses (call.tableOf n m true rows left right weight left)) ≡ refusal (rowCauses (callOf n left right weight left))
-    table-rows rows e = ap (λ (x : Call). refusal (tableCauses x)) (rw e (few-plain n m left right weight left few-rows l)) ∙ lengths-right
+    table-rows rows e = rw (e, sym l) lengths-right
 
 -- what the lent columns' lengths say
 module _ (l r w : ℕ) where

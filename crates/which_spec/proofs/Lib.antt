@@ -1,4 +1,3 @@
 pub mod Causes
-pub mod Plain
 pub mod Means
 pub mod Trials
