@@ -1,9 +1,14 @@
 // The sixteen bytes of an answer, written in one place for every door, and the fields of what is done or refused.
 use refusal::Outcome;
+use refusal::Refusal;
 ghost use mathlib.Core.Path.{_≡_};
-ghost use Rattle.star_spec.specs.Door.{fieldBytes, answerAfter, outcomeFields};
+ghost use Rattle.star_spec.specs.Cst.{refused};
+ghost use Rattle.star_spec.specs.Door.{wellLent, fields, fieldBytes, answerAfter, outcomeFields};
 ghost use Rattle.answer.specs.Records.{fieldsOf};
 ghost use Rattle.refusal.specs.Outcomes.{refusalOf};
+
+// The bytes of an answer.
+const LENGTH: usize = 16;
 
 // What byte 7 holds.
 const UNUSED: u8 = 0;
@@ -61,6 +66,13 @@ pub fn bytes_of(x: Record) -> [u8; 16]
     ]
 }
 
+// Whether a lent answer has sixteen bytes; a door writes nothing into another one.
+pub fn well_lent(answer: &[u8]) -> bool
+    ensures { λ r. ⌜ r ≡ wellLent (now (answer .entry)) ⌝ }
+{
+    answer.len() == LENGTH
+}
+
 // Writes the sixteen bytes where the lent answer has sixteen; else nothing.
 pub fn write_answer(answer: &mut [u8], x: Record)
     ensures { λ _. ⌜ now (answer .exit) ≡ answerAfter (now (answer .entry)) (fieldsOf x) ⌝ }
@@ -73,6 +85,20 @@ pub fn write_answer(answer: &mut [u8], x: Record)
     while i < 16 {
         answer[i] = bytes[i];
         i += 1;
+    }
+}
+
+// The fields of a refusal.
+pub fn of_refusal(refusal: Refusal) -> Record
+    ensures { λ r. ⌜ fieldsOf r ≡ fields (refused refusal) ⌝ }
+{
+    Record {
+        kind: 0,
+        number: refusal.number,
+        out: refusal.place,
+        into: 0,
+        only: 0,
+        amount: 0,
     }
 }
 
@@ -89,13 +115,6 @@ pub fn of_outcome(o: Outcome) -> Record
             only: 0,
             amount: 0,
         },
-        Outcome::Refused(r) => Record {
-            kind: 0,
-            number: r.number,
-            out: r.place,
-            into: 0,
-            only: 0,
-            amount: 0,
-        },
+        Outcome::Refused(r) => of_refusal(r),
     }
 }
