@@ -120,7 +120,7 @@ $(LIBRARY): $(ARCHIVE) $(BUILD)/star.o
 	$(AR) rs $@ $(BUILD)/star.o
 
 $(BUILD)/star: $(LIBRARY) $(CONSOLE) $(wildcard console/*.h) include/star.h
-	$(CC) -std=c99 $(CFLAGS) -Iinclude -o $@ $(CONSOLE) $(LIBRARY) -lm
+	$(CC) -std=c99 $(CFLAGS) -ffp-contract=off -Iinclude -o $@ $(CONSOLE) $(LIBRARY) -lm
 
 $(BUILD)/door_test: $(ARCHIVE) tests/door_test.c tests/plain.c tests/plain.h include/star.h
 	@mkdir -p $(BUILD)

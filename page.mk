@@ -5,7 +5,10 @@ PAGE := $(BUILD)/star.html
 PAGE_MODULE := $(BUILD)/star.wasm
 PAGE_SOURCES := page/build.mjs page/page.html $(wildcard page/*.css page/src/*.js)
 
-$(PAGE_MODULE): page/module.sh $(SOURCES) $(wildcard page/freestanding/*.h) include/star.c include/star.h
+# What the console and the page draw by.
+PICTURE := console/places.h $(addprefix console/,$(addsuffix .c,places shapes bends coordinates))
+
+$(PAGE_MODULE): page/module.sh $(SOURCES) $(wildcard page/freestanding/*.h) include/star.c include/star.h $(PICTURE)
 	@mkdir -p $(BUILD)
 	sh page/module.sh $@ $(DOORS)
 

@@ -3,7 +3,7 @@
 
 #include "layout.h"
 
-enum { PIECES = 8 };
+enum { PIECES = 8, PARTS = 13, MANY = 12 };
 
 static int labels_touch(const struct label *a, const struct label *b) {
     return fabs(a->at.x - b->at.x) < (a->width + b->width) / 2 + 2 &&
@@ -19,7 +19,7 @@ static int covers(const struct label *a, struct point p, double radius) {
 }
 
 /* Narrows the part of a line, from *first to *last of its length, to where start + k * step lies
-   between -reach and reach. */
+ * between -reach and reach. */
 static int narrow(double start, double step, double reach, double *first, double *last) {
     double a = (-reach - start) / step, b = (reach - start) / step;
     if (fabs(step) < 1e-9) return fabs(start) <= reach;
@@ -66,7 +66,8 @@ static int free_of(const struct layout *l, const struct table *t, size_t i, enum
     return 1;
 }
 
-/* Puts a label on its trench, or beside it: to the left (-1) or to the right (1). */
+/* Puts a label on its trench, or beside it: to the left (-1) or to the right (1), or further there
+ * (-2, 2). */
 static void put(struct label *own, const struct curve *c, double along, int side) {
     double dx = c->to.x - c->from.x, dy = c->to.y - c->from.y, d = sqrt(dx * dx + dy * dy) + 1e-6,
            by;
@@ -76,21 +77,32 @@ static void put(struct label *own, const struct curve *c, double along, int side
     own->at.y += by * dx / d;
 }
 
+/* Part k of a trench's length at which its label may stand: about its middle, and away from a
+ * junction of many trenches. */
+static double part(const struct layout *l, const struct table *t, size_t i, size_t k) {
+    static const double middle[PARTS] = {0.5, 0.45, 0.55, 0.4,  0.6, 0.35, 0.65,
+                                         0.3, 0.7,  0.25, 0.75, 0.2, 0.8};
+    static const double away[PARTS] = {0.8, 0.75, 0.85, 0.7,  0.65, 0.6, 0.55,
+                                       0.5, 0.45, 0.4,  0.35, 0.3,  0.25};
+    size_t left = l->rows[t->left[i - 1]], right = l->rows[t->right[i - 1]];
+    if ((left < MANY && right < MANY) || left == right) return middle[k];
+    return left > right ? away[k] : 1 - away[k];
+}
+
 void layout_label(struct layout *l, const struct table *t, size_t i, size_t letters) {
-    static const double along[] = {0.5, 0.45, 0.55, 0.4,  0.6, 0.35, 0.65,
-                                   0.3, 0.7,  0.25, 0.75, 0.2, 0.8};
     static const struct {
         int side;
         enum cover may;
-    } ways[] = {{0, NONE}, {0, LIGHT}, {1, NONE}, {-1, NONE}, {0, ANY}};
-    size_t count = sizeof ways / sizeof ways[0] - !l->trench[i - 1].heavy; /* the last way is for
-                                                                              heavy trenches */
+    } ways[] = {{0, NONE}, {0, LIGHT}, {1, NONE},  {-1, NONE},  {0, ANY}, {1, LIGHT}, {-1, LIGHT},
+                {1, ANY},  {-1, ANY},  {2, LIGHT}, {-2, LIGHT}, {2, ANY}, {-2, ANY}};
+    size_t count = l->trench[i - 1].heavy ? sizeof ways / sizeof ways[0]
+                                          : 4; /* the last ways are for heavy trenches */
     struct label *own = &l->label[i - 1];
     size_t way, k;
     own->width = (double)letters * LABEL_FONT * 0.62 + 3;
     for (way = 0; way < count; way++)
-        for (k = 0; k < sizeof along / sizeof along[0]; k++) {
-            put(own, &l->trench[i - 1], along[k], ways[way].side);
+        for (k = 0; k < PARTS; k++) {
+            put(own, &l->trench[i - 1], part(l, t, i, k), ways[way].side);
             if (!free_of(l, t, i, ways[way].may)) continue;
             own->shown = 1;
             return;

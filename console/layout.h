@@ -2,14 +2,11 @@
 #ifndef CONSOLE_LAYOUT_H
 #define CONSOLE_LAYOUT_H
 
+#include "places.h"
 #include "table.h"
 
-struct point {
-    double x, y;
-};
-
 /* A trench: a line from one end to the other, bent towards a third point; that point is the middle
-   where the line is straight. */
+ * where the line is straight. */
 struct curve {
     struct point from, bend, to;
     int heavy; /* whether it is drawn heavily: labels of light ones do not cover it, lest it look
@@ -28,24 +25,19 @@ struct layout {
     struct point at[STAR_MAX_JUNCTIONS + 1]; /* junction v at index v */
     struct curve trench[STAR_MAX_ROWS];      /* trench i at index i - 1, and so for labels */
     struct label label[STAR_MAX_ROWS];
-    double width, height, dot; /* dot: the radius of a junction */
+    double width, height, dot;           /* dot: the radius of a junction */
+    size_t rows[STAR_MAX_JUNCTIONS + 1]; /* the trenches in use at each junction */
 };
 
-/* Places the junctions so that two of them are about as far apart as the fewest trenches between
-   them are many. Depends on which junctions the trenches join, struck ones included, and on nothing
-   else, so that two plans of one network, or two quotes, lie alike, and a network lies as it did
-   before a trench was struck. */
-void layout_places(const struct table *t, struct point at[STAR_MAX_JUNCTIONS + 1]);
-
-/* Places junctions and the trenches in use on a sheet. */
+/* Places junctions (places.h) and the trenches in use on a sheet. */
 void layout_sheet(struct layout *l, const struct table *t);
-
-/* A point of a curve: k from 0, its start, to 1, its end. */
-struct point layout_on(const struct curve *c, double k);
 
 /* Places the label of trench i, `letters` letters long, on the trench, or close beside it where
    there is no room. It covers no junction and no label already placed; no other trench if that can
    be had; a heavy one only where its own is heavy too. */
 void layout_label(struct layout *l, const struct table *t, size_t i, size_t letters);
+
+/* A point of a curve: k from 0, its start, to 1, its end. */
+struct point layout_on(const struct curve *c, double k);
 
 #endif

@@ -2,6 +2,7 @@
 #ifndef CONSOLE_PICTURE_H
 #define CONSOLE_PICTURE_H
 
+#include "layout.h"
 #include "table.h"
 
 /* A table that the door takes, and what is said of it. */
@@ -26,6 +27,10 @@ enum look picture_look(const struct picture *p, size_t i);
 
 /* The label of trench i, its number and its price; gives the letters of it. */
 size_t picture_label(char *text, size_t room, const struct table *t, size_t i);
+
+/* Places a network with its labels, those of the exchange first and those of trenches that are not
+ * marked last; gives the number that found no room. */
+size_t picture_place(struct layout *l, const struct picture *p);
 
 /* Letters as SVG and HTML have them, where some mean something else. */
 void picture_letters(FILE *to, const char *text, size_t len);

@@ -27,18 +27,10 @@ void html_value(FILE *to, const char *text) {
 }
 
 void drawing_place(struct drawing *g, const struct table *t, const char *id) {
-    char text[2 * FIGURES];
-    size_t i;
-    int marked;
-    g->t = t;
+    static struct picture plan;
+    g->t = plan.t = t;
     g->id = id;
-    layout_sheet(&g->l, t);
-    for (i = table_next(t, 0); i <= t->m; i = table_next(t, i))
-        g->l.trench[i - 1].heavy = t->mark[i - 1] == 1;
-    for (marked = 1; marked >= 0; marked--)
-        for (i = table_next(t, 0); i <= t->m; i = table_next(t, i))
-            if ((t->mark[i - 1] == 1) == marked)
-                layout_label(&g->l, t, i, picture_label(text, sizeof text, t, i));
+    picture_place(&g->l, &plan);
 }
 
 static void define_labels(FILE *to, const struct drawing *g) {
@@ -103,27 +95,15 @@ void box_junction(struct box *b, const struct drawing *g, unsigned v) { include(
 /* Widens a side to a least length, and keeps it on the sheet. */
 static void side(double *from, double *to, double least, double sheet) {
     double more = (least - (*to - *from)) / 2;
-    if (more > 0) {
-        *from -= more;
-        *to += more;
-    }
-    if (*from < 0) {
-        *to -= *from;
-        *from = 0;
-    }
-    if (*to > sheet) {
-        *from -= *to - sheet;
-        *to = sheet;
-    }
+    if (more > 0) *from -= more, *to += more;
+    if (*from < 0) *to -= *from, *from = 0;
+    if (*to > sheet) *from -= *to - sheet, *to = sheet;
     if (*from < 0) *from = 0;
 }
 
 struct box box_shown(struct box b, const struct drawing *g) {
     if (b.right < b.left || (g->l.width <= SMALL && g->l.height <= SMALL)) return box_whole(g);
-    b.left -= AROUND;
-    b.right += AROUND;
-    b.top -= AROUND;
-    b.bottom += AROUND;
+    b.left -= AROUND, b.right += AROUND, b.top -= AROUND, b.bottom += AROUND;
     side(&b.left, &b.right, LEAST_WIDE, g->l.width);
     side(&b.top, &b.bottom, LEAST_HIGH, g->l.height);
     return b;

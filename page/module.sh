@@ -30,6 +30,13 @@ retarget() {
 }
 
 objects=$work/star.o
+# The layout of the console's pictures: multiplications and additions are rounded one by one, as
+# the console's are.
+for part in places shapes bends coordinates; do
+    "$clang" $wasm -O2 -ffreestanding -ffp-contract=off -isystem page/freestanding \
+        -c "console/$part.c" -o "$work/$part.o"
+    objects="$objects $work/$part.o"
+done
 "$clang" $wasm -O2 -ffreestanding -isystem page/freestanding -Iinclude -c include/star.c \
     -o "$work/star.o"
 for crate; do
@@ -42,5 +49,7 @@ done
 
 # Every function that the header declares: one that no crate has fails the link.
 exports=$(sed -nE 's/^(uint32_t |const char \*)(star_[a-z0-9_]+)\(.*/--export=\2/p' include/star.h)
+exports="$exports $(sed -nE 's/^(void|int) (places_(of|given|bends|read))\(.*/--export=\2/p' \
+    console/places.h)"
 "$work/wasm-ld" -mwasm32 --no-entry $exports --export=__heap_base --strip-all --stack-first \
     -z stack-size=2097152 --initial-memory=4194304 --max-memory=4194304 -o "$out" $objects

@@ -1,4 +1,4 @@
-/* What include/star.c needs of stddef.h where no C library is, as in WebAssembly. */
+/* What include/star.c and console/places.h need of stddef.h where no C library is, as in WebAssembly. */
 #ifndef FREESTANDING_STDDEF_H
 #define FREESTANDING_STDDEF_H
 typedef __SIZE_TYPE__ size_t;

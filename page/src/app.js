@@ -6,7 +6,6 @@ import { fileOfRows, fileRead, fileText, fileWrite } from './file.js';
 import { History } from './history.js';
 import { judge, judgeExchanged } from './judge.js';
 import { planCopy } from './plan.js';
-import { stpCoordinates } from './stp.js';
 
 /** @typedef {import('./plan.js').Plan} Plan */
 /** @typedef {import('./core.js').Step} Step */
@@ -75,7 +74,7 @@ export class App {
         const body = fileBody(text);
         const read = this.core.stp(fileBytes(body));
         if (read.kind !== PASSED) return `${name}: ${this.refused(read.number, read.place)}`;
-        coordinates = stpCoordinates(body, read.n);
+        coordinates = read.coordinates;
         text = fileOfRows(read.n, read.rows);
       }
       state = { ...fileRead(text), name, coordinates };

@@ -57,6 +57,8 @@ export class Core {
     this.numbers = room(4 * MAX_ROWS);
     this.text = room(MAX_TEXT + 1);
     this.list = room(MAX_LIST);
+    this.at = room(16 * (MAX_JUNCTIONS + 1));
+    this.bend = room(8 * MAX_ROWS);
   }
 
   /** The words that the library has for a refusal.
@@ -281,7 +283,51 @@ export class Core {
       const price = this.view.getInt32(this.weight + 4 * i, true);
       rows.push([this.memory[this.left + i], this.memory[this.right + i], price, 0]);
     }
-    return { kind: a.kind, number: a.number, n: a.out, rows, place: a.amount };
+    const coordinates = a.kind === PASSED ? this.coordinates(length, a.out) : null;
+    return { kind: a.kind, number: a.number, n: a.out, rows, place: a.amount, coordinates };
+  }
+
+  /** The coordinates of junctions 1 to n in the STP text that was read; null unless each has them.
+   * @param {number} length @param {number} n */
+  coordinates(length, n) {
+    if (!this.doors.places_read(this.text, length, n, this.at)) return null;
+    return Array.from({ length: n }, (_, k) => this.place(k + 1));
+  }
+
+  /** Where a junction stands.
+   * @param {number} v */
+  place(v) {
+    return [0, 8].map((by) => this.view.getFloat64(this.at + 16 * v + by, true));
+  }
+
+  /** Where junctions stand, and how rows are bent.
+   * @param {Plan} p */
+  places(p) {
+    this.put(p);
+    this.doors.places_of(p.n, p.m, this.left, this.right, this.at);
+    return this.placed(p);
+  }
+
+  /** The same by coordinates; null where two junctions have the same.
+   * @param {Plan} p @param {number[][]} given */
+  placesGiven(p, given) {
+    this.put(p);
+    given.slice(0, p.n).forEach((place, k) => {
+      place.forEach((c, by) => this.view.setFloat64(this.at + 16 * (k + 1) + 8 * by, c, true));
+    });
+    const { doors, left, right, at } = this;
+    return doors.places_given(p.n, p.m, left, right, at) ? this.placed(p) : null;
+  }
+
+  /** @param {Plan} p whose junctions are placed */
+  placed(p) {
+    this.doors.places_bends(p.n, p.m, this.left, this.right, this.at, this.bend);
+    const places = Array.from({ length: p.n }, (_, k) => this.place(k + 1));
+    const bends = Float64Array.from({ length: p.m }, (_, i) => {
+      return this.view.getFloat64(this.bend + 8 * i, true);
+    });
+    const [x, y] = [0, 1].map((by) => Float64Array.from(places, (place) => place[by]));
+    return { x, y, bends };
   }
 }
 

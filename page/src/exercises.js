@@ -3,8 +3,8 @@
 import { LIGHTER, MAX_JUNCTIONS, PASSED, REFUSED } from './core.js';
 import { detourDearest, detourRows } from './detour.js';
 import { judgeExchanged } from './judge.js';
-import { layoutRandom } from './layout.js';
 import { planCopy, planOf } from './plan.js';
+import { randomFrom } from './random.js';
 import { ends, money, trench } from './words.js';
 
 /** @typedef {import('./core.js').Core} Core */
@@ -193,7 +193,7 @@ const MAKERS = [exerciseCount, exerciseDetour, exerciseEqual, exerciseLimit];
  * that table has none of this kind.
  * @param {Core} core @param {number} kind @param {number} seed @param {Plan | null} own */
 export function exerciseFrom(core, kind, seed, own) {
-  const random = layoutRandom(seed * 4 + kind);
+  const random = randomFrom(seed * 4 + kind);
   /** @param {number} below */
   const rnd = (below) => Math.floor(random() * below);
   const turn = rnd(2) === 0;

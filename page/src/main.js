@@ -28,7 +28,7 @@ class Page {
   /** @param {Core} core */
   constructor(core) {
     this.app = new App(core);
-    this.picture = new Picture(byId('net'));
+    this.picture = new Picture(byId('net'), core);
     this.pointer = new Pointer(this.picture, {
       hover: (i) => this.app.hover(i),
       tap: (i, finger) => this.tap(i, finger),

@@ -1,7 +1,7 @@
 // The network as SVG. Trenches and junctions stand in one group that is moved and scaled, and whose
 // strokes do not scale; numbers and prices lie above it in pixels, and are placed anew for each
 // view.
-import { bendPath, bendPoint, bendsOf } from './bends.js';
+import { bendPath, bendPoint } from './bends.js';
 import { svg } from './dom.js';
 import { Taken, labelBox, labelsPlace } from './labels.js';
 import { layoutOf } from './layout.js';
@@ -26,15 +26,15 @@ const LEFT_FROM = 62; // and those of trenches that are left out
 const BUTTONS = { w: 56, h: 140 }; // the corner of the zoom buttons
 
 export class Picture {
-  /** @param {any} root an svg element */
-  constructor(root) {
+  /** @param {any} root an svg element @param {import('./core.js').Core} core */
+  constructor(root, core) {
     this.root = root;
+    this.core = core;
     this.view = new View();
     /** @type {Plan | null} */
     this.plan = null;
     /** @type {import('./layout.js').Places} */
-    this.at = { x: new Float64Array(0), y: new Float64Array(0) };
-    this.bends = new Float64Array(0);
+    this.at = { x: new Float64Array(0), y: new Float64Array(0), bends: new Float64Array(0) };
     this.lengths = new Float32Array(0);
     this.samples = new Float32Array(0);
     this.setOff = setOffNone();
@@ -76,12 +76,11 @@ export class Picture {
   open(p, given) {
     this.measure();
     this.plan = p;
-    this.at = layoutOf(p, given, this.view.w >= this.view.h);
-    this.bends = bendsOf(p, this.at);
+    this.at = layoutOf(this.core, p, given, this.view.w >= this.view.h);
     this.measureTable(p);
     for (const group of [...Object.values(this.groups), this.top]) group.replaceChildren();
     this.lines = Array.from({ length: p.m }, (_, i) => {
-      return svg('path', { d: bendPath(p, this.at, i, this.bends[i]) });
+      return svg('path', { d: bendPath(p, this.at, i) });
     });
     this.groups.left.append(...this.lines);
     this.discs = Array.from({ length: p.n }, (_, v) => {
@@ -101,7 +100,7 @@ export class Picture {
     this.lengths = new Float32Array(p.m);
     for (let i = 0; i < p.m; i++) {
       for (let k = 0; k <= PIECES; k++) {
-        const q = bendPoint(p, this.at, i, this.bends[i], k / PIECES);
+        const q = bendPoint(p, this.at, i, k / PIECES);
         this.samples.set([q.x, q.y], 2 * ((PIECES + 1) * i + k));
       }
       const [a, b] = [p.left[i] - 1, p.right[i] - 1];
@@ -140,7 +139,7 @@ export class Picture {
     this.setOff = setOff;
     for (const name of /** @type {('under' | 'over')[]} */ (['under', 'over'])) {
       const paths = setOff[name].map(([i, look]) => {
-        return svg('path', { class: look, d: bendPath(plan, this.at, i, this.bends[i]) });
+        return svg('path', { class: look, d: bendPath(plan, this.at, i) });
       });
       this.groups[name].replaceChildren(...paths);
     }
@@ -298,7 +297,7 @@ export class Picture {
   along(i, tag) {
     const p = /** @type {Plan} */ (this.plan);
     /** @param {number} share */
-    const place = (share) => this.view.pixels(bendPoint(p, this.at, i, this.bends[i], share));
+    const place = (share) => this.view.pixels(bendPoint(p, this.at, i, share));
     const at = this.shares(p, i).map(place);
     if (!tag) return at;
     const aside = TAG_ASIDE.map(([dx, dy]) => ({ x: at[0].x + dx, y: at[0].y + dy }));
@@ -341,6 +340,6 @@ export class Picture {
    * @param {number} i */
   middle(i) {
     const p = /** @type {Plan} */ (this.plan);
-    return this.view.pixels(bendPoint(p, this.at, i, this.bends[i], 0.5));
+    return this.view.pixels(bendPoint(p, this.at, i, 0.5));
   }
 }

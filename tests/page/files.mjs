@@ -8,14 +8,14 @@ import path from 'node:path';
 import { App } from '../../page/src/app.js';
 import { coreOpen } from '../../page/src/core.js';
 import { detourOf } from '../../page/src/detour.js';
-import { layoutRandom } from '../../page/src/layout.js';
 import { planLeaves } from '../../page/src/plan.js';
+import { randomFrom } from '../../page/src/random.js';
 import { runs } from '../../page/src/words.js';
 
 const [, , console_, module, count] = process.argv;
 const folder = fs.mkdtempSync(path.join(os.tmpdir(), 'star-files-'));
 const file = path.join(folder, 'table.txt');
-const next = layoutRandom(20261117);
+const next = randomFrom(20261117);
 /** A number below k.
  * @param {number} k */
 const rnd = (k) => Math.floor(next() * k);

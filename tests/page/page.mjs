@@ -10,6 +10,7 @@ import { fileURLToPath } from 'node:url';
 import { browserMake } from './browser.mjs';
 import { clicksGroups } from './clicks.mjs';
 import { contrastBelow } from './contrast.mjs';
+import { ROUNDING, apart, drawnBy } from './drawn.mjs';
 import { insideGroups } from './inside.mjs';
 import { movesGroups } from './moves.mjs';
 import { overlaps } from './overlaps.mjs';
@@ -148,6 +149,17 @@ const GROUPS = {
     await press('swap');
     check('the exchange', (await textOf('head')).includes('Cheapest network'));
     check('the file is as it was', (await saved()) === bytesOf(example('yard.txt')));
+  },
+
+  async picture() {
+    for (const name of ['yard.txt', 'grant.txt', 'city.txt', 'street.stp']) {
+      await choose(example(name));
+      const discs = await b.value(`star.picture.discs.map((disc) =>
+        disc.firstChild.getAttribute('d').match(/-?[\\d.]+(e-?\\d+)?/g).slice(0, 2).map(Number))`);
+      const { junctions } = drawnBy(console_, example(name));
+      const same = discs.length === junctions.length && apart(junctions, discs) < ROUNDING;
+      check(`the console's picture of ${name}`, same);
+    }
   },
 
   async keys() {

@@ -1,9 +1,9 @@
 // Tables of many shapes, for the tests of the picture.
 import fs from 'node:fs';
 import path from 'node:path';
-import { layoutRandom } from '../../page/src/layout.js';
+import { randomFrom } from '../../page/src/random.js';
 
-const next = layoutRandom(5);
+const next = randomFrom(5);
 /** @param {number} k */
 const rnd = (k) => Math.floor(next() * k);
 
