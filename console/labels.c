@@ -19,7 +19,7 @@ static int covers(const struct label *a, struct point p, double radius) {
 }
 
 /* Narrows the part of a line, from *first to *last of its length, to where start + k * step lies
- * between -reach and reach. */
+   between -reach and reach. */
 static int narrow(double start, double step, double reach, double *first, double *last) {
     double a = (-reach - start) / step, b = (reach - start) / step;
     if (fabs(step) < 1e-9) return fabs(start) <= reach;
@@ -67,7 +67,7 @@ static int free_of(const struct layout *l, const struct table *t, size_t i, enum
 }
 
 /* Puts a label on its trench, or beside it: to the left (-1) or to the right (1), or further there
- * (-2, 2). */
+   (-2, 2). */
 static void put(struct label *own, const struct curve *c, double along, int side) {
     double dx = c->to.x - c->from.x, dy = c->to.y - c->from.y, d = sqrt(dx * dx + dy * dy) + 1e-6,
            by;
@@ -78,7 +78,7 @@ static void put(struct label *own, const struct curve *c, double along, int side
 }
 
 /* Part k of a trench's length at which its label may stand: about its middle, and away from a
- * junction of many trenches. */
+   junction of many trenches. */
 static double part(const struct layout *l, const struct table *t, size_t i, size_t k) {
     static const double middle[PARTS] = {0.5, 0.45, 0.55, 0.4,  0.6, 0.35, 0.65,
                                          0.3, 0.7,  0.25, 0.75, 0.2, 0.8};

@@ -31,7 +31,7 @@ static void widen(struct point p, struct point *least, struct point *most) {
 }
 
 /* The corners of the rectangle around the junctions, and around the trenches too if these are
- * placed. */
+   placed. */
 static void corners(const struct layout *l, const struct table *t, int trenches,
                     struct point *least, struct point *most) {
     uint32_t v;
@@ -113,8 +113,8 @@ static void fit(struct layout *l, const struct table *t) {
     }
 }
 
-/* The line of a trench, its middle moved aside by `aside`, to the right as seen from its left end.
- */
+/* The line of a trench, its middle moved aside by `aside`, to the right as seen from its left
+   end. */
 static struct curve line_of(const struct layout *l, const struct table *t, size_t i, double aside) {
     struct curve c;
     double d;

@@ -6,7 +6,7 @@
 #include "table.h"
 
 /* A trench: a line from one end to the other, bent towards a third point; that point is the middle
- * where the line is straight. */
+   where the line is straight. */
 struct curve {
     struct point from, bend, to;
     int heavy; /* whether it is drawn heavily: labels of light ones do not cover it, lest it look

@@ -29,7 +29,7 @@ enum look picture_look(const struct picture *p, size_t i);
 size_t picture_label(char *text, size_t room, const struct table *t, size_t i);
 
 /* Places a network with its labels, those of the exchange first and those of trenches that are not
- * marked last; gives the number that found no room. */
+   marked last; gives the number that found no room. */
 size_t picture_place(struct layout *l, const struct picture *p);
 
 /* Letters as SVG and HTML have them, where some mean something else. */

@@ -1,5 +1,5 @@
 /* Writes a picture as SVG: trenches, then labels on white ground, then junctions; below them what
- * is said of the plan, and what the lines mean. */
+   is said of the plan, and what the lines mean. */
 #include <string.h>
 
 #include "layout.h"
@@ -25,7 +25,7 @@ static size_t line_length(const char *text, size_t room) {
 }
 
 /* Writes the verdict from a height down, and gives the height of the next line; counts alone where
- * `to` is NULL. */
+   `to` is NULL. */
 static double verdict(FILE *to, const char *text, double width, double y) {
     while (*text) {
         size_t len = line_length(text, (size_t)(width - 24) / LETTER);
