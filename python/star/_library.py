@@ -3,9 +3,10 @@ import ctypes
 import os
 from ctypes import POINTER, Structure, c_char_p, c_int, c_int32, c_int64, c_size_t
 from ctypes import c_uint, c_uint8, c_uint32, c_uint64, c_void_p
+from typing import Any
 
 MAX_JUNCTIONS, MAX_ROWS, MAX_LIST, MAX_TEXT = 255, 1024, 6370, 32768
-MAX_STEPS, COLUMN_WORDS = 2 * MAX_ROWS, 16
+MAX_READ, MAX_STEPS, COLUMN_WORDS = 65536, 2 * MAX_ROWS, 16
 MIN_PRICE, MAX_PRICE = -2**31, 2**31 - 1
 REFUSED, PASSED, LIGHTER = 0, 1, 2
 
@@ -49,18 +50,32 @@ class CRecord(Structure):
     _fields_ = [("kind", c_uint32), ("out", c_uint32), ("into", c_uint32)]
 
 
-def _load():
+Records = CRecord * MAX_STEPS
+
+
+def _path() -> str:
     """The library that STAR_LIBRARY names, else the one in the package, else the system's."""
     inside = os.path.join(os.path.dirname(os.path.abspath(__file__)), "libstar.so")
     named = os.environ.get("STAR_LIBRARY")
-    return ctypes.CDLL(named or (inside if os.path.exists(inside) else "libstar.so.0"))
+    return named or (inside if os.path.exists(inside) else "libstar.so.0")
+
+
+def _load() -> ctypes.CDLL:
+    try:
+        return ctypes.CDLL(_path())
+    except OSError as fault:
+        raise ImportError("the library of the package star is not loaded: %s; make wheel puts it "
+                          "inside, and STAR_LIBRARY names another" % fault) from None
 
 
 _loaded = _load()
 
 
-def _function(name, result, *arguments):
-    function = getattr(_loaded, "star_" + name)
+def _function(name: str, result: Any, *arguments: Any) -> Any:
+    try:
+        function = getattr(_loaded, "star_" + name)
+    except AttributeError:
+        raise ImportError("%s has no star_%s: it is of another version" % (_path(), name)) from None
     function.restype = result
     function.argtypes = arguments
     return function

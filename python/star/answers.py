@@ -1,6 +1,6 @@
 """What is answered: small classes that do not change, and the exception of a refusal."""
 from itertools import compress
-from typing import NamedTuple, Optional, Tuple
+from typing import Any, NamedTuple, Optional, Tuple, Type
 
 from . import _library
 
@@ -19,7 +19,7 @@ class Refused(ValueError):
         at = " at %d" % place if place else ""
         super().__init__("refused %d%s: %s" % (number, at, self.words))
 
-    def __reduce__(self):
+    def __reduce__(self) -> Tuple[Type["Refused"], Tuple[int, int, str]]:
         return Refused, (self.number, self.place, self.words)
 
 
@@ -27,15 +27,15 @@ class Unfit(ValueError):
     """What is handed in cannot be said as a table: a price that is not whole in its unit, a trench
     from a junction to itself, a second one between two junctions, a field that is not there.
 
-    place -- the row of the input, counted from 1
+    place -- the row of the input, counted from 1; 0 where it is no row
     """
 
     def __init__(self, place: int, words: str) -> None:
         self.place = place
         self.words = words
-        super().__init__("row %d: %s" % (place, words))
+        super().__init__("row %d: %s" % (place, words) if place else words)
 
-    def __reduce__(self):
+    def __reduce__(self) -> Tuple[Type["Unfit"], Tuple[int, str]]:
         return Unfit, (self.place, self.words)
 
 
@@ -63,10 +63,10 @@ _NUMBERS = range(1, _library.MAX_ROWS + 1)
 
 def rows_of(marks: bytes) -> Tuple[int, ...]:
     """The numbers of the rows that are marked."""
-    return tuple(compress(_NUMBERS, marks))
+    return tuple(compress(_NUMBERS, marks[:marks.rfind(1) + 1]))
 
 
-def _shown(answer) -> str:
+def _shown(answer: Any) -> str:
     """An answer with the numbers of its rows in place of its column of marks."""
     fields = answer._asdict()
     fields["rows"] = rows_of(fields.pop("marks"))

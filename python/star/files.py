@@ -1,21 +1,35 @@
 """Tables from and to files: the planner's table and STP texts by the library, CSV, GeoJSON."""
 import ctypes
 import os
-from typing import Callable, Dict, Union
+import re
+from typing import Any, Callable, Dict, Union
 
 from . import _library as lib
-from .answers import Refused
-from .formats import from_csv, from_geojson, to_csv, to_geojson
-from .table import Table, check_junctions
+from .answers import Refused, Unfit
+from .columns import check_junctions
+from .content import Content
+from .formats import from_csv, to_csv
+from .geojson import from_geojson, to_geojson
+from .table import Table
 
 Path = Union[str, "os.PathLike[str]"]
 _READERS: Dict[str, Callable[..., Table]] = {
     ".csv": from_csv, ".tsv": from_csv, ".geojson": from_geojson, ".json": from_geojson}
+_MOST = 1 << 28  # the bytes of a CSV or GeoJSON file; courses of streets are long
 _WRITERS = {".csv": to_csv, ".geojson": to_geojson, ".json": to_geojson}
 
 
 def _suffix(path: Path) -> str:
     return os.path.splitext(os.fspath(path))[1].lower()
+
+
+def _layout(data: bytes, place: int) -> str:
+    """What a text that is refused 12 is told, with the line that cannot stand."""
+    if len(data) > lib.MAX_READ:
+        return "the text is longer than %d bytes" % lib.MAX_READ
+    count = data[:place].count(b"\n") + 1
+    line = data.split(b"\n", count)[count - 1].decode(errors="backslashreplace").rstrip("\r")
+    return "the text breaks the layout of its kind of file at line %d: %.60r" % (count, line)
 
 
 def from_text(text: Union[str, bytes]) -> Table:
@@ -24,19 +38,23 @@ def from_text(text: Union[str, bytes]) -> Table:
     >>> Table.from_text("1 2 5 1\\n2 3 4 0\\n").plan
     (1,)
     """
-    data = text.encode() if isinstance(text, str) else bytes(text)
+    if not isinstance(text, (str, bytes, bytearray, memoryview)):
+        raise TypeError("a table's text is str or bytes, not %r" % (text,))
+    data = text.encode("utf-8", "surrogatepass") if isinstance(text, str) else bytes(text)
     table = Table(1)
     i = lib.read(table._at, data, len(data))
     if i.kind == lib.REFUSED:
-        words = lib.refusal_text(i.number).decode()
-        if i.number == 12 and i.place < len(data):
-            words += " (line %d)" % (data[:i.place].count(b"\n") + 1)
-        raise Refused(i.number, i.place, words)
+        raise Refused(i.number, i.place, _layout(data, i.place) if i.number == 12 else "")
     check_junctions(i.n)
     return table
 
 
-def to_text(table: Table) -> str:
+def is_stp(data: bytes) -> bool:
+    """Whether a text is one of STP, by its first word."""
+    return re.match(rb"(\xef\xbb\xbf)?\s*33D32945(\s|$)", data, re.IGNORECASE) is not None
+
+
+def to_text(table: Content) -> str:
     """The planner's table, as the console reads it: junctions by their numbers.
 
     >>> print(Table(3, [(1, 2, 5, 1), (2, 3, 4)]).to_text(), end="")
@@ -45,24 +63,40 @@ def to_text(table: Table) -> str:
     2 3 4 0
     """
     text = ctypes.create_string_buffer(lib.MAX_TEXT)
-    lib.write(table._at, text, lib.MAX_TEXT)
+    with table._lock:
+        lib.write(table._at, text, lib.MAX_TEXT)
     return text.value.decode()
 
 
-def read(path: Path, **how) -> Table:
+def content(path: Path) -> bytes:
+    """The bytes of a file, no more than are taken."""
+    most = _MOST if _suffix(path) in _READERS else lib.MAX_READ
+    with open(path, "rb") as file:
+        return file.read(most + 1)
+
+
+def table_of(path: Path, data: bytes, **how: Any) -> Table:
+    """The table in the bytes of a file."""
+    reader = _READERS.get(_suffix(path))
+    if how and not reader:
+        raise TypeError("a planner's table and an STP text are read as they are")
+    if not reader:
+        return from_text(data)
+    if len(data) > _MOST:
+        raise Unfit(0, "the file has more than %d bytes" % _MOST)
+    try:
+        return reader(data.decode("utf-8-sig"), **how)
+    except UnicodeDecodeError as fault:
+        raise Unfit(0, "it is no text in UTF-8: see byte %d" % (fault.start + 1)) from None
+
+
+def read(path: Path, **how: Any) -> Table:
     """A table from a file: .csv and .geojson by their names, else a planner's table or an STP text.
     how -- unit, parallel and what else from_rows takes, for CSV and GeoJSON"""
-    with open(path, "rb") as file:
-        data = file.read()
-    reader = _READERS.get(_suffix(path))
-    if reader:
-        return reader(data.decode("utf-8-sig"), **how)
-    if how:
-        raise TypeError("a planner's table and an STP text are read as they are")
-    return from_text(data)
+    return table_of(path, content(path), **how)
 
 
-def write(table: Table, path: Path) -> None:
+def write(table: Content, path: Path) -> None:
     """Writes the table to a file: CSV or GeoJSON by the name, else the planner's table."""
     writer = _WRITERS.get(_suffix(path), to_text)
     with open(path, "w", encoding="utf-8", newline="") as file:

@@ -3,12 +3,12 @@ from html import escape
 from math import cos, pi, sin
 from typing import Dict, Tuple
 
-from .table import Table
+from .content import Content
 
 _SIZE, _EDGE = 480, 40
 
 
-def _places(table: Table) -> Dict[int, Tuple[float, float]]:
+def _places(table: Content) -> Dict[int, Tuple[float, float]]:
     """Where each junction stands: by its coordinates where all have some, else on a circle."""
     if len(table._places) == table.n:
         return _fitted({k: (float(p[0]), -float(p[1])) for k, p in table._places.items()})
@@ -25,7 +25,7 @@ def _fitted(places: Dict[int, Tuple[float, float]]) -> Dict[int, Tuple[float, fl
             for k, (x, y) in places.items()}
 
 
-def svg(table: Table) -> str:
+def svg(table: Content) -> str:
     """The table as SVG text."""
     at = _places(table)
     out = ['<svg xmlns="http://www.w3.org/2000/svg" width="%d" height="%d" '

@@ -1,6 +1,8 @@
 """Rows as street data has them, with names, decimals and parallel trenches, made into a table."""
+import re
 from fractions import Fraction
-from typing import Dict, Hashable, Iterable, List, NamedTuple, Optional, Sequence, Tuple
+from typing import (Any, Dict, FrozenSet, Hashable, Iterable, List, NamedTuple, Optional, Sequence,
+                    Tuple, Union)
 
 from . import _library as lib
 from .answers import Unfit
@@ -38,16 +40,49 @@ class Report(NamedTuple):
         return "\n".join(lines) or "nothing was dropped or rounded"
 
 
-def number(value: Fraction):
+def number(value: Fraction) -> Union[int, float]:
     """A number as it is written: whole, or with its decimals."""
     return int(value) if value.denominator == 1 else float(value)
 
 
+_FAR = re.compile(r"[eE][-+]?0*[1-9][0-9]{3}")  # a power of ten that takes memory to write out
+
+
 def exact(value: object) -> Fraction:
     """The number that is written: 12.35 is 1235 hundredths, whatever its bits are."""
-    if isinstance(value, (int, Fraction)):
+    if isinstance(value, (int, Fraction)) and not isinstance(value, bool):
         return Fraction(value)
-    return Fraction(str(value).strip())
+    text = str(value).strip()
+    if len(text) > 100 or _FAR.search(text):
+        raise ValueError("%.20s.. is no price" % text)
+    return Fraction(text)
+
+
+def mark_of(place: int, mark: object) -> bool:
+    """A mark: 0 or 1, or what is equal to them; where there is none, 0."""
+    if mark is None:
+        return False
+    if mark not in (0, 1):
+        raise Unfit(place, "its mark is %r, and is to be True or False" % (mark,))
+    return bool(mark)
+
+
+def _parts(place: int, row: Sequence[Any]) -> Tuple[Hashable, Hashable, object, bool]:
+    """A row's junctions, price and mark."""
+    try:
+        left, right, given = row[0], row[1], row[2]
+        mark = row[3] if len(row) > 3 else None
+    except (IndexError, KeyError, TypeError):
+        raise Unfit(place, "%.60r is not left, right, price, and perhaps a mark" % (row,)) from None
+    for name in (left, right):
+        try:
+            hash(name)
+            missing = name is None or name != name
+        except TypeError:
+            raise Unfit(place, "%.60r is no junction" % (name,)) from None
+        if missing:
+            raise Unfit(place, "one of its junctions is missing")
+    return left, right, given, mark_of(place, mark)
 
 
 class _Rows:
@@ -62,8 +97,8 @@ class _Rows:
         if self.unit <= 0:
             raise ValueError("a unit is above 0")
         self.parallel, self.loops, self.rounding = parallel, loops, rounding
-        self.rows: List[list] = []                   # left, right, price, marked, place, given
-        self.at: Dict[frozenset, int] = {}           # the index of the row between two junctions
+        self.rows: List[List[Any]] = []              # left, right, price, marked, place, given
+        self.at: Dict[FrozenSet[Hashable], int] = {}  # the index of the row between two junctions
         self.named: Dict[Hashable, None] = {}        # the junctions, as they come
         self.dropped: List[Dropped] = []
         self.rounded: List[Rounded] = []
@@ -72,7 +107,7 @@ class _Rows:
         try:
             units = exact(given) / self.unit
         except (ValueError, ZeroDivisionError):
-            raise Unfit(place, "%r is not a price" % (given,)) from None
+            raise Unfit(place, "%.60r is not a price" % (given,)) from None
         whole = round(units)
         if whole != units:
             if self.rounding == "refuse":
@@ -111,7 +146,7 @@ class _Rows:
         return Report(tuple(self.dropped), tuple(r for r in self.rounded if r.place in places))
 
 
-def from_rows(rows: Iterable[Sequence], *, junctions: Optional[Iterable[Hashable]] = None,
+def from_rows(rows: Iterable[Sequence[Any]], *, junctions: Optional[Iterable[Hashable]] = None,
               unit: object = 1, parallel: str = "refuse", loops: str = "refuse",
               rounding: str = "refuse") -> Table:
     """A table from rows (left, right, price) or (left, right, price, marked), the junctions named
@@ -135,7 +170,7 @@ def from_rows(rows: Iterable[Sequence], *, junctions: Optional[Iterable[Hashable
     """
     taken = _Rows(unit, parallel, loops, rounding)
     for place, row in enumerate(rows, 1):
-        taken.take(place, row[0], row[1], row[2], len(row) > 3 and bool(row[3]))
+        taken.take(place, *_parts(place, row))
     names = tuple(taken.named if junctions is None else junctions)
     table = Table(names, [row[:4] for row in taken.rows])
     table.unit = taken.unit

@@ -2,9 +2,12 @@
 name of a module."""
 import json
 from fractions import Fraction
+from itertools import compress
+from operator import index
 
 import star
-from star import _library, answers, files, formats, rows, table
+from star import (_library, answers, changes, columns, content, files, formats, geojson, plans,
+                  questions, rows)
 
 own = {}
 
@@ -15,7 +18,7 @@ def kept(module, name):
 
 
 def spoilt_verdict(v):
-    verdict = kept(table, "_verdict")(v)
+    verdict = kept(questions, "_verdict")(v)
     if verdict.exchange:
         verdict = verdict._replace(exchange=verdict.exchange._replace(
             out=verdict.exchange.into, into=verdict.exchange.out))
@@ -23,12 +26,12 @@ def spoilt_verdict(v):
 
 
 def always_only(v):
-    verdict = kept(table, "_verdict")(v)
+    verdict = kept(questions, "_verdict")(v)
     return verdict._replace(only=True) if verdict.passed else verdict
 
 
 def totals_swapped(v):
-    verdict = kept(table, "_verdict")(v)
+    verdict = kept(questions, "_verdict")(v)
     return verdict._replace(total=verdict.least, least=verdict.total)
 
 
@@ -65,7 +68,7 @@ def unmarked_csv(t):
 
 
 def straight_lines(t):
-    text = json.loads(kept(formats, "to_geojson")(t))
+    text = json.loads(kept(geojson, "to_geojson")(t))
     for feature in text["features"]:
         if feature["geometry"]["type"] == "LineString":
             line = feature["geometry"]["coordinates"]
@@ -78,34 +81,55 @@ def names_as_text(t, weight="price"):
     return networkx.relabel_nodes(kept(formats, "to_networkx")(t, weight), lambda v: str(v) + " ")
 
 
-NETWORKX, PACKAGE = "against_networkx.AgainstNetworkx.", "package."
+def unlocked_check(self):
+    return questions._verdict(_library.check(self._at))
+
+
+def all_in_use(self, given, once=False):
+    return [columns.word(row) for row in given]
+
+
+def slow_rows(marks):
+    return tuple(compress(range(1, 1025), marks))
+
+
+NETWORKX, PACKAGE, WRONG = "against_networkx.AgainstNetworkx.", "package.", "wrong."
 FAULTS = {
-    "exchange-turned": (table, "_verdict", spoilt_verdict, NETWORKX + "test_check"),
-    "always-only": (table, "_verdict", always_only, NETWORKX + "test_check"),
-    "totals-swapped": (table, "_verdict", totals_swapped, NETWORKX + "test_check"),
-    "quote-swapped": (table, "Quote", Swapped, NETWORKX + "test_quote"),
+    "exchange-turned": (questions, "_verdict", spoilt_verdict, NETWORKX + "test_check"),
+    "always-only": (questions, "_verdict", always_only, NETWORKX + "test_check"),
+    "totals-swapped": (questions, "_verdict", totals_swapped, NETWORKX + "test_check"),
+    "quote-swapped": (questions, "Quote", Swapped, NETWORKX + "test_quote"),
     "rows-from-0": (answers, "_NUMBERS", range(0, 1024), NETWORKX + "test_least_totals"),
-    "steps-exchanged": (table, "_KINDS", {1: "added", 2: "dropped", 3: "exchanged"},
+    "steps-exchanged": (plans, "_KINDS", {1: "added", 2: "dropped", 3: "exchanged"},
                         NETWORKX + "test_mend"),
-    "walk-not-ordered": (table.Table, "_walked", lambda self, found, at: tuple(sorted(found)),
+    "walk-not-ordered": (questions.Questions, "_walked", lambda self, found, at: tuple(sorted(found)),
                          NETWORKX + "test_path"),
-    "marks-of-which": (table, "_marks", lambda chosen: bytes(1024), NETWORKX + "test_which"),
-    "merge-forgets": (table.Table, "merge", lambda self: {}, NETWORKX + "test_changes"),
+    "marks-of-which": (questions, "marks_of", lambda chosen: bytes(1024), NETWORKX + "test_which"),
+    "merge-forgets": (changes.Changes, "merge", lambda self: {}, NETWORKX + "test_changes"),
     "names-as-text": (formats, "to_networkx", names_as_text, NETWORKX + "test_round_trips"),
-    "place-lacking": (table, "Refused", refused_without_place,
+    "place-lacking": (plans, "Refused", refused_without_place,
                       PACKAGE + "Refusals.test_by_number"),
-    "words-cut": (table, "_word", lambda x: x % 2**32,
+    "words-cut": (questions, "word", lambda x: x % 2**32,
                   PACKAGE + "Refusals.test_numbers_that_words_do_not_hold"),
-    "prices-cut": (table, "price_of", lambda x: (x + 2**31) % 2**32 - 2**31,
+    "prices-cut": (questions, "price_of", lambda x: (x + 2**31) % 2**32 - 2**31,
                    PACKAGE + "Refusals.test_numbers_that_words_do_not_hold"),
-    "ends-cut": (table, "_end", lambda x: x % 256, PACKAGE + "Refusals.test_by_number"),
+    "ends-cut": (content, "end", lambda x: x % 256, PACKAGE + "Refusals.test_by_number"),
     "binary-prices": (rows, "exact", binary, PACKAGE + "Forms.test_exact_prices"),
     "keeps-last": (rows._Rows, "take", keeps_last, PACKAGE + "Forms.test_parallel_rows"),
     "csv-without-marks": (formats, "to_csv", unmarked_csv, PACKAGE + "Forms.test_csv"),
-    "coarse-places": (formats, "_place", coarse_place, PACKAGE + "Forms.test_geojson"),
-    "straight-lines": (formats, "to_geojson", straight_lines, PACKAGE + "Forms.test_geojson"),
-    "lines-stay": (table.Table, "_carry_lines", lambda self: None, PACKAGE + "Forms.test_geojson"),
+    "coarse-places": (geojson, "_place", coarse_place, PACKAGE + "Forms.test_geojson"),
+    "straight-lines": (geojson, "to_geojson", straight_lines, PACKAGE + "Forms.test_geojson"),
+    "lines-stay": (changes.Changes, "_carry_lines", lambda self: None, PACKAGE + "Forms.test_geojson"),
     "suffix-lost": (files, "_suffix", lambda path: "", PACKAGE + "Forms.test_files"),
     "not-escaped": (star.picture, "escape", str, PACKAGE + "Forms.test_picture"),
+    "bools-taken": (columns, "whole", lambda value, what: index(value),
+                    WRONG + "Types.test_no_whole_number"),
+    "some-changed": (content.Content, "_in_use", all_in_use,
+                     WRONG + "Types.test_refused_before_anything_is_changed"),
+    "any-point": (geojson, "_point", tuple, WRONG + "Types.test_texts_that_are_none"),
+    "line-lost": (files, "_layout", lambda data, place: "", PACKAGE + "Forms.test_files"),
+    "not-locked": (questions.Questions, "check", unlocked_check,
+                   WRONG + "Threads.test_every_call_holds_the_lock"),
+    "slow": (content, "rows_of", slow_rows, "costs.Costs.test_every_method"),
     "clears-one": (_library, "MAX_ROWS", 1, PACKAGE + "Refusals.test_full"),
 }

@@ -1,5 +1,6 @@
 """The package by itself: examples, forms, refusals, limits, and the lines of docs/PYTHON.md."""
 import doctest
+import glob
 import importlib
 import json
 import os
@@ -29,8 +30,10 @@ STREETS = {"type": "FeatureCollection", "features": [
 
 def load_tests(loader, tests, pattern):
     """The examples of every module, and of the page."""
-    for name in ("star", "star.table", "star.rows", "star.formats", "star.files", "star.answers"):
-        tests.addTests(doctest.DocTestSuite(importlib.import_module(name)))
+    for path in glob.glob(os.path.join(star.__path__[0], "[!_]*.py")):
+        module = importlib.import_module("star." + os.path.basename(path)[:-3])
+        tests.addTests(doctest.DocTestSuite(module, extraglobs={"Table": star.Table}))
+    tests.addTests(doctest.DocTestSuite(star))
     tests.addTests(doctest.DocFileSuite(DOCS, module_relative=False, encoding="utf-8"))
     return tests
 
@@ -245,7 +248,7 @@ class Forms(unittest.TestCase):
     def test_command(self):
         examples = os.path.join(HERE, "..", "..", "console", "examples")
         for name, status, said in (("yard.txt", 0, "total 12"), ("yard-dear.txt", 1, "saves 1"),
-                                   ("street.stp", 2, "refused 9"), ("none.txt", 3, "No such file")):
+                                   ("street.stp", 3, "no plan"), ("none.txt", 3, "No such file")):
             ran = subprocess.run([sys.executable, "-B", "-m", "star", "check",
                                   os.path.join(examples, name)], capture_output=True, text=True)
             self.assertEqual(ran.returncode, status)

@@ -61,7 +61,7 @@ def types():
     if not shutil.which("mypy"):
         print("skipped: the types, since mypy is not installed")
         return 0, 0
-    words = ["mypy", "--ignore-missing-imports", "--cache-dir", os.devnull, "star"]
+    words = ["mypy", "--strict", "--ignore-missing-imports", "--cache-dir", os.devnull, "star"]
     package = os.path.join(HERE, "..", "..", "python")
     held = subprocess.run(words, cwd=package, stdout=subprocess.PIPE, universal_newlines=True)
     if held.returncode != 0:
@@ -73,7 +73,7 @@ def main():
     with_networkx = all(importlib.util.find_spec(name) for name in ("networkx", "hypothesis"))
     if not with_networkx:
         print("skipped: the tests against networkx, since networkx or hypothesis is not installed")
-    modules = ["package"] + ["against_networkx"] * bool(with_networkx)
+    modules = ["package", "wrong", "costs"] + ["against_networkx"] * bool(with_networkx)
     passed, failed = map(sum, zip(tests(modules), types()))
     if not failed:
         found, missed = controls(with_networkx)

@@ -1,0 +1,94 @@
+"""What a call of the package costs beside the library's own time, over the yard: the time of the
+method, less that of the library's function with its words made ready, plus that of a call of the
+library that does next to nothing. It is counted in such calls, so that it does not depend on how
+fast the machine is or how busy.
+
+usage: costs.py   prints it for every method, and in microseconds
+"""
+import ctypes
+import struct
+import time
+import unittest
+
+import star
+from star import _library as lib
+
+YARD = [(1, 2, 5), (2, 3, 3), (3, 4, 5), (1, 4, 4), (1, 3, 6)]
+# Five microseconds, where a call of the library that does next to nothing takes 0.36.
+MOST = 14
+ROUNDS, CALLS = 80, 50
+
+
+def yard():
+    t = star.Table(4, YARD)
+    t.plan = 1, 2, 4
+    return t
+
+
+def methods():
+    """Each method, and the function of the library that it calls, with its words."""
+    t = yard()
+    at, words = t._at, struct.pack("=2I", 2, 1024)
+    plans = [bytes([1, 1, 1, 0]) + bytes(1020), bytes([1, 1, 0, 1]) + bytes(1020)]
+    matrix, records, forests = (ctypes.c_uint64 * 64)(), lib.Records(), lib.Column()
+    text = ctypes.create_string_buffer(lib.MAX_LIST)
+    table = ctypes.create_string_buffer(lib.MAX_TEXT)
+    return {
+        "check": (t.check, lambda: lib.check(at)),
+        "other": (t.other, lambda: lib.other(at)),
+        "which": (lambda: t.which((1, 2, 3), (1, 2, 4)), lambda: lib.which(at, *plans)),
+        "path": (lambda: t.path(1, 3), lambda: lib.paths(at, 1, matrix)),
+        "quote": (lambda: t.quote(4, 9), lambda: lib.quote(at, 4, 9)),
+        "breaking": (lambda: t.breaking(4), lambda: lib.breaking(at, 4)),
+        "digs": (t.digs, lambda: lib.digs(at, text)),
+        "build": (t.build, lambda: lib.build(at)),
+        "mend": (t.mend, lambda: lib.mend(at, records)),
+        "outlets": (lambda: t.outlets(1, 2), lambda: lib.outlets(at, 1, 2)),
+        "districts": (lambda: t.districts([2, 5]), lambda: lib.districts(at, words, 2, forests)),
+        "add, strike": (lambda: t.strike(t.add(2, 4, 9)),
+                        lambda: (lib.add(at, 2, 4, 9), lib.strike(at, 6))),
+        "merge": (t.merge, lambda: lib.merge(at)),
+        "mark": (lambda: t.mark(1), lambda: lib.mark(at, 1, 1)),
+        "plan": (lambda: t.plan, None),
+        "plan = ..": (lambda: setattr(t, "plan", (1, 2, 4)), None),
+        "rows": (lambda: t.rows, None),
+        "len": (lambda: len(t), None),
+        "to_text": (t.to_text, lambda: lib.write(at, table, lib.MAX_TEXT)),
+    }
+
+
+def least(*calls):
+    """The least time of each, in seconds; they take turns, so that what else the machine does falls
+    on all of them."""
+    best = [1.0] * len(calls)
+    for _ in range(ROUNDS):
+        for k, call in enumerate(calls):
+            began = time.perf_counter()
+            for _ in range(CALLS):
+                call()
+            best[k] = min(best[k], (time.perf_counter() - began) / CALLS)
+    return best
+
+
+def beside(name):
+    """What a method costs beside the library's own time, and a call that does next to nothing."""
+    method, own = methods()[name]
+    t = yard()
+    slow, bare, nothing = least(method, own or (lambda: None), lambda: lib.mark(t._at, 1, 1))
+    return (slow - bare + nothing if own else slow), nothing
+
+
+class Costs(unittest.TestCase):
+    def test_every_method(self):
+        for name in methods():
+            for _ in range(5):  # a machine that is busy all the time is asked again
+                cost, nothing = beside(name)
+                if cost < MOST * nothing:
+                    break
+            self.assertLess(cost / nothing, MOST, name)
+
+
+if __name__ == "__main__":
+    for name in methods():
+        cost, nothing = beside(name)
+        print("%-12s %5.1f calls %6.2f microseconds" % (name, cost / nothing, cost * 1e6))
