@@ -84,9 +84,9 @@ module _ (m : ℕ) (is : m ≡ 1024) where
   at-last : repeats table 1024 ≡ true
   unfolding repeats repeatsAbove used both
   at-last =
-      rw (in-upTo rows 1024 (omega arith) (omega (arith, few lastLefts)))
+      rw (in-upTo rows 1024 (omega arith) (omega (arith, few lastLefts)), in-upTo 1024 1024 (omega arith) (omega arith))
       (any-some 1023 1 _ (omega arith) (omega arith)
-      (rw (in-upTo rows 1 (omega arith) (omega (arith, few lastLefts)), end-at lastLefts m 1 (omega arith) (omega arith), end-at lastRights m 1 (omega arith) (omega arith), end-at lastLefts m 1024 (omega arith) (omega arith), end-at lastRights m 1024 (omega arith) (omega arith))))
+      (rw (in-upTo rows 1 (omega arith) (omega (arith, few lastLefts)), in-upTo 1024 1 (omega arith) (omega arith), end-at lastLefts m 1 (omega arith) (omega arith), end-at lastRights m 1 (omega arith) (omega arith), end-at lastLefts m 1024 (omega arith) (omega arith), end-at lastRights m 1024 (omega arith) (omega arith))))
 
   before-last : (i : ℕ) → 1 ≤ i → i ≤ 1023 → repeats table i ≡ false
   unfolding repeats repeatsAbove

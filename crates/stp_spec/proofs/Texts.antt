@@ -14,8 +14,9 @@ use native.Mathlib.Omega.{arith}
 use Rattle.rowset.specs.Bytes.{little, inRow}
 use Rattle.rowset.specs.Integers.{toBits}
 use Rattle.refusal.specs.declared.Refusal.{Refusal}
-use Rattle.rowset.specs.Sets.{any, uppermost}
+use Rattle.rowset.specs.Sets.{upTo, any, uppermost}
 use Rattle.rowset.proofs.Laws.{in-upTo, uppermost-zero, uppermost-is}
+use Rattle.rowset.proofs.Members.{in-both}
 use Rattle.star_spec.specs.Call.{Call, callOf, rowsOf, used}
 use Rattle.star_spec.specs.Door.{bytesOf}
 use Rattle.star_spec.specs.Refusals.{maxRows, cause, causeAt, badVertices, tooManyRows, wrongRow, badEnds, badRow, repeatsAbove, repeats, repeatedRow, orElse, refusal}
@@ -188,12 +189,14 @@ repeated-rows k mark h = rw (uppermost-is (rowsOf (equal-rows k mark)) 1 (repeat
     rows : 2 ≤ rowsOf (equal-rows k mark)
     rows = omega (arith, length-replicate {A = ℕ} k 1)
 
-    row : (i : ℕ) → 1 ≤ i → i ≤ rowsOf (equal-rows k mark) → used (equal-rows k mark) i ≡ true
-    row i l u = row-used (equal-rows k mark) i (l, u, in-upTo (rowsOf (equal-rows k mark)) i l u)
+    row : (i : ℕ) → 1 ≤ i → i ≤ 2 → used (equal-rows k mark) i ≡ true
+    row i l u =
+        let r : i ≤ rowsOf (equal-rows k mark) = omega (arith, rows) in
+        row-used (equal-rows k mark) i (l, r, in-both (upTo 1024) (upTo (rowsOf (equal-rows k mark))) i (in-upTo 1024 i l (omega arith)) (in-upTo (rowsOf (equal-rows k mark)) i l r))
 
     second : repeats (equal-rows k mark) 2 ≡ true
     second =
-        rw (row 2 (omega arith) rows, row 1 (omega arith) (omega (arith, rows)), row-byte 1 k 0 (omega arith), row-byte 1 k 1 (omega arith), row-byte 2 k 0 (omega arith), row-byte 2 k 1 (omega arith))
+        rw (row 2 (omega arith) (omega arith), row 1 (omega arith) (omega arith), row-byte 1 k 0 (omega arith), row-byte 1 k 1 (omega arith), row-byte 2 k 0 (omega arith), row-byte 2 k 1 (omega arith))
 
     first : (i : ℕ) → 1 ≤ i → i ≤ 1 → repeats (equal-rows k mark) i ≡ false
     first i l u =
