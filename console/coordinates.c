@@ -1,6 +1,6 @@
 /* Reads the coordinates in the section Coordinates of an STP text, for the picture alone: the lines
-   'DD junction x y'. What stands there is not checked; a line that has no two numbers is skipped.
- */
+   'DD junction x y'. What stands there is not checked; a line that has no two numbers is
+   skipped. */
 #include "places.h"
 
 struct words {

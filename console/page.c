@@ -198,6 +198,7 @@ int command_page(struct table *t, const struct options *with, struct output *o) 
     struct shows s = shows_of(t, a);
     struct message words = {{0}, 0};
     struct program p;
+    enum found found = NOT_FOUND;
     int status = EXIT_PASSED;
     FILE *to;
     verdict_words(&words, t, a);
@@ -205,11 +206,11 @@ int command_page(struct table *t, const struct options *with, struct output *o) 
     if (!s.drawn) status = EXIT_REFUSED;
     if (status == EXIT_REFUSED) fprintf(stderr, "%s\n", words.text);
     if (!s.drawn && a.number != STAR_BAD_JUNCTION_COUNT) return status;
-    to = output_open(o);
+    if (!with->static_page) found = program_open(&p);
+    to = found == OTHER_VERSION ? NULL : output_open(o);
+    if (to && found == FOUND) program_write(to, &p, t, name_of(t->file));
+    if (to && found == NOT_FOUND) static_page(to, t, a, s);
+    if (found == FOUND) program_close(&p);
     if (!to) return EXIT_UNWRITTEN;
-    if (!with->static_page && program_open(&p)) {
-        program_write(to, &p, t, name_of(t->file));
-        program_close(&p);
-    } else static_page(to, t, a, s);
     return status;
 }

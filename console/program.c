@@ -13,8 +13,10 @@
 
 enum { PATH = 4096 };
 
-/* What page/page.html has in place of a table, and how it is written with one. */
+/* What page/page.html has in place of a table and before its version, and how it is written with a
+   table. */
 static const char EMPTY[] = "<div hidden id=\"table\" data-name=\"\"></div>";
+static const char VERSION[] = "<meta name=\"generator\" content=\"star ";
 static const char OPENS[] = "<div hidden id=\"table\" data-name=\"";
 
 /* From the folder of the console: as it is built, and as it is installed. */
@@ -28,12 +30,29 @@ static size_t folder(char path[PATH]) {
     return (size_t)len;
 }
 
-/* Where the table goes; the length if there is no place for it. */
-static size_t place_of(const char *bytes, size_t len) {
-    size_t word = sizeof EMPTY - 1, at;
-    for (at = 0; at + word <= len; at++)
-        if (memcmp(bytes + at, EMPTY, word) == 0) return at;
-    return len;
+/* Where a text first stands in the program; the program's length if it does not. */
+static size_t place_of(const struct program *p, const char *text) {
+    size_t word = strlen(text), at;
+    for (at = 0; at + word <= p->len; at++)
+        if (memcmp(p->bytes + at, text, word) == 0) return at;
+    return p->len;
+}
+
+/* Whether the program's version is the console's; says so where it is not. */
+static int same_version(const struct program *p, const char *path) {
+    const char *told = "unknown", *end = p->bytes + p->len;
+    size_t at = place_of(p, VERSION), len = strlen(told);
+    if (at < p->len) {
+        told = p->bytes + at + sizeof VERSION - 1;
+        for (len = 0; told + len < end && told[len] != '"' && len < FIGURES;) len++;
+    }
+    if (len == strlen(star_version()) && memcmp(told, star_version(), len) == 0) return 1;
+    fprintf(
+        stderr,
+        "star: the page's program, %s, has the version %.*s, and this console has %s: no page is "
+        "written. 'make page' builds the program anew; --static needs none.\n",
+        path, (int)len, told, star_version());
+    return 0;
 }
 
 static int program_read(struct program *p, const char *path) {
@@ -42,24 +61,27 @@ static int program_read(struct program *p, const char *path) {
     p->bytes = input_whole(from, &p->len);
     fclose(from);
     if (!p->bytes) return 0;
-    p->place = place_of(p->bytes, p->len);
+    p->place = place_of(p, EMPTY);
     if (p->place < p->len) return 1;
     program_close(p);
     return 0;
 }
 
-int program_open(struct program *p) {
+enum found program_open(struct program *p) {
     char path[PATH + sizeof "../share/star/star.html"];
     size_t len = folder(path), k;
     memset(p, 0, sizeof *p);
     for (k = 0; len > 0 && k < sizeof FILES / sizeof FILES[0]; k++) {
         strcpy(path + len, FILES[k]);
-        if (program_read(p, path)) return 1;
+        if (!program_read(p, path)) continue;
+        if (same_version(p, path)) return FOUND;
+        program_close(p);
+        return OTHER_VERSION;
     }
     fputs("star: the page's program is not installed ('make page' builds it): the page is written "
           "without it, as by --static\n",
           stderr);
-    return 0;
+    return NOT_FOUND;
 }
 
 void program_close(struct program *p) {

@@ -11,9 +11,11 @@ struct program {
     size_t place; /* where the table goes */
 };
 
-/* Finds and reads it. Where there is none, says so on standard error, and how to get it, and
-   returns 0. */
-int program_open(struct program *p);
+enum found { NOT_FOUND, FOUND, OTHER_VERSION };
+
+/* Finds and reads it. Where there is none, or one of another version than the console's, it says so
+   on standard error, and how to get it. */
+enum found program_open(struct program *p);
 
 /* Writes it with the bytes of a table file inside, under a name. */
 void program_write(FILE *to, const struct program *p, const struct table *t, const char *name);

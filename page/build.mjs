@@ -58,6 +58,15 @@ function strip(text) {
 /** @param {string} text */
 const squeeze = (text) => text.replace(/\/\*[\s\S]*?\*\//g, '').replace(/\s*\n\s*/g, '');
 
+/** The version that the module tells. */
+function version() {
+  /** @type {any} */
+  const doors = new WebAssembly.Instance(new WebAssembly.Module(bytesOfCore)).exports;
+  const memory = new Uint8Array(doors.memory.buffer);
+  const from = doors.star_version();
+  return Buffer.from(memory.subarray(from, memory.indexOf(0, from))).toString();
+}
+
 join('main.js');
 const script = `'use strict';(()=>{\n${joined.join('')}})();`;
 if (script.includes('</script')) throw Error('the script would end early');
@@ -70,10 +79,11 @@ const policy = [
   "base-uri 'none'",
   "form-action 'none'",
 ].join('; ');
-const core = zlib.gzipSync(fs.readFileSync(module), { level: 9 }).toString('base64');
+const bytesOfCore = fs.readFileSync(module);
+const core = zlib.gzipSync(bytesOfCore, { level: 9 }).toString('base64');
 const style = squeeze(read('page.css').replaceAll('@DARK@', () => read('dark.css')));
 /** @type {Record<string, string>} */
-const parts = { POLICY: policy, STYLE: style, CORE: core, SCRIPT: script };
+const parts = { POLICY: policy, STYLE: style, CORE: core, SCRIPT: script, VERSION: version() };
 const page = read('page.html').replace(/@([A-Z]+)@/g, (_, name) => parts[name]);
 const bytes = Buffer.byteLength(page);
 if (bytes > MOST_BYTES) throw Error(`${bytes} bytes; at most ${MOST_BYTES} are wanted`);

@@ -149,7 +149,9 @@ def programs(work):
     yard = "console/examples/yard.txt"
     with open(yard, "rb") as file:
         inside = base64.b64encode(file.read())
-    before, after = b"<p>before</p>\0\xff\n", b"<p>after</p>"
+    version = subprocess.run([star, "--version"], capture_output=True).stdout.split()[-1]
+    meta = b'<meta name="generator" content="star %s">'
+    before, after = meta % version + b"<p>before</p>\0\xff\n", b"<p>after</p>"
 
     def page(*words):
         done = subprocess.run([star, "page", *words], capture_output=True)
@@ -175,6 +177,14 @@ def programs(work):
     put(folder, b'<div hidden id="table" data-name=""></div>')
     os.remove(os.path.join(installed, "star.html"))
     check("program: beside it", page(yard) == (0, filled(b"yard.txt"), b""))
+    for other in (meta % b"0.1.0", meta % (version + b"0"), meta % version[:-1], b"", meta[:-5]):
+        with open(os.path.join(folder, "star.html"), "wb") as out:
+            out.write(other + b'<div hidden id="table" data-name=""></div>')
+        status, text, said = page(yard)
+        check("program: version " + repr(other), (status, text) == (5, b"") and version in said and
+              said.count(b"\n") == 1 and b"make page" in said and b"--static" in said)
+    check("program: version not asked for", page("--static", yard) == static)
+    put(folder, b'<div hidden id="table" data-name=""></div>')
     odd = os.path.join(work, "a\"b<c>&\n.txt")
     shutil.copy(yard, odd)
     check("program: name", page(odd)[1] == filled(b"a&#34;b&lt;c&gt;&amp;&#10;.txt"))
