@@ -18,6 +18,7 @@ static const char STYLE[] =
     "#999;padding-top:16px;margin-top:36px}\n"
     ".core{border-left:6px solid #1b5e20;background:#eef5ee;padding:6px 12px}.where{color:#555}\n"
     ".refused{border:2px solid #b3261e;border-left-width:6px;background:#fdecea;padding:6px 12px}\n"
+    ".fit.stage{max-height:none}.fit.stage svg{width:100%;height:auto}\n"
     ".stage{overflow:auto;max-height:680px;border:1px solid #ccc;background:#fff}.stage "
     "svg{display:block;margin:0 auto}\n"
     ".count{font-size:22px}.two{display:flex;flex-wrap:wrap;gap:16px}.half{flex:1 1 "

@@ -2,11 +2,14 @@
 #include "panels.h"
 
 #include <inttypes.h>
+#include <string.h>
 
 #include "commands.h"
 #include "detour.h"
 #include "ring.h"
 #include "verdict.h"
+
+enum { RINGS = 20 }; /* rings that are named before the others are asked for */
 
 /* A paragraph of some look. */
 static void paragraph(FILE *to, const char *look, const char *text) {
@@ -42,55 +45,101 @@ static void sample(FILE *to, const char *look, const char *says) {
             look, says);
 }
 
-/* A view of a ring and of the junctions that stand apart. */
-static void ring_view(FILE *to, const struct drawing *g, const struct ring *r, struct box b,
-                      const char *name, const char *says) {
+/* The trenches of all rings, and the part of the sheet that they are in. */
+struct rings {
+    uint8_t on[STAR_MAX_ROWS + 1];
+    struct box around;
+};
+
+static void rings_of(struct rings *all, const struct drawing *g, struct ring *r) {
+    size_t k, i;
+    memset(all->on, 0, sizeof all->on);
+    all->around = box_empty();
+    for (k = 0; k < r->rings && ring_nth(r, g->t, k); k++)
+        for (i = 0; i < r->count; i++) {
+            all->on[r->row[i]] = 1;
+            box_trench(&all->around, g, r->row[i]);
+        }
+    if (r->rings > 0) ring_nth(r, g->t, 0);
+}
+
+/* A view of the rings and of the junctions that stand apart. */
+static void ring_view(FILE *to, const struct drawing *g, const struct ring *r,
+                      const struct rings *all, struct box b, const char *name, const char *says) {
     size_t k;
-    fputs("<div class=\"half\"><div class=\"stage\">", to);
-    view_open(to, g, box_shown(b, g), name, says);
+    view_open(to, g, b, name, says);
     plan(to, g, g->t);
-    for (k = 0; k < r->count; k++) view_trench(to, g, r->row[k], "ring");
+    for (k = 1; k <= STAR_MAX_ROWS; k++)
+        if (all->on[k]) view_trench(to, g, k, "ring");
     view_tops(to, g);
-    for (k = 0; k < r->count; k++) view_label(to, g, r->row[k]);
+    for (k = 1; k <= STAR_MAX_ROWS; k++)
+        if (all->on[k]) view_label(to, g, k);
     for (k = 0; k < r->cuts; k++) view_junction(to, g, r->cut[k], "cut");
     view_close(to);
+}
+
+static void ring_half(FILE *to, const struct drawing *g, const struct ring *r,
+                      const struct rings *all, struct box b, const char *name, const char *says) {
+    fputs("<div class=\"half\"><div class=\"stage\">", to);
+    ring_view(to, g, r, all, box_shown(b, g), name, says);
     fputs("</div></div>\n", to);
 }
 
-/* One view of both where they are close together, and else one of each. */
-static void ring_views(FILE *to, const struct drawing *g, const struct ring *r, const char *ring,
-                       const char *cuts) {
-    struct box around = box_empty(), cut = box_empty(), all;
+/* One view of all rings and cuts where they are close together; else the whole sheet, made to fit,
+   where there is more than one ring, and a view of the first ring and of the first cut. */
+static void ring_views(FILE *to, const struct drawing *g, const struct ring *r,
+                       const struct rings *all, const char *ring, const char *cuts) {
+    struct box first = box_empty(), cut = box_empty(), both = all->around;
     size_t k;
-    for (k = 0; k < r->count; k++) box_trench(&around, g, r->row[k]);
+    for (k = 0; k < r->count; k++) box_trench(&first, g, r->row[k]);
     if (r->cuts > 0) box_junction(&cut, g, r->cut[0]);
-    all = around;
-    for (k = 0; k < r->cuts; k++) box_junction(&all, g, r->cut[k]);
+    for (k = 0; k < r->cuts; k++) box_junction(&both, g, r->cut[k]);
+    if (r->rings > 1 && !box_close(both, g)) {
+        fputs("<div class=\"stage fit\">", to);
+        ring_view(to, g, r, all, box_whole(g), "rings-view", "The network with all rings.");
+        fputs("</div>\n", to);
+    }
     fputs("<div class=\"two\">\n", to);
-    if (r->count == 0 || r->cuts == 0 || box_close(all, g)) {
-        ring_view(to, g, r, all, "ring-view", r->count > 0 ? ring : cuts);
+    if (r->count == 0 || box_close(both, g) || (r->cuts == 0 && r->rings == 1)) {
+        ring_half(to, g, r, all, both, "ring-view", r->count > 0 ? ring : cuts);
     } else {
-        ring_view(to, g, r, around, "ring-view", ring);
-        ring_view(to, g, r, cut, "cut-view", cuts);
+        ring_half(to, g, r, all, first, "ring-view", ring);
+        if (r->cuts > 0) ring_half(to, g, r, all, cut, "cut-view", cuts);
     }
     fputs("</div>\n", to);
 }
 
+/* Each ring in words: the first twenty, and the others where they are asked for. */
+static void ring_names(FILE *to, const struct drawing *g, struct ring *r) {
+    struct message words = {{0}, 0};
+    size_t k;
+    for (k = 0; k < r->rings && ring_nth(r, g->t, k); k++) {
+        if (k == RINGS)
+            fprintf(to, "<details><summary>%zu more rings</summary>\n", r->rings - RINGS);
+        ring_words(&words, r);
+        panel_plain(to, words.text);
+        words.len = 0;
+    }
+    if (k > RINGS) fputs("</details>\n", to);
+    ring_advice(&words, r);
+    if (words.len > 0) panel_plain(to, words.text);
+}
+
 void panel_ring(FILE *to, const struct drawing *g) {
     static struct ring r;
+    static struct rings all;
     struct message count = {{0}, 0}, ring = {{0}, 0}, cuts = {{0}, 0};
     ring_of(&r, g->t);
+    rings_of(&all, g, &r);
     ring_count(&count, g->t);
     ring_words(&ring, &r);
-    if (ring.len > 0) say(&ring, " ");
-    ring_advice(&ring, &r);
     ring_groups(&cuts, &r, g->t);
     fprintf(to,
             "<p class=\"count\"><b>%zu</b> marked, <b>%" PRIu32 "</b> junctions: %" PRIu32
             " - 1 = %" PRIu32 "</p>\n",
             table_marks(g->t), g->t->n, g->t->n, g->t->n - 1);
     panel_plain(to, count.text);
-    ring_views(to, g, &r, ring.text, cuts.text);
+    ring_views(to, g, &r, &all, ring.text, cuts.text);
     fputs("<p class=\"key\">", to);
     sample(to, "plan", "marked");
     if (r.count > 0) sample(to, "ring", "marked, in a ring");
@@ -99,7 +148,7 @@ void panel_ring(FILE *to, const struct drawing *g) {
               "aria-hidden=\"true\"><circle cx=\"10\" cy=\"10\" r=\"7\"/></svg>stands apart</span>",
               to);
     fputs("</p>\n", to);
-    if (ring.len > 0) panel_plain(to, ring.text);
+    ring_names(to, g, &r);
     if (cuts.len > 0) panel_plain(to, cuts.text);
     panel_verdict(to, g->t, table_cst(g->t));
 }

@@ -70,6 +70,14 @@ def run(rows, n, work):
     return subprocess.run(STAR + ["page", "--static", path], capture_output=True, text=True)
 
 
+def rings(page, name, count, work):
+    """Whether the page names the rings of the table that was run last as explain does."""
+    told = subprocess.run(STAR + ["explain", "--all", os.path.join(work, "table.txt")], capture_output=True, text=True).stdout
+    told = [line for line in told.splitlines() if line.startswith("A ring: ")]
+    shown = [p["text"] for p in page.all("p", "ring") if p["text"].startswith("A ring: ")]
+    check(name + ": named", shown == told and len(told) == count)
+
+
 def light(colour):
     """The relative luminance of #rrggbb or #rgb."""
     digits = colour[1:] if len(colour) == 7 else "".join(2 * c for c in colour[1:])
@@ -228,6 +236,22 @@ with tempfile.TemporaryDirectory() as work:
           page.core()[0] == "Refused (10): the marked rows do not join all junctions.")
     check("ring: groups", "Groups that stand apart: junctions 1, 2, 3; junction 4." in page.said("ring"))
     check("ring: where", [p["text"].startswith("On this table") for p in page.all("p", None, "where")] == [True, False, False, True])
+    # Two rings, as explain names them; more than twenty of them, the others where they are asked for.
+    two = [(1, 2, 1, 1), (2, 3, 1, 1), (1, 3, 1, 1), (3, 4, 1, 1), (4, 5, 1, 1), (5, 6, 1, 1), (4, 6, 1, 1), (1, 6, 1, 0)]
+    page = Page(run(two, 6, work).stdout)
+    sound("two rings", page)
+    check("two rings: drawn", page.rows("ring", "ring") == [1, 2, 3, 5, 6, 7])
+    rings(page, "two rings", 2, work)
+    far = [(v, v + 1, 5, 1) for v in range(1, 200)] + [(1, 3, 2, 1), (150, 152, 2, 1)]
+    page = Page(run(far, 200, work).stdout)
+    sound("far rings", page)
+    check("far rings: drawn", page.rows("ring", "ring") == sorted(2 * [1, 2, 150, 151, 200, 201]))
+    rings(page, "far rings", 2, work)
+    page = Page(run([(u, v, 1, 1) for u in range(1, 10) for v in range(u + 1, 10)], 9, work).stdout)
+    sound("all marked", page)
+    check("all marked: drawn", page.rows("ring", "ring") == list(range(1, 37)))
+    check("all marked: more", [p["text"] for p in page.all("summary")] == ["8 more rings"])
+    rings(page, "all marked", 28, work)
     # Junction 1 is the lonely one: it is the one that is shown so.
     page = Page(run([(2, 3, 5, 1), (3, 4, 3, 1), (2, 4, 5, 1), (1, 4, 4, 0)], 4, work).stdout)
     check("lonely: drawn", [p["href"] for p in page.all("use", "ring", "cut")] == ["#own-j1"])
