@@ -6,8 +6,10 @@ usage: docs.py BUILD [--write]   BUILD has the console and the programs. --write
 Ends in one line 'N passed, M failed'.
 
 A block ```console has commands, each after '$ ', and what they print on both streams. They are run
-in the order of the document in a folder of their own, from which console/ and target/c are seen; of
-make only that it ends well is looked at. The blocks ```c of C.md are the body of one function.
+in the order of the document, those of a block by one bash without a network, in a folder of their
+own that is their home, from which console/ and target/c are seen; of make only that it ends well is
+looked at. The blocks ```c of C.md are the body of one function. C.md and PYTHON.md have no code of
+a kind that no test takes; and a line of each kind that is wrong is found.
 """
 import os
 import re
@@ -17,9 +19,9 @@ import sys
 import tempfile
 
 ROOT = os.path.dirname(os.path.dirname(os.path.abspath(__file__)))
-DOCUMENTS = ('README.md', 'docs/GUIDE.md', 'docs/C.md')
-# make is asked for these only: the others take minutes.
-MADE = ('run', 'programs', 'console')
+DOCUMENTS = ('README.md', 'docs/GUIDE.md', 'docs/C.md', 'docs/PYTHON.md')
+# The kinds of code of the pages for programmers: cmake is run by installed.sh, pycon by python/.
+KINDS = {'docs/C.md': {'c', 'cmake', 'console'}, 'docs/PYTHON.md': {'console', 'pycon'}}
 counts = {True: 0, False: 0}
 
 PRELUDE = '''
@@ -72,51 +74,109 @@ def run(command, folder):
     return done.stdout, done.returncode
 
 
-def make(words):
-    environment = {k: v for k, v in os.environ.items() if not k.startswith(('MAKE', 'MFLAGS'))}
-    done = subprocess.run(['make', '-s'] + words, cwd=ROOT, env=environment, check=False,
-                          capture_output=True, text=True)
-    return done.returncode, done.stdout + done.stderr
+def shell(lines, folder):
+    """What each of some commands prints, and its status; one bash runs them, which has no network
+    where the system allows that."""
+    kept = {k: v for k, v in os.environ.items()
+            if not k.startswith(('MAKE', 'MFLAGS', 'PIP_', 'PYTHON', 'STAR_'))}
+    kept.update(HOME=folder, ROOT=ROOT, PIP_NO_INDEX='1', PIP_DISABLE_PIP_VERSION_CHECK='1')
+    script = 'make() { (cd "$ROOT" && command make -s "$@"); }\nexec 2>&1\n' + ''.join(
+        f"{line[2:]}\nprintf '\\0%s\\0' $?\n" for line in lines)
+    alone = ['unshare', '-rn']
+    if not shutil.which('unshare') or subprocess.run(alone + ['true'], check=False,
+                                                     capture_output=True).returncode:
+        alone = []
+    done = subprocess.run(alone + ['bash', '-c', script], cwd=folder, env=kept, check=False,
+                          stdin=subprocess.DEVNULL, stdout=subprocess.PIPE, text=True)
+    parts = done.stdout.split('\0')
+    return [(parts[k], int(parts[k + 1])) for k in range(0, len(parts) - 1, 2)]
 
 
 def commands(block, folder, document):
-    """The block with what its commands print now."""
-    out = []
-    for line in block.splitlines():
-        if not line.startswith('$ '):
-            continue
-        out.append(line)
-        words = line[2:].split()
-        if words[0] == 'make':
-            status, said = make(words[1:]) if words[1] in MADE else (0, '')
-            holds(f'{document}: {line}', status == 0, said[-300:])
-            continue
-        printed, status = run(line[2:], folder)
-        holds(f'{document}: {line}', status in (0, 1), printed)
-        out += printed.splitlines()
-    return ''.join(line + '\n' for line in out)
+    """The block with what its commands print now, and what went wrong."""
+    lines = [line for line in block.splitlines() if line.startswith('$ ')]
+    out, wrong, ran = [], [], shell(lines, folder)
+    if len(ran) != len(lines):
+        wrong.append((document, 'a command ended the shell'))
+    for line, (printed, status) in zip(lines, ran):
+        made = line.startswith('$ make ')
+        if status not in (0, 1) or made and status:
+            wrong.append((f'{document}: {line}', printed[-300:]))
+        out += [line] + ([] if made else printed.splitlines())
+    return ''.join(line + '\n' for line in out), wrong
 
 
-def console(document, write):
-    text = read(document)
+def with_venv(block):
+    """Whether a block can be run here: it may need python3 to make a folder of packages."""
+    if '-m venv' not in block or run('python3 -c "import ensurepip, venv"', ROOT)[1] == 0:
+        return True
+    print('skipped: a block of commands, since python3 has no module venv here')
+    return False
+
+
+def console(document, text):
+    """The text with what its commands print now, and what differs."""
+    wrong = []
     with tempfile.TemporaryDirectory() as folder:
         os.symlink(os.path.join(ROOT, 'console'), os.path.join(folder, 'console'))
         os.makedirs(os.path.join(folder, 'target'))
         os.symlink(BUILD, os.path.join(folder, 'target/c'))
-        for block in blocks(text, 'console'):
-            now = commands(block, folder, document)
-            if write:
-                text = text.replace(f'```console\n{block}```', f'```console\n{now}```')
-            else:
-                holds(f'{document}: a block', now == block, f'printed now:\n{now}')
+        for block in filter(with_venv, blocks(text, 'console')):
+            now, failed = commands(block, folder, document)
+            wrong += failed + [(f'{document}: a block', f'printed now:\n{now}')] * (now != block)
+            text = text.replace(f'```console\n{block}```', f'```console\n{now}```')
+    return text, wrong
+
+
+def commands_of(document, write):
+    text, wrong = console(document, read(document))
     if write:
         with open(os.path.join(ROOT, document), 'w', encoding='utf-8') as file:
             file.write(text)
+        return
+    for name, shown in wrong:
+        holds(name, False, shown)
+    for block in blocks(text, 'console'):
+        counts[True] += 1 + block.count('\n$ ')
 
 
-def c_blocks():
-    """The C of the library's document, as one program, with no warning."""
-    body = '\n'.join(blocks(read('docs/C.md'), 'c'))
+def outside_blocks(text):
+    """The lines that stand in no block, and the kinds of the blocks."""
+    kinds = re.findall(r'^```(\w*)\n.*?^```$', text, re.M | re.S)
+    return re.sub(r'^```.*?^```$', '', text, flags=re.M | re.S).splitlines(), kinds
+
+
+def unknown(document, text):
+    """The code of a page that no test takes."""
+    lines, kinds = outside_blocks(text)
+    return ([kind for kind in kinds if kind not in KINDS[document]]
+            + [line for line in lines if line.startswith(('    ', '\t', '>>>', '```'))])
+
+
+def broken():
+    """A line of each kind that is wrong is found, and code that no test takes."""
+    page, other = read('docs/C.md'), read('docs/PYTHON.md')
+    for document, text, old, new in (
+            ('docs/C.md', page, 'readstp < console', 'readstp < consoles'),
+            ('docs/C.md', page, '$ target/c/diglist', '$ target/c/diglists'),
+            ('docs/C.md', page, '--libs star)', '--libs stars)'),
+            ('docs/C.md', page, 'Total 249', 'Total 248'),
+            ('docs/PYTHON.md', other, 'saves 1', 'saves 2')):
+        blocks_of = ''.join(f'```console\n{block.replace(old, new)}```\n'
+                            for block in blocks(text, 'console') if old in block)
+        holds(f'broken: {new}', not with_venv(blocks_of) or console(document, blocks_of)[1])
+    for document, text in (('docs/C.md', page), ('docs/PYTHON.md', other)):
+        for more in ('```sh\nls\n```\n', '```\nls\n```\n', '    ls\n', '>>> 1\n'):
+            holds(f'broken: {document} with {more!r}', unknown(document, text + '\n' + more))
+    for old, new in (('star_table_init(&t, 4)', 'star_table_ini(&t, 4)'), ('"mine"', 'mine')):
+        holds(f'broken: {new}', not compiled(page.replace(old, new))[0])
+    holds('broken: another price', compiled(page.replace('(&t, 1, 4, 4)', '(&t, 1, 4, 3)'))
+          != (True, PRINTED))
+
+
+def compiled(text):
+    """The C of a page, as one program, with no warning: whether it ends well, and what is said."""
+    body = '\n'.join(blocks(text, 'c'))
     with tempfile.TemporaryDirectory() as folder:
         source, program = os.path.join(folder, 'blocks.c'), os.path.join(folder, 'blocks')
         with open(source, 'w', encoding='utf-8') as file:
@@ -127,11 +187,21 @@ def c_blocks():
         words += ['-Wno-unused-but-set-variable', f'-I{ROOT}/include', '-o', program, source]
         done = subprocess.run(words + [os.path.join(BUILD, 'libstar.a')], capture_output=True,
                               text=True, check=False)
-        holds('C.md: its C compiles', done.returncode == 0, done.stderr)
-        if done.returncode == 0:
-            printed, status = run(program, folder)
-            holds('C.md: its C runs', (printed, status) == (PRINTED, 0), printed)
-    holds('C.md: it has C', body.count('star_') > 20)
+        if done.returncode:
+            return False, done.stderr
+        printed, status = run(program, folder)
+        return status == 0, printed
+
+
+def programmers_pages():
+    ended, printed = compiled(read('docs/C.md'))
+    holds('C.md: its C', (ended, printed) == (True, PRINTED), printed)
+    holds('C.md: it has C', ''.join(blocks(read('docs/C.md'), 'c')).count('star_') > 20)
+    for document in KINDS:
+        found = unknown(document, read(document))
+        holds(f'{document}: code that no test takes', not found, found)
+        for kind in KINDS[document]:
+            holds(f'{document}: has {kind}', blocks(read(document), kind))
 
 
 def first_page():
@@ -175,11 +245,12 @@ if __name__ == '__main__':
     BUILD = os.path.abspath(sys.argv[1])
     WRITE = sys.argv[2:] == ['--write']
     for name in DOCUMENTS:
-        console(name, WRITE)
+        commands_of(name, WRITE)
         links(name)
     links('CHANGES.md')
     pictures(WRITE)
-    c_blocks()
+    programmers_pages()
+    broken()
     first_page()
     print(f'{counts[True]} passed, {counts[False]} failed')
     sys.exit(0 if counts[False] == 0 else 1)

@@ -87,6 +87,9 @@ if has cmake; then
     holds cmake-build cmake --build "$work/cmake/build"
     holds cmake-run "$work/cmake/build/plan"
     holds cmake-static env -u LD_LIBRARY_PATH "$work/cmake/build/plan_static"
+    cp -r "$work/cmake" "$work/broken"
+    sed -i 's/star::static/star::stat/' "$work/broken/CMakeLists.txt"
+    holds cmake-broken fails cmake -S "$work/broken" -B "$work/other" -DCMAKE_PREFIX_PATH="$to"
     sed -i 's/star 0.9 REQUIRED/star 1.0 REQUIRED/' "$work/cmake/CMakeLists.txt"
     holds cmake-version fails cmake -S "$work/cmake" -B "$work/later" -DCMAKE_PREFIX_PATH="$to"
 fi

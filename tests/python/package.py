@@ -34,8 +34,33 @@ def load_tests(loader, tests, pattern):
         module = importlib.import_module("star." + os.path.basename(path)[:-3])
         tests.addTests(doctest.DocTestSuite(module, extraglobs={"Table": star.Table}))
     tests.addTests(doctest.DocTestSuite(star))
-    tests.addTests(doctest.DocFileSuite(DOCS, module_relative=False, encoding="utf-8"))
+    with open(DOCS, encoding="utf-8") as file:
+        tests.addTest(doctest.DocTestCase(page_test(file.read())))
     return tests
+
+
+def page_test(text):
+    """The lines of the page's blocks ```pycon, at their places, as one test."""
+    inside, lines = False, []
+    for line in text.split("\n"):
+        inside = line == "```pycon" or inside and line != "```"
+        lines.append(line if inside and line != "```pycon" else "")
+    return doctest.DocTestParser().get_doctest("\n".join(lines), {}, "PYTHON.md", DOCS, 0)
+
+
+class Page(unittest.TestCase):
+    def test_broken_lines(self):
+        """A line of the page that is wrong is found, and every line that opens with >>> is run."""
+        with open(DOCS, encoding="utf-8") as file:
+            text = file.read()
+        found = page_test(text).examples
+        self.assertEqual(len(found), text.count("\n>>> "))
+        for old, new in ((">>> yard.build()", ">>> yard.builds()"), ("saving=1)", "saving=2)"),
+                         ("(False, 13, 12)", "(False, 13, 11)"), ("Total 12", "Total 13")):
+            self.assertIn(old, text)
+            runner = doctest.DocTestRunner(verbose=False)
+            broken = runner.run(page_test(text.replace(old, new)), out=lambda said: None)
+            self.assertGreater(broken.failed, 0, old)
 
 
 class Refusals(unittest.TestCase):

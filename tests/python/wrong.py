@@ -107,7 +107,8 @@ class Types(unittest.TestCase):
         for wrong, words in (((1, 2), "is not left, right, price"), (7, "is not left, right"),
                              ((None, 2, 5), "is missing"), ((1, float("nan"), 5), "is missing"),
                              (([1], 2, 5), "[1] is no junction"), ((1, 2, True), "True is not a"),
-                             ((1, 2, "1e99999999"), "is not a price"), ((1, 2, "9" * 200), "is not"),
+                             ((1, 2, "1e99999999"), "is not a price"),
+                             ((1, 2, "9" * 200), "is not a price"),
                              ((1, 2, 5, float("nan")), "its mark is nan"),
                              ((1, 2, 5, "no"), "its mark is 'no'")):
             with self.assertRaises(star.Unfit) as caught:
