@@ -11,7 +11,7 @@
 # make shared    the shared library; make wheel the Python package, if the core is proved here or is of the record
 # make backends  random calls of every door, compiled in four ways: -O3, -O0, with the compiler's assumptions checked, as WebAssembly
 # make load SECONDS=n   eight threads, random calls of all doors, for n seconds
-# make fuzz SECONDS=n   libFuzzer over the readers of planners' texts, for n seconds
+# make fuzz SECONDS=n   libFuzzer over the readers of planners' texts and over the console's commands, for n seconds
 # make tasks     ten tasks with the library, networkx and LEMON, side by side: lines and microseconds
 # make install PREFIX=DIR     the header, the libraries, the console, manual pages, star.pc, a CMake package: if they are proved here or are of the record
 # make uninstall PREFIX=DIR   removes these files

@@ -1,29 +1,31 @@
 # Fuzzing of what reads a planner's bytes: rules for the Makefile.
-# make fuzz SECONDS=n   libFuzzer for n seconds, from the corpus, examples and tests of the console
-# make fuzz-replay      the corpus alone, by any compiler
+# make fuzz SECONDS=n   libFuzzer, half of n seconds over the readers and half over the commands
+# make fuzz-replay      their corpora alone, by any compiler
 FUZZ := target/fuzz
-CORPUS := tests/fuzz/corpus
-FUZZ_SOURCES := $(filter-out console/main.c,$(CONSOLE)) $(sort $(wildcard include/*.c))
-FUZZ_NEEDS := tests/fuzz/reader.c $(FUZZ_SOURCES) $(wildcard console/*.h include/*.h) $(ARCHIVE)
-CHECKED := -O1 -g -fsanitize=address,undefined -fno-sanitize-recover=all
+CORPORA := $(CURDIR)/tests/fuzz/corpus
+FUZZ_NEEDS := $(wildcard tests/fuzz/*.[ch] tests/fuzz/*.sh) $(CONSOLE) $(wildcard include/*.c)
+FUZZ_NEEDS += $(wildcard console/*.h include/*.h) $(ARCHIVE)
 
-$(FUZZ)/reader: tests/fuzz/compile.sh tools/keeping.sh $(FUZZ_NEEDS)
-	sh tests/fuzz/compile.sh $@ $(ARCHIVE)
+$(FUZZ)/commands: $(FUZZ_NEEDS) tools/keeping.sh
+	sh tests/fuzz/compile.sh $(FUZZ) $(ARCHIVE)
+$(FUZZ)/commands-replay: $(FUZZ_NEEDS)
+	CC='$(CC)' sh tests/fuzz/replays.sh $(FUZZ) $(ARCHIVE)
+
+# The page's program, for the command page: the place of the table alone.
+$(FUZZ)/star.html: fuzz.mk
+	@mkdir -p $(FUZZ)
+	@echo 'before<div hidden id="table" data-name=""></div>behind' >$@
 
 # A text that ends a run is left in $(FUZZ): mended, it becomes one of the corpus.
-fuzz: $(FUZZ)/reader
-	mkdir -p $(FUZZ)/found
-	$(FUZZ)/reader -max_total_time=$(SECONDS) -max_len=8192 -print_final_stats=1 \
-	  -artifact_prefix=$(FUZZ)/ $(FUZZ)/found $(CORPUS) console/examples tests/console
+FOUND := $(CURDIR)/$(FUZZ)/found
+LIBFUZZER = -max_total_time=$$(($(SECONDS) / 2)) -max_len=8192 -print_final_stats=1 \
+  -artifact_prefix=$(CURDIR)/$(FUZZ)/
+fuzz: $(FUZZ)/commands $(FUZZ)/star.html
+	mkdir -p $(FOUND)/reader $(FOUND)/commands
+	$(FUZZ)/reader $(LIBFUZZER) $(FOUND)/reader $(CORPORA)/reader console/examples tests/console
+	$(FUZZ)/commands $(LIBFUZZER) -close_fd_mask=2 $(FOUND)/commands $(CORPORA)/commands
 
-# With the checks of memory and arithmetic, where the compiler has them.
-REPLAYED := -std=c99 -Iinclude -Iconsole tests/fuzz/reader.c tests/fuzz/replay.c $(FUZZ_SOURCES)
-$(FUZZ)/replay: tests/fuzz/replay.c $(FUZZ_NEEDS)
-	@mkdir -p $(FUZZ)
-	$(CC) $(CHECKED) $(REPLAYED) -o $@ $(ARCHIVE) -lm 2>$(FUZZ)/said || \
-	  { echo 'the compiler has no checks'; $(CC) $(REPLAYED) -o $@ $(ARCHIVE) -lm; }
-
-fuzz-replay: $(FUZZ)/replay
-	$(FUZZ)/replay $(CORPUS)/*
+fuzz-replay: $(FUZZ)/commands-replay $(FUZZ)/star.html
+	bash tests/fuzz/run.sh $(FUZZ)
 
 .PHONY: fuzz fuzz-replay
