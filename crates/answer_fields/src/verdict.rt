@@ -1,5 +1,6 @@
 // The fields of CST's verdict.
 use answer::Record;
+use answer::of_refusal;
 use cst::Verdict;
 ghost use mathlib.Core.Path.{_≡_};
 ghost use Rattle.answer.specs.Records.{fieldsOf};
@@ -27,13 +28,6 @@ pub fn of_verdict(v: Verdict) -> Record
             only: 0,
             amount: x.saving as u64,
         },
-        Verdict::Refused(r) => Record {
-            kind: 0,
-            number: r.number,
-            out: r.place,
-            into: 0,
-            only: 0,
-            amount: 0,
-        },
+        Verdict::Refused(r) => of_refusal(r),
     }
 }

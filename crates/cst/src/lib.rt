@@ -9,9 +9,10 @@ ghost use Rattle.rowset.specs.Columns.{width};
 ghost use Rattle.rowset.specs.Integers.{fromBits};
 ghost use Rattle.rowset.specs.Searches.{greaterThan, sameAs};
 ghost use Rattle.rowset.specs.Words.{columnWords};
+ghost use Rattle.in_use.specs.Tables.{tableIn};
 ghost use Rattle.slice.specs.Slices.{size, component};
 ghost use Rattle.star_spec.specs.Cst.{cst, equalRows};
-ghost use Rattle.star_spec.specs.Call.{Call, tableOf, callOf, workOf};
+ghost use Rattle.star_spec.specs.Call.{Call, tableOf};
 ghost use Rattle.star_spec.specs.Refusals.{maxVertices};
 ghost use Rattle.table.specs.Loads.{loadedRow};
 ghost use Rattle.search_columns.specs.steps.Integers.{integersAfter};
@@ -19,14 +20,13 @@ ghost use Rattle.cst.specs.steps.Paths.{weightIn, foundOn, exchangeOf, r
 ghost use Rattle.cst.specs.steps.Records.{recordOf};
 ghost use Rattle.cst.specs.Verdicts.{answerOf, equalRowsOf};
 use claim::flipped_weight;
+use in_use::InUse;
 use refusal::Outcome;
 use refusal::Refusal;
 use search_great::Compared;
 use slice::Slice;
 use slice::difference;
 use slice::rows::rows_among;
-use slice::rows::rows_to;
-use slice::words::rows_in_use;
 use table_checks::row_byte;
 use table_checks::row_weight;
 
@@ -228,9 +228,7 @@ fn record_of(answer: Outcome) -> Refusal
 // CST with its path matrix lent, which has a column for each vertex: MatrixPath from vertex 1 fills it, and where MatrixPath refuses, its refusal is handed on unread.
 fn check_in(
     n: u32,
-    m: usize,
-    whole: bool,
-    rows: Slice,
+    table: InUse,
     left: &[u8],
     right: &[u8],
     weight: &[u8],
@@ -239,14 +237,28 @@ fn check_in(
 ) -> Checked
     requires { ⌜ (n ≤ maxVertices → columnWords * n ≤ length (now own)) ⌝ }
     ensures verdict { λ r.
-        let c = tableOf n m whole (component rows) (now (left .entry)) (now (right .entry)) (now (weight .entry)) (now (mark .entry)) in
+        let c = tableIn n table (now (left .entry)) (now (right .entry)) (now (weight .entry)) (now (mark .entry)) in
         ⌜ answerOf (r .verdict) ≡ cst c ⌝ }
     ensures rows { λ r.
-        let c = tableOf n m whole (component rows) (now (left .entry)) (now (right .entry)) (now (weight .entry)) (now (mark .entry)) in
+        let c = tableIn n table (now (left .entry)) (now (right .entry)) (now (weight .entry)) (now (mark .entry)) in
         ⌜ equalRowsOf r ≡ equalRows c ⌝ }
 {
+    let m = table.m;
+    let rows = table.rows;
     let words = path::ALL_WORDS;
-    let answer = path::path_own(n, m, whole, rows, left, right, weight, mark, 1, words, own);
+    let answer = path::path_own(
+        n,
+        m,
+        table.whole,
+        rows,
+        left,
+        right,
+        weight,
+        mark,
+        1,
+        words,
+        own,
+    );
     let Outcome::Done = answer else {
         return Checked {
             verdict: Verdict::Refused(record_of(answer)),
@@ -257,102 +269,24 @@ fn check_in(
     judge(own, m, rows, left, right, weight, mark)
 }
 
-// CST over a table of m rows, of which those of a slice are in use: the verdict on the claim, and beside a pass that is not the only one the rows of an exchange that gives another tree of the same weight.
+// CST over a table of either kind: the verdict on the claim, and beside a pass that is not the only one the rows of an exchange that gives another tree of the same weight.
 // The path matrix is CST's own, a smaller one where there are fewer vertices.
-pub fn cst_rows(
-    n: u32,
-    m: usize,
-    whole: bool,
-    rows: Slice,
-    left: &[u8],
-    right: &[u8],
-    weight: &[u8],
-    mark: &[u8],
-) -> Checked
+pub fn cst(n: u32, table: InUse, left: &[u8], right: &[u8], weight: &[u8], mark: &[u8]) -> Checked
     ensures verdict { λ r.
-        let c = tableOf n m whole (component rows) (now (left .entry)) (now (right .entry)) (now (weight .entry)) (now (mark .entry)) in
+        let c = tableIn n table (now (left .entry)) (now (right .entry)) (now (weight .entry)) (now (mark .entry)) in
         ⌜ answerOf (r .verdict) ≡ cst c ⌝ }
     ensures rows { λ r.
-        let c = tableOf n m whole (component rows) (now (left .entry)) (now (right .entry)) (now (weight .entry)) (now (mark .entry)) in
+        let c = tableIn n table (now (left .entry)) (now (right .entry)) (now (weight .entry)) (now (mark .entry)) in
         ⌜ equalRowsOf r ≡ equalRows c ⌝ }
 {
     if n <= FEW {
         let mut small = [0u64; FEW_WORDS];
-        return check_in(n, m, whole, rows, left, right, weight, mark, &mut small);
+        return check_in(n, table, left, right, weight, mark, &mut small);
     }
     if n <= SOME {
         let mut middle = [0u64; SOME_WORDS];
-        return check_in(n, m, whole, rows, left, right, weight, mark, &mut middle);
+        return check_in(n, table, left, right, weight, mark, &mut middle);
     }
     let mut own = [0u64; path::ALL_WORDS];
-    check_in(n, m, whole, rows, left, right, weight, mark, &mut own)
-}
-
-// CST with the exchange over a plain table: a row for each byte of the left column, all in use.
-pub fn cst_other(n: u32, left: &[u8], right: &[u8], weight: &[u8], mark: &[u8]) -> Checked
-    ensures verdict { λ r.
-        let c = callOf n (now (left .entry)) (now (right .entry)) (now (weight .entry)) (now (mark .entry)) in
-        ⌜ answerOf (r .verdict) ≡ cst c ⌝ }
-    ensures rows { λ r.
-        let c = callOf n (now (left .entry)) (now (right .entry)) (now (weight .entry)) (now (mark .entry)) in
-        ⌜ equalRowsOf r ≡ equalRows c ⌝ }
-{
-    let m = left.len();
-    cst_rows(n, m, true, rows_to(m), left, right, weight, mark)
-}
-
-// CST over a plain table: the verdict on the claim.
-pub fn cst(n: u32, left: &[u8], right: &[u8], weight: &[u8], mark: &[u8]) -> Verdict
-    ensures { λ r.
-        let c = callOf n (now (left .entry)) (now (right .entry)) (now (weight .entry)) (now (mark .entry)) in
-        ⌜ answerOf r ≡ cst c ⌝ }
-{
-    let checked = cst_other(n, left, right, weight, mark);
-    checked.verdict
-}
-
-// CST with the exchange over a working table: 1,024 rows, and the rows in use lent as sixteen words.
-pub fn work_cst_other(
-    n: u32,
-    words: &[u64],
-    left: &[u8],
-    right: &[u8],
-    weight: &[u8],
-    mark: &[u8],
-) -> Checked
-    ensures verdict { λ r.
-        let c = workOf n (now (words .entry)) (now (left .entry)) (now (right .entry)) (now (weight .entry)) (now (mark .entry)) in
-        ⌜ answerOf (r .verdict) ≡ cst c ⌝ }
-    ensures rows { λ r.
-        let c = workOf n (now (words .entry)) (now (left .entry)) (now (right .entry)) (now (weight .entry)) (now (mark .entry)) in
-        ⌜ equalRowsOf r ≡ equalRows c ⌝ }
-{
-    let whole = words.len() == slice::WORDS;
-    cst_rows(
-        n,
-        slice::SIZE,
-        whole,
-        rows_in_use(words),
-        left,
-        right,
-        weight,
-        mark,
-    )
-}
-
-// CST over a working table: the verdict on the claim.
-pub fn work_cst(
-    n: u32,
-    words: &[u64],
-    left: &[u8],
-    right: &[u8],
-    weight: &[u8],
-    mark: &[u8],
-) -> Verdict
-    ensures { λ r.
-        let c = workOf n (now (words .entry)) (now (left .entry)) (now (right .entry)) (now (weight .entry)) (now (mark .entry)) in
-        ⌜ answerOf r ≡ cst c ⌝ }
-{
-    let checked = work_cst_other(n, words, left, right, weight, mark);
-    checked.verdict
+    check_in(n, table, left, right, weight, mark, &mut own)
 }

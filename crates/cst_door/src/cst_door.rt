@@ -1,6 +1,8 @@
 // CST for C.
+use answer::well_lent;
 use answer::write_answer;
 use answer_fields::verdict::of_verdict;
+use in_use::InUse;
 ghost use mathlib.Core.Path.{_≡_};
 ghost use Rattle.star_spec.specs.Call.{callOf};
 ghost use Rattle.promise.specs.Promise.{plain, CstCall};
@@ -24,10 +26,12 @@ pub extern "C" fn star_cst(
         let t = plain n (now (left .entry)) (now (right .entry)) (now (weight .entry)) in
         ⌜ CstCall t (now (mark .entry)) (now (answer .entry)) (now (answer .exit)) r ⌝ }
 {
-    if answer.len() != 16 {
+    if !well_lent(answer) {
         return 0;
     }
-    let v = cst::cst(n, left, right, weight, mark);
+    let table = InUse::plain(left.len());
+    let checked = cst::cst(n, table, left, right, weight, mark);
+    let v = checked.verdict;
     let x = of_verdict(v);
     write_answer(answer, x);
     1

@@ -1,6 +1,8 @@
 // CST over a working table for C.
+use answer::well_lent;
 use answer::write_answer;
 use answer_fields::verdict::of_verdict;
+use in_use::InUse;
 ghost use mathlib.Core.Path.{_≡_};
 ghost use Rattle.star_spec.specs.Call.{workOf};
 ghost use Rattle.promise.specs.Promise.{working, CstCall};
@@ -25,10 +27,12 @@ pub extern "C" fn star_work_cst(
         let t = working n (now (words .entry)) (now (left .entry)) (now (right .entry)) (now (weight .entry)) in
         ⌜ CstCall t (now (mark .entry)) (now (answer .entry)) (now (answer .exit)) r ⌝ }
 {
-    if answer.len() != 16 {
+    if !well_lent(answer) {
         return 0;
     }
-    let v = cst::work_cst(n, words, left, right, weight, mark);
+    let table = InUse::working(words);
+    let checked = cst::cst(n, table, left, right, weight, mark);
+    let v = checked.verdict;
     let x = of_verdict(v);
     write_answer(answer, x);
     1

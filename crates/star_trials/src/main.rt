@@ -4,6 +4,7 @@
 use cst::Checked;
 use cst::Pass;
 use cst::Verdict;
+use in_use::InUse;
 use libc::STDIN_FILENO;
 use libc::STDOUT_FILENO;
 use mst1::Built;
@@ -288,6 +289,17 @@ fn walk(n: u32, left: &[u8], right: &[u8], weight: &[u8], mark: &[u8], s: u32) {
     filled(answer, &matrix, n);
 }
 
+// CST, with the rows of an exchange that gives another tree of the same weight where they are asked for.
+fn check(n: u32, left: &[u8], right: &[u8], weight: &[u8], mark: &[u8], other: bool) {
+    let x = cst::cst(n, InUse::plain(left.len()), left, right, weight, mark);
+    if other {
+        checked(x);
+    } else {
+        let v = x.verdict;
+        verdict(v);
+    }
+}
+
 fn build(n: u32, left: &[u8], right: &[u8], weight: &[u8], mark: &mut [u8]) {
     let b = mst1::mst1(n, left, right, weight, mark);
     built(b, mark);
@@ -307,14 +319,19 @@ fn trial(s: &[u8], from: usize, kind: u32, n: u32, source: u32) -> usize {
     let j = b.count;
     let k = w.count;
     let l = m.count;
-    if kind == 1 {
-        verdict(cst::cst(n, &left[..i], &right[..j], &weight[..k], &mark[..l]));
-    } else if kind == 2 {
+    if kind == 2 {
         build(n, &left[..i], &right[..j], &weight[..k], &mut mark[..l]);
-    } else if kind == 4 {
-        checked(cst::cst_other(n, &left[..i], &right[..j], &weight[..k], &mark[..l]));
-    } else {
+    } else if kind == 3 {
         walk(n, &left[..i], &right[..j], &weight[..k], &mark[..l], source);
+    } else {
+        check(
+            n,
+            &left[..i],
+            &right[..j],
+            &weight[..k],
+            &mark[..l],
+            kind == 4,
+        );
     }
     m.next
 }

@@ -1,31 +1,34 @@
 -- `cst_door::cst_door::star_cst` meets its contract: what CST, `of_verdict` and `write_answer` promise, one after the other. Assumes nothing.
 use borrow.Author.Needs.{needs}
-use borrow.Author.Tests.{eq-eqb, ne-eqb}
-use lib.ListN.{length}
-use mathlib.Core.Path.{refl, ap, _∙_}
-use native.Mathlib.Omega.{arith}
+use borrow.Author.Tests.{not-true, not-false}
+use mathlib.Core.Path.{sym, _∙_}
+use Rattle.cst_door.proofs.Laws.{cst-shut, cst-open}
 use Rattle.cst_door.proofs.cst_door.star_cst.Statement.{statement}
 use Rattle.cst_door.proofs.cst_door.star_cst.Tie as tie
 use Rattle.promise.proofs.Doors.{plain-cst}
-use Rattle.star_spec.specs.Door.{fields, answerAfter, wellLent, doorReturns, cstDoor}
 
 returns : tie.Need-returns
-unfolding doorReturns wellLent cstDoor answerAfter
-returns c =
-    plain-cst (rw (ne-eqb (length (c .before .before .before .before .before .before .args .answer .now)) 16 (λ e. omega arith)) (refl, refl))
+returns c = plain-cst (cst-shut _ _ (sym (c .before .well-lent .ensures) ∙ not-true _ (c .if1 .taken)))
 
 returns-2 : tie.Need-returns-2
-unfolding doorReturns wellLent cstDoor
 returns-2 c =
+    let written = c .before .before in
+    let told = written .before .before in
+    let checked = told .before in
+    let table = checked .before .plain .ensures in
+    let lent = checked .before .before in
     plain-cst
-    (rw (eq-eqb (length (c .before .before .before .before .before .before .before .before .before .before .before .before .args .answer .now)) 16 (omega arith))
-    (refl, c .before .before .write-answer .ensures ∙ ap (answerAfter _) (c .before .before .before .before .of-verdict .ensures ∙ ap fields (c .before .before .before .before .before .cst .ensures))))
+    (cst-open _ _ (sym (lent .before .well-lent .ensures) ∙ not-false _ (lent .if1 .left)) (written .write-answer .ensures) (told .of-verdict .ensures)
+    (rw (table .0 .0, table .0 .1, table .1) at (checked .cst .ensures .0)))
 
 pub star-cst-spec : {M : Type 1} → statement M
 star-cst-spec =
     tie.close
     (tie.spec
+    (λ c κs. search needs)
+    (λ c. search needs)
     returns
+    (λ c κs. search needs)
     (λ c κs. search needs)
     (λ c κs. search needs)
     (λ c κs. search needs)

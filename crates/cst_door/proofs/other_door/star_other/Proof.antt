@@ -1,32 +1,34 @@
--- `cst_door::other_door::star_other` meets its contract: what `cst_other`, `of_checked` and `write_answer` promise, one after the other. Assumes nothing.
+-- `cst_door::other_door::star_other` meets its contract: what CST, `of_checked` and `write_answer` promise, one after the other. Assumes nothing.
 use borrow.Author.Needs.{needs}
-use borrow.Author.Tests.{eq-eqb, ne-eqb}
-use lib.ListN.{length}
-use mathlib.Core.Path.{refl, ap, _∙_}
-use native.Mathlib.Omega.{arith}
+use borrow.Author.Tests.{not-true, not-false}
+use mathlib.Core.Path.{sym, _∙_}
+use Rattle.cst_door.proofs.Laws.{other-shut, other-open}
 use Rattle.cst_door.proofs.other_door.star_other.Statement.{statement}
 use Rattle.cst_door.proofs.other_door.star_other.Tie as tie
 use Rattle.promise.proofs.Doors.{plain-other}
-use Rattle.star_spec.specs.Door.{otherFields, answerAfter, wellLent, doorReturns, otherDoor}
 
 returns : tie.Need-returns
-unfolding doorReturns wellLent otherDoor answerAfter
-returns c =
-    plain-other (rw (ne-eqb (length (c .before .before .before .before .before .before .args .answer .now)) 16 (λ e. omega arith)) (refl, refl))
+returns c = plain-other (other-shut _ _ (sym (c .before .well-lent .ensures) ∙ not-true _ (c .if1 .taken)))
 
 returns-2 : tie.Need-returns-2
-unfolding doorReturns wellLent otherDoor otherFields
 returns-2 c =
-    let checked = c .before .before .before .before .before .cst-other in
+    let written = c .before .before in
+    let told = written .before .before in
+    let checked = told .before in
+    let table = checked .before .plain .ensures in
+    let lent = checked .before .before in
     plain-other
-    (rw (eq-eqb (length (c .before .before .before .before .before .before .before .before .before .before .before .before .args .answer .now)) 16 (omega arith))
-    (refl, c .before .before .write-answer .ensures ∙ ap (answerAfter _) (c .before .before .before .before .of-checked .ensures ∙ rw (checked .ensures .0, checked .ensures .1))))
+    (other-open _ _ (sym (lent .before .well-lent .ensures) ∙ not-false _ (lent .if1 .left)) (written .write-answer .ensures) (told .of-checked .ensures)
+    (rw (table .0 .0, table .0 .1, table .1) at (checked .cst .ensures)))
 
 pub star-other-spec : {M : Type 1} → statement M
 star-other-spec =
     tie.close
     (tie.spec
+    (λ c κs. search needs)
+    (λ c. search needs)
     returns
+    (λ c κs. search needs)
     (λ c κs. search needs)
     (λ c κs. search needs)
     (λ c κs. search needs)

@@ -1,32 +1,35 @@
 -- `cst_door::work_cst_door::star_work_cst` meets its contract: what CST over the rows in use, `of_verdict` and `write_answer` promise, one after the other. Assumes nothing.
 use borrow.Author.Needs.{needs}
-use borrow.Author.Tests.{eq-eqb, ne-eqb}
+use borrow.Author.Tests.{not-true, not-false}
 use denote.Ref.{now}
-use lib.ListN.{length}
-use mathlib.Core.Path.{refl, ap, _∙_}
-use native.Mathlib.Omega.{arith}
-use Rattle.promise.proofs.Doors.{work-cst}
+use mathlib.Core.Path.{sym, _∙_}
+use Rattle.cst_door.proofs.Laws.{cst-shut, cst-open}
 use Rattle.cst_door.proofs.work_cst_door.star_work_cst.Statement.{statement}
 use Rattle.cst_door.proofs.work_cst_door.star_work_cst.Tie as tie
-use Rattle.star_spec.specs.Door.{fields, answerAfter, wellLent, doorReturns, cstDoor}
+use Rattle.promise.proofs.Doors.{work-cst}
 
 returns : tie.Need-returns
-unfolding doorReturns wellLent cstDoor answerAfter
-returns c =
-    work-cst (now (c .before .before .before .before .before .before .before .args .words)) (rw (ne-eqb (length (c .before .before .before .before .before .before .before .args .answer .now)) 16 (λ e. omega arith)) (refl, refl))
+returns c = work-cst (now (c .before .before .before .before .before .before .before .before .before .args .words)) (cst-shut _ _ (sym (c .before .well-lent .ensures) ∙ not-true _ (c .if1 .taken)))
 
 returns-2 : tie.Need-returns-2
-unfolding doorReturns wellLent cstDoor
 returns-2 c =
-    work-cst (now (c .before .before .before .before .before .before .before .before .before .before .before .before .before .args .words))
-    (rw (eq-eqb (length (c .before .before .before .before .before .before .before .before .before .before .before .before .before .args .answer .now)) 16 (omega arith))
-    (refl, c .before .before .write-answer .ensures ∙ ap (answerAfter _) (c .before .before .before .before .of-verdict .ensures ∙ ap fields (c .before .before .before .before .before .work-cst .ensures))))
+    let written = c .before .before in
+    let told = written .before .before in
+    let checked = told .before in
+    let table = checked .before .working .ensures in
+    let lent = checked .before .before in
+    work-cst (now (lent .before .before .before .before .before .before .before .before .before .args .words))
+    (cst-open _ _ (sym (lent .before .well-lent .ensures) ∙ not-false _ (lent .if1 .left)) (written .write-answer .ensures) (told .of-verdict .ensures)
+    (rw (table .0 .0, table .0 .1, table .1) at (checked .cst .ensures .0)))
 
 pub star-work-cst-spec : {M : Type 1} → statement M
 star-work-cst-spec =
     tie.close
     (tie.spec
+    (λ c κs. search needs)
+    (λ c. search needs)
     returns
+    (λ c κs. search needs)
     (λ c κs. search needs)
     (λ c κs. search needs)
     (λ c κs. search needs)
