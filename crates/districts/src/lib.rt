@@ -8,18 +8,16 @@ ghost use Rattle.mst1.specs.steps.Growth.{graphBy, loadedGraph};
 ghost use Rattle.refusal.specs.Outcomes.{refusalOf};
 ghost use Rattle.rowset.specs.Integers.{signed};
 ghost use Rattle.slice.specs.Slices.{component};
-ghost use Rattle.star_spec.specs.Call.{tableOf, callOf, workOf};
+ghost use Rattle.in_use.specs.Tables.{tableIn};
+ghost use Rattle.star_spec.specs.Call.{tableOf};
 ghost use Rattle.star_spec.specs.Refusals.{refusal};
 ghost use Rattle.table.specs.Loads.{loadedRow};
 ghost use Rattle.districts.specs.steps.Divided.{Divided};
+use in_use::InUse;
 use mst1::Built;
 use refusal::Outcome;
 use refusal::Refusal;
-use slice::SIZE;
 use slice::Slice;
-use slice::WORDS;
-use slice::rows::rows_to;
-use slice::words::rows_in_use;
 
 // The largest number of ends that is taken.
 pub const MAX_ENDS: usize = 8;
@@ -123,13 +121,11 @@ pub fn city_of(
     grow_city(left, right, &weights, first, used, n as usize, ends)
 }
 
-// Districts and city over a table of m rows, of which those of a slice are in use: the refusal, and both lent columns stay as they were;
-// or the tree's weight, and the columns are 1 at the forests' and at the tree's rows and 0 elsewhere.
-pub fn districts_rows(
+// Districts and city over a table of either kind: the refusal, and both lent columns stay as they were;
+// or the tree's weight, and the columns are 1 at the forests' and at the tree's rows and 0 elsewhere, also at rows that are not in use.
+pub fn districts(
     n: u32,
-    m: usize,
-    whole: bool,
-    rows: Slice,
+    table: InUse,
     left: &[u8],
     right: &[u8],
     weight: &[u8],
@@ -138,15 +134,17 @@ pub fn districts_rows(
     mark: &mut [u8],
 ) -> Built
     ensures { λ r.
-        let c = tableOf n m whole (component rows) (now (left .entry)) (now (right .entry)) (now (weight .entry)) (now (mark .entry)) in
+        let c = tableIn n table (now (left .entry)) (now (right .entry)) (now (weight .entry)) (now (mark .entry)) in
         ⌜ (answerOf r ≡ districtsAnswer c (now (forests .entry)) (now (ends .entry)))
         × (now (forests .exit) ≡ districtsForests c (now (forests .entry)) (now (ends .entry)))
         × (now (mark .exit) ≡ districtsMarks c (now (forests .entry)) (now (ends .entry))) ⌝ }
 {
+    let m = table.m;
+    let rows = table.rows;
     if let Outcome::Refused(refusal) = call_check(
         n,
         m,
-        whole,
+        table.whole,
         rows,
         left,
         right,
@@ -167,67 +165,4 @@ pub fn districts_rows(
     claim::write_claim(forests, city.forests);
     claim::write_claim(mark, city.chosen);
     Built::Tree(claim::weigh(weight, city.chosen))
-}
-
-// Districts and city over a plain table: a row for each byte of the left column, all in use.
-pub fn districts(
-    n: u32,
-    left: &[u8],
-    right: &[u8],
-    weight: &[u8],
-    ends: &[u32],
-    forests: &mut [u8],
-    mark: &mut [u8],
-) -> Built
-    ensures { λ r.
-        let c = callOf n (now (left .entry)) (now (right .entry)) (now (weight .entry)) (now (mark .entry)) in
-        ⌜ (answerOf r ≡ districtsAnswer c (now (forests .entry)) (now (ends .entry)))
-        × (now (forests .exit) ≡ districtsForests c (now (forests .entry)) (now (ends .entry)))
-        × (now (mark .exit) ≡ districtsMarks c (now (forests .entry)) (now (ends .entry))) ⌝ }
-{
-    let m = left.len();
-    districts_rows(
-        n,
-        m,
-        true,
-        rows_to(m),
-        left,
-        right,
-        weight,
-        ends,
-        forests,
-        mark,
-    )
-}
-
-// Districts and city over a working table: 1,024 rows, and the rows in use lent as sixteen words. Both columns become 0 at rows that are not in use.
-pub fn work_districts(
-    n: u32,
-    words: &[u64],
-    left: &[u8],
-    right: &[u8],
-    weight: &[u8],
-    ends: &[u32],
-    forests: &mut [u8],
-    mark: &mut [u8],
-) -> Built
-    ensures { λ r.
-        let c = workOf n (now (words .entry)) (now (left .entry)) (now (right .entry)) (now (weight .entry)) (now (mark .entry)) in
-        ⌜ (answerOf r ≡ districtsAnswer c (now (forests .entry)) (now (ends .entry)))
-        × (now (forests .exit) ≡ districtsForests c (now (forests .entry)) (now (ends .entry)))
-        × (now (mark .exit) ≡ districtsMarks c (now (forests .entry)) (now (ends .entry))) ⌝ }
-{
-    let whole = words.len() == WORDS;
-    districts_rows(
-        n,
-        SIZE,
-        whole,
-        rows_in_use(words),
-        left,
-        right,
-        weight,
-        ends,
-        forests,
-        mark,
-    )
 }

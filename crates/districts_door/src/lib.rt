@@ -1,7 +1,9 @@
 // Districts first, then the city, for C, on plain and on working tables: lent columns, the ends of the runs, and a lent answer of sixteen bytes.
 // If the lent answer has not sixteen bytes the call returns 0 and writes nothing anywhere; else it returns 1.
+use answer::well_lent;
 use answer::write_answer;
 use answer_fields::built::of_built;
+use in_use::InUse;
 ghost use mathlib.Core.Path.{_≡_};
 ghost use Rattle.districts_spec.specs.Bytes.{DistrictsCall};
 ghost use Rattle.districts_spec.specs.Door.{districtsDoor, districtsDoorForests, districtsDoorMarks};
@@ -31,10 +33,11 @@ pub extern "C" fn star_districts(
         let c = callOf n (now (left .entry)) (now (right .entry)) (now (weight .entry)) (now (mark .entry)) in
         ⌜ DistrictsCall c (now (forests .entry)) (now (ends .entry)) (now (answer .entry)) (now (answer .exit)) (now (forests .exit)) (now (mark .exit)) r ⌝ }
 {
-    if answer.len() != 16 {
+    if !well_lent(answer) {
         return 0;
     }
-    let b = districts::districts(n, left, right, weight, ends, forests, mark);
+    let table = InUse::plain(left.len());
+    let b = districts::districts(n, table, left, right, weight, ends, forests, mark);
     let x = of_built(b);
     write_answer(answer, x);
     1
@@ -64,10 +67,11 @@ pub extern "C" fn star_work_districts(
         let c = workOf n (now (words .entry)) (now (left .entry)) (now (right .entry)) (now (weight .entry)) (now (mark .entry)) in
         ⌜ DistrictsCall c (now (forests .entry)) (now (ends .entry)) (now (answer .entry)) (now (answer .exit)) (now (forests .exit)) (now (mark .exit)) r ⌝ }
 {
-    if answer.len() != 16 {
+    if !well_lent(answer) {
         return 0;
     }
-    let b = districts::work_districts(n, words, left, right, weight, ends, forests, mark);
+    let used = InUse::working(words);
+    let b = districts::districts(n, used, left, right, weight, ends, forests, mark);
     let x = of_built(b);
     write_answer(answer, x);
     1

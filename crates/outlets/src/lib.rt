@@ -4,19 +4,17 @@ ghost use Rattle.outlets_spec.specs.Outlets.{vertexAsked, outlets, outletMarks}
 ghost use Rattle.mst1.specs.Answers.{answerOf};
 ghost use Rattle.refusal.specs.Outcomes.{refusalOf};
 ghost use Rattle.slice.specs.Slices.{component};
-ghost use Rattle.star_spec.specs.Call.{tableOf, callOf, workOf};
+ghost use Rattle.in_use.specs.Tables.{tableIn};
+ghost use Rattle.star_spec.specs.Call.{tableOf};
 ghost use Rattle.star_spec.specs.Refusals.{refusal};
+use in_use::InUse;
 use mst1::Built;
 use refusal::Outcome;
 use refusal::Refusal;
-use slice::SIZE;
 use slice::Slice;
-use slice::WORDS;
-use slice::rows::rows_to;
-use slice::words::rows_in_use;
 
 // Causes 1 to 4 and 15, and 7 where r is no vertex.
-pub fn vertex_check(
+fn vertex_check(
     n: u32,
     m: usize,
     whole: bool,
@@ -35,12 +33,10 @@ pub fn vertex_check(
     table_checks::first(table, table_checks::refused_if(r == 0 || n < r, 7))
 }
 
-// The tree with exactly t rows at r over a table of m rows, of which those of a slice are in use: the refusal, and the marks stay as they were; or the tree's weight, and the marks are 1 for each of its rows and 0 for every other.
-pub fn outlets_rows(
+// The tree with exactly t rows at r over a table of either kind: the refusal, and the marks stay as they were; or the tree's weight, and the marks are 1 for each of its rows and 0 for every other.
+pub fn outlets(
     n: u32,
-    m: usize,
-    whole: bool,
-    rows: Slice,
+    table: InUse,
     left: &[u8],
     right: &[u8],
     weight: &[u8],
@@ -49,13 +45,15 @@ pub fn outlets_rows(
     t: u32,
 ) -> Built
     ensures { λ b.
-        let c = tableOf n m whole (component rows) (now (left .entry)) (now (right .entry)) (now (weight .entry)) (now (mark .entry)) in
+        let c = tableIn n table (now (left .entry)) (now (right .entry)) (now (weight .entry)) (now (mark .entry)) in
         ⌜ (answerOf b ≡ outlets c r t) × (now (mark .exit) ≡ outletMarks c r t) ⌝ }
 {
+    let m = table.m;
+    let rows = table.rows;
     if let Outcome::Refused(refusal) = vertex_check(
         n,
         m,
-        whole,
+        table.whole,
         rows,
         left,
         right,
@@ -81,52 +79,4 @@ pub fn outlets_rows(
     let chosen = made.chosen;
     claim::write_claim(mark, chosen);
     Built::Tree(claim::weigh(weight, chosen))
-}
-
-// The tree with exactly t rows at r over a plain table: a row for each byte of the left column, all in use.
-pub fn outlets(
-    n: u32,
-    left: &[u8],
-    right: &[u8],
-    weight: &[u8],
-    mark: &mut [u8],
-    r: u32,
-    t: u32,
-) -> Built
-    ensures { λ b.
-        let c = callOf n (now (left .entry)) (now (right .entry)) (now (weight .entry)) (now (mark .entry)) in
-        ⌜ (answerOf b ≡ outlets c r t) × (now (mark .exit) ≡ outletMarks c r t) ⌝ }
-{
-    let m = left.len();
-    outlets_rows(n, m, true, rows_to(m), left, right, weight, mark, r, t)
-}
-
-// The tree with exactly t rows at r over a working table: 1,024 rows, and the rows in use lent as sixteen words. The marks of rows that are not in use become 0.
-pub fn work_outlets(
-    n: u32,
-    words: &[u64],
-    left: &[u8],
-    right: &[u8],
-    weight: &[u8],
-    mark: &mut [u8],
-    r: u32,
-    t: u32,
-) -> Built
-    ensures { λ b.
-        let c = workOf n (now (words .entry)) (now (left .entry)) (now (right .entry)) (now (weight .entry)) (now (mark .entry)) in
-        ⌜ (answerOf b ≡ outlets c r t) × (now (mark .exit) ≡ outletMarks c r t) ⌝ }
-{
-    let whole = words.len() == WORDS;
-    outlets_rows(
-        n,
-        SIZE,
-        whole,
-        rows_in_use(words),
-        left,
-        right,
-        weight,
-        mark,
-        r,
-        t,
-    )
 }

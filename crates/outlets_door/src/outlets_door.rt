@@ -1,5 +1,7 @@
 // The tree with exactly t rows at r for C: sixteen bytes as MST1's, and the marks.
+use answer::well_lent;
 use answer::write_answer;
+use in_use::InUse;
 ghost use mathlib.Core.Path.{_≡_};
 ghost use Rattle.outlets_spec.specs.Bytes.{OutletsCall};
 ghost use Rattle.outlets_spec.specs.Door.{outletsDoor, outletsDoorMarks};
@@ -27,10 +29,11 @@ pub extern "C" fn star_outlets(
         let c = callOf n (now (left .entry)) (now (right .entry)) (now (weight .entry)) (now (mark .entry)) in
         ⌜ OutletsCall c r t (now (answer .entry)) (now (answer .exit)) (now (mark .exit)) k ⌝ }
 {
-    if answer.len() != 16 {
+    if !well_lent(answer) {
         return 0;
     }
-    let b = outlets::outlets(n, left, right, weight, mark, r, t);
+    let table = InUse::plain(left.len());
+    let b = outlets::outlets(n, table, left, right, weight, mark, r, t);
     let x = answer_fields::built::of_built(b);
     write_answer(answer, x);
     1
@@ -58,10 +61,11 @@ pub extern "C" fn star_work_outlets(
         let c = workOf n (now (words .entry)) (now (left .entry)) (now (right .entry)) (now (weight .entry)) (now (mark .entry)) in
         ⌜ OutletsCall c r t (now (answer .entry)) (now (answer .exit)) (now (mark .exit)) k ⌝ }
 {
-    if answer.len() != 16 {
+    if !well_lent(answer) {
         return 0;
     }
-    let b = outlets::work_outlets(n, words, left, right, weight, mark, r, t);
+    let used = InUse::working(words);
+    let b = outlets::outlets(n, used, left, right, weight, mark, r, t);
     let x = answer_fields::built::of_built(b);
     write_answer(answer, x);
     1

@@ -1,12 +1,12 @@
--- `districts::districts_rows` meets its contract in each of its three cases: the call is refused, there is no tree, or both columns are written.
+-- `districts::districts` meets its contract in each of its three cases: the call is refused, there is no tree, or both columns are written.
 -- Assumes nothing.
 use borrow.Author.Needs.{needs}
 use borrow.Author.Tests.{not-true, not-false}
 use mathlib.Core.Path.{_∙_}
 use Rattle.districts.proofs.Answers.{call-refused, city-refused, city-built}
 use Rattle.mst1.specs.Answers.{answerOf}
-use Rattle.districts.proofs.districts_rows.Statement.{statement}
-use Rattle.districts.proofs.districts_rows.Tie as tie
+use Rattle.districts.proofs.districts.Statement.{statement}
+use Rattle.districts.proofs.districts.Tie as tie
 
 returns : tie.Need-returns
 unfolding answerOf
@@ -28,8 +28,8 @@ returns-3 c =
     let (answer, forests, marks) = city-built _ _ _ (a .before .before .call-check .ensures) (a .enum-told .given .1) (s .before .before .city-of .ensures) (not-false _ (s .if1 .left)) _ (c .weigh .ensures) in
     (answer, f .write-claim .ensures ∙ forests, m .write-claim2 .ensures ∙ marks)
 
-pub districts-rows-spec : {M : Type 1} → statement M
-districts-rows-spec =
+pub districts-spec : {M : Type 1} → statement M
+districts-spec =
     tie.close
     (tie.spec
     (λ c κs. search needs)

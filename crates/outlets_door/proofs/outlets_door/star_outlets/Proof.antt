@@ -1,35 +1,39 @@
 -- `outlets_door::outlets_door::star_outlets` meets its contract: what the tree with exactly t rows at r, `of_built` and `write_answer` promise, one after the other. Assumes nothing.
 use borrow.Author.Needs.{needs}
-use borrow.Author.Tests.{eq-eqb, ne-eqb}
-use lib.ListN.{length}
-use mathlib.Core.Path.{refl, ap, _∙_}
-use native.Mathlib.Omega.{arith}
+use borrow.Author.Tests.{not-true, not-false}
+use mathlib.Core.Path.{refl, sym, ap, _∙_}
 use Rattle.outlets_spec.proofs.Bytes.{outlets-call}
 use Rattle.outlets_spec.specs.Door.{outletsDoor, outletsDoorMarks}
 use Rattle.outlets_door.proofs.outlets_door.star_outlets.Statement.{statement}
 use Rattle.outlets_door.proofs.outlets_door.star_outlets.Tie as tie
-use Rattle.star_spec.specs.Door.{builtFields, answerAfter, wellLent, doorReturns}
+use Rattle.star_spec.specs.Door.{builtFields, answerAfter, doorReturns}
 
 returns : tie.Need-returns
-unfolding doorReturns wellLent outletsDoor answerAfter outletsDoorMarks
-returns c = outlets-call (rw (ne-eqb (length (c .before .before .before .before .before .before .args .answer .now)) 16 (λ e. omega arith)) (refl, (refl, refl)))
+unfolding doorReturns outletsDoor answerAfter outletsDoorMarks
+returns c =
+    let ill = sym (c .before .well-lent .ensures) ∙ not-true _ (c .if1 .taken) in
+    outlets-call (rw ill (refl, (refl, refl)))
 
 returns-2 : tie.Need-returns-2
-unfolding doorReturns wellLent outletsDoor outletsDoorMarks
+unfolding doorReturns outletsDoor outletsDoorMarks
 returns-2 c =
-    let b = c .before .before .before .before in
-    let o = b .before .before .before in
-    outlets-call
-    (rw (eq-eqb (length (c .before .before .before .before .before .before .before .before .before .before .before .before .before .before .before .args .answer .now)) 16 (omega arith)) (
-      refl,
-      (c .before .before .write-answer .ensures ∙ ap (answerAfter _) (b .of-built .ensures ∙ ap builtFields (o .outlets .ensures .0)), o .outlets .ensures .1),
-    ))
+    let write = c .before .before in
+    let fields = write .before .before in
+    let called = fields .before .before .before in
+    let table = called .before .before in
+    let well = sym (table .before .before .well-lent .ensures) ∙ not-false _ (table .before .if1 .left) in
+    let ((rows, whole), used) = table .plain .ensures in
+    let (answer, marks) = rw (rows, whole, used) at (called .outlets .ensures) in
+    outlets-call (rw well (refl, (write .write-answer .ensures ∙ ap (answerAfter _) (fields .of-built .ensures ∙ ap builtFields answer), marks)))
 
 pub star-outlets-spec : {M : Type 1} → statement M
 star-outlets-spec =
     tie.close
     (tie.spec
+    (λ c κs. search needs)
+    (λ c. search needs)
     returns
+    (λ c κs. search needs)
     (λ c κs. search needs)
     (λ c κs. search needs)
     (λ c κs. search needs)
