@@ -11,19 +11,17 @@ ghost use Rattle.rowset.specs.Sets.{empty, uppermost};
 ghost use Rattle.path_matrix.specs.Matrix.{matrixColumn};
 ghost use Rattle.slice.specs.Slices.{size, component};
 ghost use Rattle.star_spec.specs.Mst1.{mst1, mst1Marks};
-ghost use Rattle.star_spec.specs.Call.{tableOf, callOf, workOf};
+ghost use Rattle.in_use.specs.Tables.{tableIn};
 ghost use Rattle.table.specs.Loads.{loadedRow};
 ghost use Rattle.table.specs.Tables.{width};
 ghost use Rattle.search_columns.specs.steps.Integers.{integersAfter};
 ghost use Rattle.mst1.specs.steps.Growth.{graphBy, loadedGraph, Grows, Reached, Begun};
 ghost use Rattle.mst1.specs.Answers.{answerOf};
+use in_use::InUse;
 use refusal::Outcome;
 use refusal::Refusal;
-use slice::SIZE;
 use slice::Slice;
 use slice::WORDS;
-use slice::rows::rows_to;
-use slice::words::rows_in_use;
 
 // What MST1 answers: the tree's weight, as the 64 bits that stand for it in two's complement, or the refusal.
 pub enum Built {
@@ -210,26 +208,24 @@ pub fn tree_of(n: u32, m: usize, rows: Slice, left: &[u8], right: &[u8], weight:
     grow_tree(left, right, &weights, first, used, n as usize)
 }
 
-// MST1 over a table of m rows, of which those of a slice are in use: the refusal, and the marks stay as they were; or the tree's weight, and the marks are 1 for each chosen row and 0 for every other.
-pub fn mst1_rows(
+// MST1 over a table of either kind: the refusal, and the marks stay as they were; or the tree's weight, and the marks are 1 for each chosen row and 0 for every other.
+pub fn mst1(
     n: u32,
-    m: usize,
-    whole: bool,
-    rows: Slice,
+    table: InUse,
     left: &[u8],
     right: &[u8],
     weight: &[u8],
     mark: &mut [u8],
 ) -> Built
     ensures { λ r.
-        let c = tableOf n m whole (component rows) (now (left .entry)) (now (right .entry)) (now (weight .entry)) (now (mark .entry)) in
+        let c = tableIn n table (now (left .entry)) (now (right .entry)) (now (weight .entry)) (now (mark .entry)) in
         ⌜ (answerOf r ≡ mst1 c) × (now (mark .exit) ≡ mst1Marks c) ⌝ }
 {
     if let Outcome::Refused(refusal) = table_checks::table_check(
         n,
-        m,
-        whole,
-        rows,
+        table.m,
+        table.whole,
+        table.rows,
         left,
         right,
         weight,
@@ -237,7 +233,7 @@ pub fn mst1_rows(
     ) {
         return Built::Refused(refusal);
     }
-    let tree = tree_of(n, m, rows, left, right, weight);
+    let tree = tree_of(n, table.m, table.rows, left, right, weight);
     if !tree.whole {
         return Built::Refused(Refusal {
             number: 11,
@@ -246,40 +242,4 @@ pub fn mst1_rows(
     }
     claim::write_claim(mark, tree.chosen);
     Built::Tree(claim::weigh(weight, tree.chosen))
-}
-
-// MST1 over a plain table: a row for each byte of the left column, all in use.
-pub fn mst1(n: u32, left: &[u8], right: &[u8], weight: &[u8], mark: &mut [u8]) -> Built
-    ensures { λ r.
-        let c = callOf n (now (left .entry)) (now (right .entry)) (now (weight .entry)) (now (mark .entry)) in
-        ⌜ (answerOf r ≡ mst1 c) × (now (mark .exit) ≡ mst1Marks c) ⌝ }
-{
-    let m = left.len();
-    mst1_rows(n, m, true, rows_to(m), left, right, weight, mark)
-}
-
-// MST1 over a working table: 1,024 rows, and the rows in use lent as sixteen words. The marks of rows that are not in use become 0.
-pub fn work_mst1(
-    n: u32,
-    words: &[u64],
-    left: &[u8],
-    right: &[u8],
-    weight: &[u8],
-    mark: &mut [u8],
-) -> Built
-    ensures { λ r.
-        let c = workOf n (now (words .entry)) (now (left .entry)) (now (right .entry)) (now (weight .entry)) (now (mark .entry)) in
-        ⌜ (answerOf r ≡ mst1 c) × (now (mark .exit) ≡ mst1Marks c) ⌝ }
-{
-    let whole = words.len() == WORDS;
-    mst1_rows(
-        n,
-        SIZE,
-        whole,
-        rows_in_use(words),
-        left,
-        right,
-        weight,
-        mark,
-    )
 }

@@ -1,6 +1,8 @@
 // MST1 for C.
+use answer::well_lent;
 use answer::write_answer;
 use answer_fields::built::of_built;
+use in_use::InUse;
 ghost use mathlib.Core.Path.{_≡_};
 ghost use Rattle.star_spec.specs.Call.{callOf};
 ghost use Rattle.promise.specs.Promise.{plain, Mst1Call};
@@ -25,10 +27,10 @@ pub extern "C" fn star_mst1(
         let t = plain n (now (left .entry)) (now (right .entry)) (now (weight .entry)) in
         ⌜ Mst1Call t (now (mark .entry)) (now (answer .entry)) (now (answer .exit)) (now (mark .exit)) r ⌝ }
 {
-    if answer.len() != 16 {
+    if !well_lent(answer) {
         return 0;
     }
-    let b = mst1::mst1(n, left, right, weight, mark);
+    let b = mst1::mst1(n, InUse::plain(left.len()), left, right, weight, mark);
     let x = of_built(b);
     write_answer(answer, x);
     1

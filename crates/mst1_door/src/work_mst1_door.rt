@@ -1,6 +1,8 @@
 // MST1 over a working table for C.
+use answer::well_lent;
 use answer::write_answer;
 use answer_fields::built::of_built;
+use in_use::InUse;
 ghost use mathlib.Core.Path.{_≡_};
 ghost use Rattle.star_spec.specs.Call.{workOf};
 ghost use Rattle.promise.specs.Promise.{working, Mst1Call};
@@ -26,10 +28,10 @@ pub extern "C" fn star_work_mst1(
         let t = working n (now (words .entry)) (now (left .entry)) (now (right .entry)) (now (weight .entry)) in
         ⌜ Mst1Call t (now (mark .entry)) (now (answer .entry)) (now (answer .exit)) (now (mark .exit)) r ⌝ }
 {
-    if answer.len() != 16 {
+    if !well_lent(answer) {
         return 0;
     }
-    let b = mst1::work_mst1(n, words, left, right, weight, mark);
+    let b = mst1::mst1(n, InUse::working(words), left, right, weight, mark);
     let x = of_built(b);
     write_answer(answer, x);
     1

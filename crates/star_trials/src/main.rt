@@ -301,7 +301,7 @@ fn check(n: u32, left: &[u8], right: &[u8], weight: &[u8], mark: &[u8], other: b
 }
 
 fn build(n: u32, left: &[u8], right: &[u8], weight: &[u8], mark: &mut [u8]) {
-    let b = mst1::mst1(n, left, right, weight, mark);
+    let b = mst1::mst1(n, InUse::plain(left.len()), left, right, weight, mark);
     built(b, mark);
 }
 
