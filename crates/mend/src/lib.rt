@@ -1,6 +1,6 @@
-// Mending an old claim: marks that close a ring are dropped, rows that join two groups are added (crate groups), and each unmarked row from the top is exchanged for the heaviest row of its path where that is heavier.
-// Each drop, addition and exchange becomes a record of a lent list. Claim and list are written once nothing can be refused any more.
-// The records are kept in numbers of the mender's own, three a record; `mend` and `work_mend`, which alone see the lent list, write them there through the crate recordlist.
+// Mending an old claim: marks that close a ring are dropped, rows that join two groups are added (crate mend_groups), and each unmarked row from the top is exchanged for the heaviest row of its path where that is heavier.
+// Each drop, addition and exchange becomes a record, kept in numbers of the mender's own, three a record; the doors, which alone see the lent list, write them there through the crate mend_list.
+// The claim is written once nothing can be refused any more.
 ghost use Prim.Native.Nat.{ℕ, _+_, _*_, _^_, _-_, _<_, _≤_};
 ghost use lib.Dec.{ltb};
 ghost use lib.ListN.{length};
@@ -15,7 +15,8 @@ ghost use Rattle.rowset.specs.Columns.{width};
 ghost use Rattle.rowset.specs.Integers.{integerIn, signed};
 ghost use Rattle.rowset.specs.Sets.{upTo, both};
 ghost use Rattle.slice.specs.Slices.{size, component};
-ghost use Rattle.star_spec.specs.Call.{Call, tableOf, callOf, workOf, claimOf};
+ghost use Rattle.in_use.specs.Tables.{tableIn};
+ghost use Rattle.star_spec.specs.Call.{Call, tableOf, claimOf};
 ghost use Rattle.star_spec.specs.MatrixPath.{matrixPath, matrixAfter};
 ghost use Rattle.star_spec.specs.Refusals.{orElse, refusal};
 ghost use Rattle.table.specs.Loads.{loadedRow};
@@ -26,18 +27,14 @@ ghost use Rattle.mend.specs.Answers.{answerOf, countOf};
 ghost use Rattle.mend_groups.specs.steps.Machine.{stateOf, visits};
 ghost use Rattle.mend.specs.steps.Machine.{pathOf, outOf, swapped, swapAt};
 use claim::flipped_weight;
+use in_use::InUse;
 use mend_groups::Drawn;
 use mend_list::NUMBERS;
-use mend_list::write_records;
-use mend_record::Record;
 use refusal::Outcome;
 use refusal::Refusal;
 use slice::SIZE;
 use slice::Slice;
-use slice::WORDS;
 use slice::rows::rows_among;
-use slice::rows::rows_to;
-use slice::words::rows_in_use;
 use table_checks::row_byte;
 
 // The kind of a record of an exchange; drops and additions are 1 and 2.
@@ -335,12 +332,10 @@ fn redraw(
     }
 }
 
-// Mending over a table of m rows, of which those of a slice are in use, but for the lent list, which has so many records.
-pub fn mend_claim_rows(
+// Mending over a table of either kind, but for the lent list, which has so many records.
+pub fn mend(
     n: u32,
-    m: usize,
-    whole: bool,
-    rows: Slice,
+    table: InUse,
     left: &[u8],
     right: &[u8],
     weight: &[u8],
@@ -348,9 +343,12 @@ pub fn mend_claim_rows(
     records: usize,
 ) -> Mending
     ensures { λ r.
-        let c = tableOf n m whole (component rows) (now (left .entry)) (now (right .entry)) (now (weight .entry)) (now (mark .entry)) in
+        let c = tableIn n table (now (left .entry)) (now (right .entry)) (now (weight .entry)) (now (mark .entry)) in
         ⌜ (answerOf (r .answer) ≡ mend c records) × (now (mark .exit) ≡ mendMarks c records) × ((l : List Record) → length l ≡ records → storedTo (r .count) (r .list) l ≡ mendList c l) × (r .count ≡ countOf (answerOf (r .answer))) ⌝ }
 {
+    let m = table.m;
+    let whole = table.whole;
+    let rows = table.rows;
     if let Outcome::Refused(refusal) = mend_check(
         n,
         m,
@@ -365,86 +363,4 @@ pub fn mend_claim_rows(
         return refused(refusal);
     }
     redraw(n, m, whole, rows, left, right, weight, mark, records)
-}
-
-// Mending over a plain table, a row for each byte of the left column, all in use, but for the lent list, which has so many records.
-pub fn mend_claim(
-    n: u32,
-    left: &[u8],
-    right: &[u8],
-    weight: &[u8],
-    mark: &mut [u8],
-    records: usize,
-) -> Mending
-    ensures { λ r.
-        let c = callOf n (now (left .entry)) (now (right .entry)) (now (weight .entry)) (now (mark .entry)) in
-        ⌜ (answerOf (r .answer) ≡ mend c records) × (now (mark .exit) ≡ mendMarks c records) × ((l : List Record) → length l ≡ records → storedTo (r .count) (r .list) l ≡ mendList c l) × (r .count ≡ countOf (answerOf (r .answer))) ⌝ }
-{
-    let m = left.len();
-    mend_claim_rows(n, m, true, rows_to(m), left, right, weight, mark, records)
-}
-
-// Mending over a working table, 1,024 rows and the rows in use lent as sixteen words, but for the lent list, which has so many records.
-pub fn work_mend_claim(
-    n: u32,
-    words: &[u64],
-    left: &[u8],
-    right: &[u8],
-    weight: &[u8],
-    mark: &mut [u8],
-    records: usize,
-) -> Mending
-    ensures { λ r.
-        let c = workOf n (now (words .entry)) (now (left .entry)) (now (right .entry)) (now (weight .entry)) (now (mark .entry)) in
-        ⌜ (answerOf (r .answer) ≡ mend c records) × (now (mark .exit) ≡ mendMarks c records) × ((l : List Record) → length l ≡ records → storedTo (r .count) (r .list) l ≡ mendList c l) × (r .count ≡ countOf (answerOf (r .answer))) ⌝ }
-{
-    let whole = words.len() == WORDS;
-    mend_claim_rows(
-        n,
-        SIZE,
-        whole,
-        rows_in_use(words),
-        left,
-        right,
-        weight,
-        mark,
-        records,
-    )
-}
-
-// Mending over a plain table, with its records written into the lent list.
-pub fn mend(
-    n: u32,
-    left: &[u8],
-    right: &[u8],
-    weight: &[u8],
-    mark: &mut [u8],
-    records: &mut [Record],
-) -> Mended
-    ensures { λ r.
-        let c = callOf n (now (left .entry)) (now (right .entry)) (now (weight .entry)) (now (mark .entry)) in
-        ⌜ (answerOf r ≡ mend c (length (now (records .entry)))) × (now (mark .exit) ≡ mendMarks c (length (now (records .entry)))) × (now (records .exit) ≡ mendList c (now (records .entry))) ⌝ }
-{
-    let m = mend_claim(n, left, right, weight, mark, records.len());
-    write_records(records, m.list, m.count);
-    m.answer
-}
-
-// Mending over a working table, with its records written into the lent list.
-pub fn work_mend(
-    n: u32,
-    words: &[u64],
-    left: &[u8],
-    right: &[u8],
-    weight: &[u8],
-    mark: &mut [u8],
-    records: &mut [Record],
-) -> Mended
-    ensures { λ r.
-        let c = workOf n (now (words .entry)) (now (left .entry)) (now (right .entry)) (now (weight .entry)) (now (mark .entry)) in
-        ⌜ (answerOf r ≡ mend c (length (now (records .entry)))) × (now (mark .exit) ≡ mendMarks c (length (now (records .entry)))) × (now (records .exit) ≡ mendList c (now (records .entry))) ⌝ }
-{
-    let m = work_mend_claim(n, words, left, right, weight, mark, records.len());
-    write_records(records, m.list, m.count);
-    m.answer
 }

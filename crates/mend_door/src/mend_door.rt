@@ -1,6 +1,9 @@
 // The mender's doors: the claim and the list are written where the claim is mended, and stay as they are otherwise.
-// All but the lent list is written by `mend_answer` and `work_mend_answer`; the doors write the records there through the crate recordlist.
+// All but the lent list is written by `answer_of`; the doors write the records there through the crate mend_list.
+use answer::of_refusal;
+use answer::well_lent;
 use answer::write_answer;
+use in_use::InUse;
 use mend::Mended;
 use mend::Mending;
 use mend_list::NUMBERS;
@@ -10,6 +13,7 @@ ghost use lib.ListN.{length};
 ghost use mathlib.Core.List.{List};
 ghost use mathlib.Core.Path.{_≡_};
 ghost use Rattle.answer.specs.Records.{fieldsOf};
+ghost use Rattle.in_use.specs.Tables.{tableIn};
 ghost use Rattle.mend_spec.specs.Bytes.{MendCall};
 ghost use Rattle.mend_spec.specs.Door.{mendFields, mendDoor, mendDoorMarks, mendDoorList};
 ghost use Rattle.mend.specs.Answers.{answerOf};
@@ -38,14 +42,7 @@ pub fn of_mended(x: Mended) -> answer::Record
             only: 0,
             amount: count as u64,
         },
-        Mended::Refused(r) => answer::Record {
-            kind: 0,
-            number: r.number,
-            out: r.place,
-            into: 0,
-            only: 0,
-            amount: 0,
-        },
+        Mended::Refused(r) => of_refusal(r),
     }
 }
 
@@ -75,7 +72,29 @@ fn tell(answer: &mut [u8], m: Mending) -> Told
     }
 }
 
-// Mending of a plain table through the door, but for the lent list, which has so many records.
+// Mending of a table of either kind through the door, but for the lent list, which has so many records.
+fn answer_of(
+    n: u32,
+    table: InUse,
+    left: &[u8],
+    right: &[u8],
+    weight: &[u8],
+    mark: &mut [u8],
+    records: usize,
+    answer: &mut [u8],
+) -> Told
+    ensures { λ r.
+        let c = tableIn n table (now (left .entry)) (now (right .entry)) (now (weight .entry)) (now (mark .entry)) in
+        ⌜ (r .returned ≡ doorReturns (now (answer .entry))) × (now (answer .exit) ≡ mendDoor c records (now (answer .entry))) × (now (mark .exit) ≡ mendDoorMarks c records (now (answer .entry))) × ((l : List Record) → length l ≡ records → storedTo (r .count) (r .list) l ≡ mendDoorList c l (now (answer .entry))) ⌝ }
+{
+    if !well_lent(answer) {
+        return not_lent();
+    }
+    let m = mend::mend(n, table, left, right, weight, mark, records);
+    tell(answer, m)
+}
+
+// Of a plain table.
 fn mend_answer(
     n: u32,
     left: &[u8],
@@ -89,14 +108,11 @@ fn mend_answer(
         let c = callOf n (now (left .entry)) (now (right .entry)) (now (weight .entry)) (now (mark .entry)) in
         ⌜ (r .returned ≡ doorReturns (now (answer .entry))) × (now (answer .exit) ≡ mendDoor c records (now (answer .entry))) × (now (mark .exit) ≡ mendDoorMarks c records (now (answer .entry))) × ((l : List Record) → length l ≡ records → storedTo (r .count) (r .list) l ≡ mendDoorList c l (now (answer .entry))) ⌝ }
 {
-    if answer.len() != 16 {
-        return not_lent();
-    }
-    let m = mend::mend_claim(n, left, right, weight, mark, records);
-    tell(answer, m)
+    let table = InUse::plain(left.len());
+    answer_of(n, table, left, right, weight, mark, records, answer)
 }
 
-// Mending of a working table through the door, but for the lent list, which has so many records.
+// Of a working table.
 fn work_mend_answer(
     n: u32,
     words: &[u64],
@@ -111,11 +127,8 @@ fn work_mend_answer(
         let c = workOf n (now (words .entry)) (now (left .entry)) (now (right .entry)) (now (weight .entry)) (now (mark .entry)) in
         ⌜ (r .returned ≡ doorReturns (now (answer .entry))) × (now (answer .exit) ≡ mendDoor c records (now (answer .entry))) × (now (mark .exit) ≡ mendDoorMarks c records (now (answer .entry))) × ((l : List Record) → length l ≡ records → storedTo (r .count) (r .list) l ≡ mendDoorList c l (now (answer .entry))) ⌝ }
 {
-    if answer.len() != 16 {
-        return not_lent();
-    }
-    let m = mend::work_mend_claim(n, words, left, right, weight, mark, records);
-    tell(answer, m)
+    let used = InUse::working(words);
+    answer_of(n, used, left, right, weight, mark, records, answer)
 }
 
 // Mending through the door. `means` says what the bytes, the claim and the list are worth.

@@ -7,8 +7,7 @@ use Rattle.answer.specs.Records.{fieldsOf}
 use Rattle.mend_spec.specs.Door.{mendFields}
 use Rattle.mend.specs.Answers.{answerOf}
 use Rattle.rowset.proofs.Signed.{natural-bits}
-use Rattle.rowset.specs.Integers.{fromBits}
-use Rattle.star_spec.specs.Door.{Fields}
+use Rattle.star_spec.specs.Door.{Fields, fields}
 use Rattle.mend_door.proofs.mend_door.of_mended.Statement.{statement}
 use Rattle.mend_door.proofs.mend_door.of_mended.Tie as tie
 
@@ -20,8 +19,8 @@ returns c =
     rw (c .before .x .given .1) (ap written (natural-bits 63 count (omega arith)))
 
 returns-2 : tie.Need-returns-2
-unfolding fieldsOf mendFields answerOf fromBits
-returns-2 c = rw (c .before .x2 .given .1) refl
+unfolding mendFields answerOf fields
+returns-2 c = rw (c .before .before .x2 .given .1) (c .of-refusal .ensures)
 
 pub of-mended-spec : {M : Type 1} → statement M
-of-mended-spec = tie.close (tie.spec (λ c. search needs) (λ c. search needs) (λ c. search needs) returns returns-2)
+of-mended-spec = tie.close (tie.spec (λ c. search needs) (λ c. search needs) (λ c. search needs) (λ c κs. search needs) returns returns-2)
