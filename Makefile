@@ -122,66 +122,33 @@ $(LIBRARY): $(ARCHIVE) $(BUILD)/star.o
 $(BUILD)/star: $(LIBRARY) $(CONSOLE) $(wildcard console/*.h) include/star.h
 	$(CC) -std=c99 $(CFLAGS) -ffp-contract=off -Iinclude -o $@ $(CONSOLE) $(LIBRARY) -lm
 
-$(BUILD)/door_test: $(ARCHIVE) tests/door_test.c tests/plain.c tests/plain.h include/star.h
-	@mkdir -p $(BUILD)
-	$(CC) -std=c99 $(CFLAGS) -Iinclude -Itests -o $@ tests/door_test.c tests/plain.c $(ARCHIVE)
+# The tests of the doors, over one harness: each over the doors, and over doors with a fault each, which it has to find.
+DOOR_TESTS := door work quote breaking which digs districts mend outlets
+HARNESS := $(patsubst %,$(BUILD)/tests/%.o,shared lent rows plain plain_work plain_asked plain_mend plain_outlets)
+BESIDE_door := tests/doors.c
+BESIDE_work := tests/doors.c tests/work_cases.c
+BESIDE := $(BESIDE_work)
+TESTING = $(CC) -std=c99 $(CFLAGS) -Iinclude -Itests
 
-# The same over doors with a fault each, which it has to find.
-FAULTY := $(foreach door,cst other mst1 paths,-Dstar_$(door)=faulty_$(door))
-$(BUILD)/door_test_faulty: $(ARCHIVE) tests/door_test.c tests/faulty.c tests/faulty.h tests/plain.c tests/plain.h include/star.h
-	@mkdir -p $(BUILD)
-	$(CC) -std=c99 $(CFLAGS) -Iinclude -c -o $(BUILD)/faulty.o tests/faulty.c
-	$(CC) -std=c99 $(CFLAGS) -Iinclude -Itests $(FAULTY) -o $@ tests/door_test.c tests/plain.c $(BUILD)/faulty.o $(ARCHIVE)
+$(HARNESS): $(BUILD)/tests/%.o: tests/%.c $(wildcard tests/*.h) include/star.h
+	@mkdir -p $(@D)
+	$(TESTING) -c -o $@ $<
 
-# Working tables, in the same two ways.
-WORK := tests/work_test.c tests/work_lent.c tests/work_cases.c tests/shared.c tests/plain_work.c tests/plain.c
-WORK_HEADERS := tests/work_lent.h tests/shared.h tests/plain_work.h tests/plain.h include/star.h
-$(BUILD)/work_test: $(ARCHIVE) $(WORK) $(WORK_HEADERS)
-	@mkdir -p $(BUILD)
-	$(CC) -std=c99 $(CFLAGS) -Iinclude -Itests -o $@ $(WORK) $(ARCHIVE)
+$(DOOR_TESTS:%=$(BUILD)/%_test): $(BUILD)/%_test: tests/%_test.c $(BESIDE) $(HARNESS) $(ARCHIVE)
+	$(TESTING) -o $@ $< $(BESIDE_$*) $(HARNESS) $(ARCHIVE) -pthread
 
-FAULTY_WORK := $(foreach door,strike add merge carry work_cst work_other work_mst1 work_paths,-Dstar_$(door)=faulty_$(door))
-$(BUILD)/work_test_faulty: $(ARCHIVE) $(WORK) $(WORK_HEADERS) tests/faulty_work.c tests/faulty.h
-	@mkdir -p $(BUILD)
-	$(CC) -std=c99 $(CFLAGS) -Iinclude -c -o $(BUILD)/faulty_work.o tests/faulty_work.c
-	$(CC) -std=c99 $(CFLAGS) -Iinclude -Itests $(FAULTY_WORK) -o $@ $(WORK) $(BUILD)/faulty_work.o $(ARCHIVE)
+# The doors that a test is given faulty ones for.
+FAULTY_door := cst other mst1 paths
+FAULTY_work := strike add merge carry work_cst work_other work_mst1 work_paths
+FAULTY = $(or $(FAULTY_$*),$* work_$* $*_text)
+$(DOOR_TESTS:%=$(BUILD)/%_test_faulty): $(BUILD)/%_test_faulty: tests/%_test.c tests/faulty_%.c $(BESIDE) $(HARNESS) $(ARCHIVE)
+	$(TESTING) -c -o $(BUILD)/tests/faulty_$*.o tests/faulty_$*.c
+	$(TESTING) $(foreach door,$(FAULTY),-Dstar_$(door)=faulty_$(door)) -o $@ $< $(BESIDE_$*) $(BUILD)/tests/faulty_$*.o $(HARNESS) $(ARCHIVE) -pthread
 
-# Questions about a table, in the same two ways, a program each.
-ASKED := quote breaking which digs
-ASKED_PARTS := tests/asked.c tests/shared.c tests/plain_asked.c tests/plain_work.c tests/plain.c
-ASKED_NEEDS := $(ARCHIVE) $(ASKED_PARTS) $(ASKED_PARTS:.c=.h) include/star.h
-$(ASKED:%=$(BUILD)/%_test): $(BUILD)/%_test: tests/%_test.c $(ASKED_NEEDS)
-	@mkdir -p $(BUILD)
-	$(CC) -std=c99 $(CFLAGS) -Iinclude -Itests -o $@ $< $(ASKED_PARTS) $(ARCHIVE) -pthread
+$(BUILD)/import_test: tests/import_test.c $(HARNESS) $(ARCHIVE)
+	$(TESTING) -o $@ $< $(HARNESS) $(ARCHIVE) -pthread
 
-$(ASKED:%=$(BUILD)/%_test_faulty): $(BUILD)/%_test_faulty: tests/%_test.c tests/faulty_%.c tests/faulty.h $(ASKED_NEEDS)
-	@mkdir -p $(BUILD)
-	$(CC) -std=c99 $(CFLAGS) -Iinclude -c -o $(BUILD)/faulty_$*.o tests/faulty_$*.c
-	$(CC) -std=c99 $(CFLAGS) -Iinclude -Itests -Dstar_$*=faulty_$* -Dstar_work_$*=faulty_work_$* -Dstar_$*_text=faulty_$*_text -o $@ $< $(ASKED_PARTS) $(BUILD)/faulty_$*.o $(ARCHIVE) -pthread
-
-# Districts, mends and outlets, in the same two ways: each has its test, its faulty doors, and a plain implementation if it needs one.
-PLANS := districts mend outlets
-PLAN := tests/plan_lent.c tests/shared.c tests/plain_work.c tests/plain.c
-PLAN_HEADERS := tests/plan_lent.h tests/shared.h tests/plain_work.h tests/plain.h include/star.h
-PLAIN_mend := tests/plain_mend.c
-PLAIN_outlets := tests/plain_outlets.c
-$(PLANS:%=$(BUILD)/%_test): $(BUILD)/%_test: $(ARCHIVE) tests/%_test.c $(PLAN) $(PLAN_HEADERS) $(wildcard tests/plain_*.[ch])
-	@mkdir -p $(BUILD)
-	$(CC) -std=c99 $(CFLAGS) -Iinclude -Itests -o $@ tests/$*_test.c $(PLAIN_$*) $(PLAN) $(ARCHIVE)
-
-$(PLANS:%=$(BUILD)/%_test_faulty): $(BUILD)/%_test_faulty: $(BUILD)/%_test tests/faulty_%.c tests/faulty.h
-	$(CC) -std=c99 $(CFLAGS) -Iinclude -Itests -c -o $(BUILD)/faulty_$*.o tests/faulty_$*.c
-	$(CC) -std=c99 $(CFLAGS) -Iinclude -Itests -Dstar_$*=faulty_$* -Dstar_work_$*=faulty_work_$* -o $@ tests/$*_test.c $(PLAIN_$*) $(PLAN) $(BUILD)/faulty_$*.o $(ARCHIVE)
-
-$(BUILD)/import_test: $(ARCHIVE) tests/import_test.c include/star.h
-	@mkdir -p $(BUILD)
-	$(CC) -std=c99 $(CFLAGS) -Iinclude -o $@ tests/import_test.c $(ARCHIVE)
-
-PLAIN := $(BUILD)/plain.o $(BUILD)/plain_work.o $(BUILD)/plain_asked.o
-$(PLAIN): $(BUILD)/%.o: tests/%.c tests/plain.h tests/plain_work.h tests/plain_asked.h
-	@mkdir -p $(BUILD)
-	$(CC) -std=c99 $(CFLAGS) -Iinclude -Itests -c -o $@ $<
-
+PLAIN := $(BUILD)/tests/plain.o $(BUILD)/tests/plain_work.o $(BUILD)/tests/plain_asked.o
 $(BUILD)/bench: $(ARCHIVE) $(wildcard bench/*.[ch]pp) $(PLAIN) include/star.h
 	$(CXX) -std=c++17 $(CXXFLAGS) -Iinclude -Itests $$(pkg-config --cflags igraph 2>/dev/null) -o $@ bench/bench.cpp $(PLAIN) $(ARCHIVE) $$(pkg-config --libs igraph 2>/dev/null)
 
@@ -204,7 +171,7 @@ test:
 
 # What stands outside the proofs: the doors against the plain implementation, the import against the plain reader (python3), both under a
 # memory checker, and the console.
-outside: $(BUILD)/star $(BUILD)/door_test $(BUILD)/door_test_faulty $(BUILD)/work_test $(BUILD)/work_test_faulty $(ASKED:%=$(BUILD)/%_test) $(ASKED:%=$(BUILD)/%_test_faulty) $(PLANS:%=$(BUILD)/%_test) $(PLANS:%=$(BUILD)/%_test_faulty) $(BUILD)/import_test $(READSTP) $(DIGLIST)
+outside: $(BUILD)/star $(DOOR_TESTS:%=$(BUILD)/%_test) $(DOOR_TESTS:%=$(BUILD)/%_test_faulty) $(BUILD)/import_test $(READSTP) $(DIGLIST)
 	bash tests/outside.sh $(BUILD) $(READSTP) $(DIGLIST)
 
 bench: $(BUILD)/bench

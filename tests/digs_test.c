@@ -1,109 +1,114 @@
-/* Compares star_digs and star_work_digs with the plain implementation, and star_digs_text with star_import and the plain implementation of what that
- * reads: the list to its last byte, the bytes behind it, the refusals in their order, the answer, and all that stands around what is lent.
- * usage: digs_test [LISTS [exact]]   prints one line 'N passed, M failed' at its end; exact: columns in memory of their own length */
+/* Compares star_digs and star_work_digs with the plain implementation, and star_digs_text with
+ * star_import and the plain implementation of what that reads: the list to its last byte, the bytes
+ * behind it, the refusals in their order, the answer, and all that stands around what is lent.
+ * usage: digs_test [LISTS [exact]]   prints one line 'N passed, M failed' at its end; exact:
+ * columns in memory of their own length */
 #include <stdio.h>
 #include <stdlib.h>
 #include <string.h>
 
-#include "asked.h"
+#include "lent.h"
+#include "plain_asked.h"
 
+static unsigned long from_texts;
 
-static unsigned long done[3], unwritten;
+static uint32_t door(struct lent *t) {
+    struct handed p = lent_hand(t);
+    return lent_back(t, p, ASK(t, p, digs, HANDED(t, p, TEXT), HANDED(t, p, ANSWER)));
+}
 
-static uint32_t door(struct asked *t) {
-    struct lent p = asked_lend(t);
+static uint32_t plain(struct lent *t) {
+    struct call c = lent_call(t);
+    return plain_digs(lent_in_use(t), &c, t->text, t->len[TEXT], t->answer, t->len[ANSWER]);
+}
+
+static void one(struct lent *t) { lent_ended(t, lent_agree(t, "digs", door, plain)); }
+
+/* The STP text that the next two calls are about. */
+static char stp[STAR_MAX_TEXT];
+static size_t stp_len;
+
+/* An STP text of a plain table, cut short or with a byte changed at times. */
+static void put_stp(const struct lent *t) {
+    size_t m = lent_m(t), i;
+    stp_len = (size_t)sprintf(stp, "33D32945 STP\nSECTION Graph\nNodes %u\nEdges %zu\n", t->n,
+                              m + (any(20) == 0));
+    for (i = 0; i < m; i++)
+        stp_len += (size_t)sprintf(stp + stp_len, "E %u %u %d\n", t->left[i], t->right[i],
+                                   (int)star_get_price(t->weight, i));
+    stp_len += (size_t)sprintf(stp + stp_len, "END\nEOF\n");
+    if (any(12) == 0) stp_len = any((uint32_t)stp_len);
+    if (any(12) == 0 && stp_len > 0) stp[any((uint32_t)stp_len)] = (char)bits();
+}
+
+/* The door over a copy of the text, which has to stay as it is. */
+static uint32_t text_door(struct lent *t) {
+    struct handed p = lent_hand(t);
+    uint8_t *copy = malloc(stp_len + 1);
     uint32_t said;
-    if (t->working) said = star_work_digs(t->n, p.in_use, t->words, p.left, t->left_len, p.right, t->right_len, p.weight, t->weight_len, p.text, t->text_len, p.answer, t->answer_len);
-    else said = star_digs(t->n, p.left, t->left_len, p.right, t->right_len, p.weight, t->weight_len, p.text, t->text_len, p.answer, t->answer_len);
-    asked_back(t, p);
-    return said;
+    if (!copy) exit(3);
+    memcpy(copy, stp, stp_len);
+    said = star_digs_text(stp_len ? copy : NULL, stp_len, HANDED(t, p, TEXT), HANDED(t, p, ANSWER));
+    tell(!memcmp(copy, stp, stp_len), "the text that is read");
+    free(copy);
+    return lent_back(t, p, said);
 }
 
-static void count(const struct asked *t, uint32_t said, int what) {
-    if (!said) unwritten++;
-    else if (t->answer[0] == STAR_REFUSED) refused[t->answer[1] % 32]++;
-    else done[what]++;
-}
-
-static void one(struct asked *t) {
-    static struct asked plain;
-    struct call c;
-    uint32_t said, expected;
-    memcpy(&plain, t, sizeof plain);
-    c = asked_call(&plain);
-    expected = plain_digs(asked_in_use(&plain), &c, plain.text, plain.text_len, plain.answer, plain.answer_len);
-    said = door(t);
-    tell(said == expected && memcmp(t, &plain, sizeof plain) == 0, t->working ? "star_work_digs" : "star_digs");
-    count(t, said, t->working);
-}
-
-/* An STP text of a plain table, cut short or with a byte changed at times; its length. */
-static size_t stp_of(const struct asked *t, char *text, size_t room) {
-    size_t len = (size_t)snprintf(text, room, "33D32945 STP\nSECTION Graph\nNodes %u\nEdges %zu\n", (unsigned)t->n, t->rows + (any(20) == 0)), i;
-    for (i = 0; i < t->rows; i++) len += (size_t)snprintf(text + len, room - len, "E %u %u %d\n", t->left[i], t->right[i], (int)star_get_price(t->weight, i));
-    len += (size_t)snprintf(text + len, room - len, "END\nEOF\n");
-    if (any(12) == 0) len = any((uint32_t)len);
-    if (any(12) == 0 && len > 0) text[any((uint32_t)len)] = (char)bits();
-    return len;
-}
-
-/* The same from a text: what star_import refuses is refused as it does, and what it reads has the list of its table. */
-static void from_text(struct asked *t) {
-    static struct asked plain;
-    static char made[STAR_MAX_TEXT];
+/* What star_import refuses is refused as it does, and what it reads has the list of its table. */
+static uint32_t text_plain(struct lent *t) {
     static uint8_t left[STAR_MAX_ROWS], right[STAR_MAX_ROWS], weight[4 * STAR_MAX_ROWS];
+    uint8_t answer[STAR_ANSWER_BYTES];
     struct star_imported i;
-    size_t len = stp_of(t, made, sizeof made);
-    uint8_t *text = malloc(len + 1), answer[STAR_ANSWER_BYTES];
-    struct lent p;
-    uint32_t said, expected = t->answer_len == STAR_ANSWER_BYTES && t->text_len >= STAR_MAX_LIST;
-    if (!text) exit(3);
-    memcpy(text, made, len);
-    memcpy(&plain, t, sizeof plain);
-    star_import(text, len, left, sizeof left, right, sizeof right, weight, sizeof weight, answer, sizeof answer);
+    int written = t->len[ANSWER] == STAR_ANSWER_BYTES && t->len[TEXT] >= STAR_MAX_LIST;
+    star_import((uint8_t *)stp, stp_len, left, sizeof left, right, sizeof right, weight,
+                sizeof weight, answer, sizeof answer);
     i = star_read_imported(answer);
     if (i.kind == STAR_PASSED) {
         struct call c = {i.n, left, right, weight, NULL, i.m, i.m, 4 * i.m, 0};
-        plain_digs(NULL, &c, plain.text, plain.text_len, plain.answer, plain.answer_len);
-    } else if (expected) memcpy(plain.answer, answer, sizeof answer);
-    p = asked_lend(t);
-    said = star_digs_text(len ? text : NULL, len, p.text, t->text_len, p.answer, t->answer_len);
-    asked_back(t, p);
-    tell(said == expected && memcmp(t, &plain, sizeof plain) == 0 && memcmp(text, made, len) == 0, "star_digs_text");
-    count(t, said, 2);
-    free(text);
+        plain_digs(NULL, &c, t->text, t->len[TEXT], t->answer, t->len[ANSWER]);
+    } else if (written) memcpy(t->answer, answer, sizeof answer);
+    return (uint32_t)written;
 }
 
-/* The yard's list, and the text of 6,369 bytes that is not taken; the longest list fits. */
-static void known(void) {
+static void from_text(struct lent *t) {
+    put_stp(t);
+    from_texts += (unsigned long)lent_ended(t, lent_agree(t, "digs_text", text_door, text_plain));
+}
+
+/* The yard's list, and the text of 6,369 bytes that is not taken. */
+static void known(const char *in_use) {
     static const char list[] = "1 1 2 5\n2 2 3 3\n4 1 4 4\nTotal 12\n";
-    static struct asked t;
-    size_t k;
-    int working;
-    for (working = 0; working < 2; working++) {
-        asked_yard(&t, working, STAR_ANSWER_BYTES);
-        one(&t);
-        tell(star_read_answer(t.answer).amount == (int64_t)strlen(list) && memcmp(t.text, list, strlen(list)) == 0, "the yard's list");
-        t.text_len = STAR_MAX_LIST - 1;
-        one(&t);
-        asked_yard(&t, working, STAR_ANSWER_BYTES - 1);
-        one(&t);
-        asked_yard(&t, working, STAR_ANSWER_BYTES);
-        t.n = 5;
-        one(&t);
-        tell(t.answer[0] == STAR_REFUSED && t.answer[1] == STAR_NO_NETWORK, "11");
-    }
-    asked_yard(&t, 1, STAR_ANSWER_BYTES);
-    memset(t.in_use, 0, 8 * STAR_COLUMN_WORDS);
+    static struct lent t;
+    lent_yard(&t, in_use);
+    one(&t);
+    tell(lent_does(&t, (int64_t)strlen(list)) && !memcmp(t.text, list, strlen(list)),
+         "the yard's list");
+    t.len[TEXT] = STAR_MAX_LIST - 1;
+    one(&t);
+    lent_yard(&t, in_use);
+    t.len[ANSWER]--;
+    one(&t);
+    lent_yard(&t, in_use);
+    t.n = 5;
+    one(&t);
+    tell(lent_refuses(&t, STAR_NO_NETWORK, 0), "11");
+}
+
+/* A star at the bottom of the table has the longest lines; its list fits. */
+static void longest(void) {
+    static struct lent t;
+    unsigned k;
+    lent_yard(&t, "");
     t.n = 255;
-    for (k = 0; k < 254; k++) { /* a star at the bottom of the table: the longest lines */
-        size_t row = STAR_MAX_ROWS - 253 + k;
-        t.left[row - 1] = 255, t.right[row - 1] = (uint8_t)(k + 1);
-        star_put_price(t.weight, row - 1, STAR_MIN_PRICE);
+    for (k = 1; k <= 254; k++) {
+        size_t row = STAR_MAX_ROWS - 254 + k;
+        put_row(t.left, t.right, t.weight, row, 255, k, STAR_MIN_PRICE);
         star_set_in_use(t.in_use, row, 1);
     }
     one(&t);
-    tell(t.answer[0] == STAR_PASSED && star_read_answer(t.answer).amount <= STAR_MAX_LIST && star_read_answer(t.answer).amount > 5900, "the longest list");
+    tell(t.answer[0] == STAR_PASSED && star_read_answer(t.answer).amount <= STAR_MAX_LIST &&
+             star_read_answer(t.answer).amount > 5900,
+         "the longest list");
 }
 
 static void *ask_text(void *table) {
@@ -112,32 +117,34 @@ static void *ask_text(void *table) {
 }
 
 static void cases(void) {
-    static struct asked t;
-    known();
-    asked_small_stack(STAR_ANSWER_BYTES, NULL, door, STAR_PASSED);
-    asked_make_large(&t, 0, STAR_ANSWER_BYTES);
+    static struct lent t;
+    lends = LENDS(TEXT);
+    known(NULL);
+    known("12345");
+    longest();
+    lent_each_length(one);
+    lent_small_stacks(door, NULL, STACK);
+    lent_make_large(&t, 0);
     tell(on_small_stack(ask_text, &t, STACK_TEXT), "a thread of 1,280 KiB");
 }
 
 static void table(unsigned long k) {
-    static struct asked t;
-    asked_make(&t, k, STAR_ANSWER_BYTES);
-    asked_damage(&t, 5, 20);
+    static struct lent t;
+    lent_make(&t, k);
+    if (any(5) == 0) lent_damage(&t);
     one(&t);
     if (k % 8 != 0) return;
-    asked_make(&t, k, STAR_ANSWER_BYTES);
-    if (any(20) == 0) t.text_len = any(STAR_MAX_LIST);
-    if (any(20) == 0) t.answer_len = any(30) % STAR_QUOTE_BYTES;
+    lent_make(&t, k);
+    if (any(20) == 0) t.len[TEXT] = any(STAR_MAX_LIST);
+    if (any(20) == 0) t.len[ANSWER] = any(30) % STAR_QUOTE_BYTES;
     from_text(&t);
 }
 
 int main(int count, char **words) {
     static const unsigned numbers[] = {1, 2, 3, 4, 15, 11, 12, 13, 0};
-    unsigned long lists = run(count, words, 20000, cases, table), k;
-    for (k = 0; k < 3; k++) share(done[k], k == 2 ? 20 : 4, lists, "the share of lists that are written");
-    share_refused(numbers, 1500, lists);
-    printf("%lu lists: %lu of plain tables, %lu of working tables, %lu of texts; ", lists, done[0], done[1], done[2]);
-    print_refused(numbers);
-    printf("; %lu without an answer\n", unwritten);
-    return told();
+    unsigned long lists = run(count, words, 20000, cases, table);
+    share(lent_done[0], 4, lists, "the share of lists of plain tables");
+    share(lent_done[1], 4, lists, "the share of lists of working tables");
+    share(from_texts, 20, lists, "the share of lists of texts");
+    return lent_told("lists", lists, 1500, numbers);
 }

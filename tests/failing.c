@@ -34,10 +34,10 @@ static int fails(const char *call) {
     return 1;
 }
 
-#define FAILING(type, name, taken, given)                      \
-    type name taken {                                          \
+#define FAILING(type, name, taken, given) \
+    type name taken { \
         type(*next) taken = (type(*) taken)dlsym(RTLD_NEXT, #name); \
-        return fails(#name) ? (type)-1 : next given;           \
+        return fails(#name) ? (type)-1 : next given; \
     }
 
 FAILING(int, mkstemp, (char *name), (name))

@@ -1,5 +1,6 @@
-/* The doors of quotes with a fault each: a control of quote_test, which has to fail over every one of them and to pass over the fault 'none'.
- * quote_test is compiled with the doors' names replaced by those below; the environment's FAULT names the fault. */
+/* The doors of quotes with a fault each: a control of quote_test, which has to fail over every one
+ * of them and to pass over the fault 'none'. quote_test is compiled with the doors' names replaced
+ * by those below; the environment's FAULT names the fault. */
 #include "faulty.h"
 
 #define ASKED uint32_t row, int32_t price, ANSWER
@@ -23,7 +24,8 @@ static int32_t other_price(int32_t price) {
 static void spoil(uint8_t *answer, uint32_t n) {
     uint8_t before[8];
     memcpy(before, answer + 8, 8);
-    if (fault("seven-after-eleven") && answer[1] == STAR_BAD_SOURCE && n == 5) answer[1] = STAR_NO_NETWORK;
+    if (fault("seven-after-eleven") && answer[1] == STAR_BAD_SOURCE && n == 5)
+        answer[1] = STAR_NO_NETWORK;
     if (fault("place-of-the-row") && answer[1] == STAR_BAD_SOURCE) answer[2] = 1;
     if (fault("refusal-as-done") && answer[0] == STAR_REFUSED) answer[0] = STAR_PASSED;
     if (answer[0] != STAR_PASSED) return;
@@ -44,8 +46,10 @@ static int32_t added(const uint8_t *weight, size_t weight_len, uint32_t row, int
 
 uint32_t faulty_quote(uint32_t n, COLUMNS, ASKED) {
     uint32_t said;
-    if (fault("written-without-an-answer") && answer && answer_len != STAR_QUOTE_BYTES) answer[0] ^= 1;
-    said = star_quote(n, LENT, other_row(row, left_len), other_price(added(weight, weight_len, row, price)), answer, answer_len);
+    if (fault("written-without-an-answer") && answer && answer_len != STAR_QUOTE_BYTES)
+        answer[0] ^= 1;
+    said = star_quote(n, LENT, other_row(row, left_len),
+                      other_price(added(weight, weight_len, row, price)), answer, answer_len);
     if (fault("a-byte-past-the-answer") && said) answer[STAR_QUOTE_BYTES] ^= 1;
     if (said) spoil(answer, n);
     return fault("zero-returned") && said && answer[0] == STAR_REFUSED ? 0 : said;
@@ -55,7 +59,8 @@ uint32_t faulty_work_quote(uint32_t n, IN_USE, COLUMNS, ASKED) {
     uint32_t said;
     if (fault("struck-row-taken")) in_use = one_row_more(in_use, in_use_words, row);
     if (fault("all-rows-in-use")) in_use = all_rows(in_use, in_use_words);
-    said = star_work_quote(n, in_use, in_use_words, LENT, other_row(row, STAR_MAX_ROWS), other_price(added(weight, weight_len, row, price)), answer, answer_len);
+    said = star_work_quote(n, in_use, in_use_words, LENT, other_row(row, STAR_MAX_ROWS),
+                           other_price(added(weight, weight_len, row, price)), answer, answer_len);
     if (said) spoil(answer, n);
     return said;
 }

@@ -1,8 +1,10 @@
-/* The doors that say which plan stands, with a fault each: a control of which_test, which has to fail over every one of them and to pass over the
- * fault 'none'. which_test is compiled with the doors' names replaced by those below; the environment's FAULT names the fault. */
+/* The doors that say which plan stands, with a fault each: a control of which_test, which has to
+ * fail over every one of them and to pass over the fault 'none'. which_test is compiled with the
+ * doors' names replaced by those below; the environment's FAULT names the fault. */
 #include "faulty.h"
 
-#define PLANS const uint8_t *first, size_t first_len, const uint8_t *second, size_t second_len, ANSWER
+#define PLANS \
+    const uint8_t *first, size_t first_len, const uint8_t *second, size_t second_len, ANSWER
 
 uint32_t faulty_which(uint32_t n, COLUMNS, PLANS);
 uint32_t faulty_work_which(uint32_t n, IN_USE, COLUMNS, PLANS);
@@ -23,10 +25,12 @@ static uint32_t spoil(uint32_t said, uint8_t *answer, size_t answer_len) {
 uint32_t faulty_which(uint32_t n, COLUMNS, PLANS) {
     uint8_t other[STAR_ANSWER_BYTES];
     uint32_t said;
-    if (fault("written-without-an-answer") && answer && answer_len != STAR_ANSWER_BYTES) answer[0] ^= 1;
+    if (fault("written-without-an-answer") && answer && answer_len != STAR_ANSWER_BYTES)
+        answer[0] ^= 1;
     if (fault("refusals-of-the-second-first")) {
         said = star_which(n, LENT, second, second_len, first, first_len, other, sizeof other);
-        if (said == 0 && answer_len == STAR_ANSWER_BYTES) return memcpy(answer, other, sizeof other), 0;
+        if (said == 0 && answer_len == STAR_ANSWER_BYTES)
+            return memcpy(answer, other, sizeof other), 0;
     }
     if (fault("the-second-on-a-tie")) {
         said = star_which(n, LENT, second, second_len, first, first_len, answer, answer_len);
@@ -36,12 +40,15 @@ uint32_t faulty_which(uint32_t n, COLUMNS, PLANS) {
         star_cst(n, LENT, first, first_len, other, sizeof other);
         if (other[0] != STAR_PASSED) return memcpy(answer, other, sizeof other), 0;
     }
-    if (fault("lengths-first") && second_len != first_len && answer_len == STAR_ANSWER_BYTES) return memset(answer, 0, STAR_ANSWER_BYTES), answer[1] = STAR_BAD_LENGTHS, 0;
+    if (fault("lengths-first") && second_len != first_len && answer_len == STAR_ANSWER_BYTES)
+        return memset(answer, 0, STAR_ANSWER_BYTES), answer[1] = STAR_BAD_LENGTHS, 0;
     said = star_which(n, LENT, first, first_len, second, second_len, answer, answer_len);
     return spoil(said, answer, answer_len);
 }
 
 uint32_t faulty_work_which(uint32_t n, IN_USE, COLUMNS, PLANS) {
     if (fault("all-rows-in-use")) in_use = all_rows(in_use, in_use_words);
-    return spoil(star_work_which(n, in_use, in_use_words, LENT, first, first_len, second, second_len, answer, answer_len), answer, answer_len);
+    return spoil(star_work_which(n, in_use, in_use_words, LENT, first, first_len, second,
+                                 second_len, answer, answer_len),
+                 answer, answer_len);
 }

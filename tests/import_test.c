@@ -1,47 +1,16 @@
-/* Holds star_import to the plain reader of tests/stp, on the texts that tests/stp/generate.py wrote to a file, and to what it promises of the
- * lent bytes: guard bytes around every column and the answer, rows past m, columns and answers of wrong lengths, null pointers. All of it runs in a
+/* Holds star_import to the plain reader of tests/stp, on the texts that tests/stp/generate.py wrote
+ * to a file, and to what it promises of the lent bytes: guard bytes around every column and the
+ * answer, rows past m, columns and answers of wrong lengths, null pointers. All of it runs in a
  * thread with a stack of 1,280 KiB, which the header says is enough for any text.
- * usage: import_test FILE [EVERY]   takes each EVERYth text; prints one line 'N passed, M failed' */
-#define _POSIX_C_SOURCE 200809L
-#include <pthread.h>
+ * usage: import_test FILE [EVERY]   takes each EVERYth text; prints one line 'N passed, M
+ * failed' */
 #include <stdio.h>
 #include <stdlib.h>
 #include <string.h>
 
-#include "star.h"
+#include "lent.h"
 
-enum { GUARD = 64, ROWS = STAR_MAX_ROWS, ROOM = 4 * ROWS + 64, STACK = 1280 << 10, DEEPEST = 4677 };
-
-static uint64_t state = 88172645463325252u;
-
-static uint32_t any(uint32_t below) {
-    state ^= state << 13;
-    state ^= state >> 7;
-    state ^= state << 17;
-    return (uint32_t)((state >> 11) % below);
-}
-
-/* A lent column: len bytes with guard bytes before and after, and what it is to hold afterwards. */
-struct column {
-    uint8_t bytes[GUARD + ROOM + GUARD], expected[GUARD + ROOM + GUARD];
-    size_t len;
-};
-
-static struct column left, right, weight, answer;
-
-static void lend(struct column *c, size_t len) {
-    size_t i;
-    for (i = 0; i < sizeof c->bytes; i++) c->expected[i] = c->bytes[i] = (uint8_t)any(256);
-    c->len = len;
-}
-
-static uint8_t *at(struct column *c) { return c->bytes + GUARD; }
-
-static void expect(struct column *c, const uint8_t *bytes, size_t len) {
-    if (len) memcpy(c->expected + GUARD, bytes, len);
-}
-
-static int holds(const struct column *c) { return !memcmp(c->bytes, c->expected, sizeof c->bytes); }
+enum { ROWS = STAR_MAX_ROWS, DEEPEST = 4677 };
 
 /* A text of the file, with the plain reader's answer and rows. */
 struct item {
@@ -51,233 +20,198 @@ struct item {
     struct star_imported said;
 };
 
-static unsigned long passed, failed, refused[256], taken;
-static size_t deepest; /* the most sections of a text that was lent */
+/* The text that calls are about, its number in the file, and what it is lent. */
+static struct item text;
+static unsigned long number;
+static struct lent t;
 
-static size_t sections(const struct item *t) {
-    size_t i, k = 0;
-    for (i = 0; i + 8 <= t->len; i++) k += !memcmp(t->text + i, "\nSECTION", 8);
-    return k;
-}
-
-static void tell(int ok, const char *what, const struct item *t) {
-    if (ok) {
-        passed++;
-        return;
-    }
-    if (failed++ < 10)
-        fprintf(stderr, "%s: a text of %zu bytes, expected kind %u, number %u, place %llu; answered kind %u, number %u; it begins: %.60s\n", what, t->len,
-                t->said.kind, t->said.number, (unsigned long long)t->said.place, at(&answer)[0], at(&answer)[1], t->len ? (const char *)t->text : "");
-}
-
-/* Calls the door; the text is a copy in a block of its own length, so that a memory checker sees a byte read past it. */
-static int call(const struct item *t, uint32_t expected) {
-    uint8_t *text = t->len ? malloc(t->len) : NULL;
+/* The text is a copy in a block of its own length, so that a memory checker sees a byte read past
+   it. */
+static uint32_t door(struct lent *l) {
+    struct handed p = lent_hand(l);
+    uint8_t *copy = text.len ? malloc(text.len) : NULL;
     uint32_t said;
-    int ok;
-    if (t->len) memcpy(text, t->text, t->len);
-    said = star_import(text, t->len, left.len ? at(&left) : NULL, left.len, right.len ? at(&right) : NULL, right.len, weight.len ? at(&weight) : NULL,
-                       weight.len, answer.len ? at(&answer) : NULL, answer.len);
-    ok = said == expected && holds(&left) && holds(&right) && holds(&weight) && holds(&answer) && (!t->len || !memcmp(text, t->text, t->len));
-    free(text);
-    return ok;
+    if (text.len) memcpy(copy, text.text, text.len);
+    said = star_import(copy, text.len, TABLE(l, p), HANDED(l, p, ANSWER));
+    tell(!text.len || !memcmp(copy, text.text, text.len), "the text that is read");
+    free(copy);
+    return lent_back(l, p, said);
 }
 
-static void count(const uint8_t *a) {
-    if (a[0] == STAR_REFUSED) refused[a[1]]++;
-    else taken++;
-}
-
-/* Columns of the right lengths: the answer, the first m rows and no other byte. */
-static void right_lengths(const struct item *t) {
-    lend(&left, ROWS);
-    lend(&right, ROWS);
-    lend(&weight, 4 * ROWS);
-    lend(&answer, STAR_ANSWER_BYTES);
-    expect(&left, t->left, t->said.m);
-    expect(&right, t->right, t->said.m);
-    expect(&weight, t->weight, 4 * t->said.m);
-    expect(&answer, t->answer, STAR_ANSWER_BYTES);
-    tell(call(t, 1), "columns of the right lengths", t);
-    count(at(&answer));
-}
-
-/* Some column of a wrong length: 12, 13, 1 and 2 as before, else 3, and nothing written but the answer. */
-static void wrong_lengths(const struct item *t, size_t l, size_t r, size_t w) {
-    static const uint8_t three[STAR_ANSWER_BYTES] = {STAR_REFUSED, STAR_BAD_LENGTHS};
-    int before = t->said.kind == STAR_REFUSED && t->said.number != STAR_BAD_END && t->said.number != STAR_REPEATED_ROW;
-    lend(&left, l);
-    lend(&right, r);
-    lend(&weight, w);
-    lend(&answer, STAR_ANSWER_BYTES);
-    expect(&answer, before ? t->answer : three, STAR_ANSWER_BYTES);
-    tell(call(t, 1), "columns of wrong lengths", t);
-    count(at(&answer));
-}
-
-/* An answer of a wrong length: the call returns 0 and writes nothing. */
-static void wrong_answer(const struct item *t, size_t len) {
-    lend(&left, any(2) ? ROWS : 3);
-    lend(&right, any(2) ? ROWS : 0);
-    lend(&weight, 4 * ROWS);
-    lend(&answer, len);
-    tell(call(t, 0), "an answer of a wrong length", t);
-}
-
-/* A null pointer with length 0 for each column, alone and for all of them, with a text of one row. */
-static void nulls(void) {
-    static const char text[] = "33D32945\nSECTION Graph\nNodes 4\nEdges 1\nE 1 2 5\nEND\nEOF";
-    static const struct {
-        const char *empty; /* the columns that are lent as null pointers */
-        uint32_t returns;
-        unsigned kind, number, n, m;
-    } lent[] = {
-        {"", 1, STAR_PASSED, 0, 4, 1},
-        {"t", 1, STAR_REFUSED, STAR_BAD_TEXT, 0, 0},
-        {"l", 1, STAR_REFUSED, STAR_BAD_LENGTHS, 0, 0},
-        {"r", 1, STAR_REFUSED, STAR_BAD_LENGTHS, 0, 0},
-        {"w", 1, STAR_REFUSED, STAR_BAD_LENGTHS, 0, 0},
-        {"a", 0, 0, 0, 0, 0},
-        {"lrw", 1, STAR_REFUSED, STAR_BAD_LENGTHS, 0, 0},
-        {"tlrw", 1, STAR_REFUSED, STAR_BAD_TEXT, 0, 0},
-        {"tlrwa", 0, 0, 0, 0, 0},
-    };
-    static const uint8_t row[] = {1, 2, 5, 0, 0, 0};
-    size_t i;
-    for (i = 0; i < sizeof lent / sizeof lent[0]; i++) {
-        struct item t = {0};
-        const char *e = lent[i].empty;
-        uint8_t said[STAR_ANSWER_BYTES] = {0};
-        if (!strchr(e, 't')) t.text = (uint8_t *)text, t.len = sizeof text - 1;
-        lend(&left, strchr(e, 'l') ? 0 : ROWS);
-        lend(&right, strchr(e, 'r') ? 0 : ROWS);
-        lend(&weight, strchr(e, 'w') ? 0 : 4 * ROWS);
-        lend(&answer, strchr(e, 'a') ? 0 : STAR_ANSWER_BYTES);
-        said[0] = (uint8_t)lent[i].kind, said[1] = (uint8_t)lent[i].number, said[2] = (uint8_t)lent[i].n, said[4] = (uint8_t)lent[i].m;
-        expect(&answer, said, answer.len);
-        if (lent[i].m) expect(&left, row, 1), expect(&right, row + 1, 1), expect(&weight, row + 2, 4);
-        tell(call(&t, lent[i].returns), "null pointers", &t);
+/* 12, 13, 1 and 2 go before the lengths, 4 and 15 after them; only whole columns are written. */
+static uint32_t plain(struct lent *l) {
+    const struct star_imported *i = &text.said;
+    int later =
+        i->kind == STAR_PASSED || i->number == STAR_BAD_END || i->number == STAR_REPEATED_ROW;
+    int whole = l->len[LEFT] == ROWS && l->len[RIGHT] == ROWS && l->len[WEIGHT] == 4 * ROWS;
+    if (l->len[ANSWER] != STAR_ANSWER_BYTES) return 0;
+    if (!whole && later) {
+        memset(l->answer, 0, STAR_ANSWER_BYTES);
+        l->answer[1] = STAR_BAD_LENGTHS;
+        return 1;
     }
+    memcpy(l->answer, text.answer, STAR_ANSWER_BYTES);
+    memcpy(l->left, text.left, i->m);
+    memcpy(l->right, text.right, i->m);
+    memcpy(l->weight, text.weight, 4 * i->m);
+    return 1;
 }
 
-static void every_way(const struct item *t) {
-    static const size_t near[] = {0, 1, 4, 255, 1000, ROWS - 1, ROWS, ROWS + 1, ROWS + 4, 2 * ROWS, 4 * ROWS - 4, 4 * ROWS - 1, 4 * ROWS, 4 * ROWS + 1, 4 * ROWS + 4};
-    size_t l = ROWS, r = ROWS, w = 4 * ROWS, n = sizeof near / sizeof near[0];
-    size_t answers[] = {0, 1, 8, 15, 17, 32, 64};
-    right_lengths(t);
+/* Lends columns and an answer of some lengths. */
+static void one(size_t left, size_t right, size_t weight, size_t answer) {
+    struct shape none = {4, 0, 0, 0, 0};
+    char name[40];
+    lent_table(&t, none);
+    t.len[LEFT] = left;
+    t.len[RIGHT] = right;
+    t.len[WEIGHT] = weight;
+    t.len[ANSWER] = answer;
+    sprintf(name, "text %lu", number);
+    lent_ended(&t, lent_agree(&t, name, door, plain));
+}
+
+static size_t near_rows(void) {
+    static const size_t near[] = {0,        1,    4,        255,      1000,
+                                  ROWS - 1, ROWS, ROWS + 1, ROWS + 4, LENT_ROWS};
+    return near[any(sizeof near / sizeof near[0])];
+}
+
+static void every_way(void) {
+    static const size_t answers[] = {0, 1, 8, 15, 17, 32, 40};
+    size_t left = ROWS, right = ROWS, weight = 4 * ROWS;
+    one(left, right, weight, STAR_ANSWER_BYTES);
     switch (any(4)) {
-    case 0: l = near[any((uint32_t)n)]; break;
-    case 1: r = near[any((uint32_t)n)]; break;
-    case 2: w = near[any((uint32_t)n)]; break;
-    default: l = near[any((uint32_t)n)], r = any(2) ? l : near[any((uint32_t)n)], w = any(2) ? 4 * l : near[any((uint32_t)n)];
+    case 0: left = near_rows(); break;
+    case 1: right = near_rows(); break;
+    case 2: weight = 4 * near_rows() - any(2); break;
+    default:
+        left = near_rows();
+        right = any(2) ? left : near_rows();
+        weight = 4 * (any(2) ? left : near_rows());
     }
-    if (w > ROOM) w = ROOM;
-    if (l == ROWS && r == ROWS && w == 4 * ROWS) r--;
-    wrong_lengths(t, l, r, w);
-    wrong_answer(t, answers[any(sizeof answers / sizeof answers[0])]);
+    if (weight > 4 * LENT_ROWS) weight = 0;
+    if (left == ROWS && right == ROWS && weight == 4 * ROWS) right--;
+    one(left, right, weight, STAR_ANSWER_BYTES);
+    one(any(2) ? ROWS : 3, any(2) ? ROWS : 0, 4 * ROWS,
+        answers[any(sizeof answers / sizeof answers[0])]);
 }
 
-/* Every way to lend empty columns, or columns of m rows and no more, to one text that is read. */
-static void lent_short(const struct item *t) {
-    size_t m = t->said.m;
-    int i;
-    for (i = 0; i < 7; i++) wrong_lengths(t, i & 1 ? ROWS : 0, i & 2 ? ROWS : 0, i & 4 ? 4 * ROWS : 0);
-    if (m < ROWS) wrong_lengths(t, m, m, 4 * m);
-    for (i = 0; i <= 64; i++)
-        if (i != STAR_ANSWER_BYTES) wrong_answer(t, (size_t)i);
+/* Every way to lend empty columns, or columns of m rows and no more, to one text that is read; and
+   answers of every length. */
+static void lent_short(void) {
+    size_t m = text.said.m, i;
+    for (i = 0; i < 16; i++)
+        one(i & 1 ? ROWS : 0, i & 2 ? ROWS : 0, i & 4 ? 4 * ROWS : 0,
+            i & 8 ? STAR_ANSWER_BYTES : 0);
+    if (m < ROWS) one(m, m, 4 * m, STAR_ANSWER_BYTES);
+    for (i = 0; i <= 40; i++) one(ROWS, ROWS, 4 * ROWS, i);
 }
 
-/* What was imported goes on to the builder and to the check: its first m rows. All 1,024 rows are refused, since rows past m are no rows of the table. */
+/* What was imported goes on to the builder and to the check: its first m rows. All 1,024 rows are
+   refused, since rows past m are no rows of the table. */
 static void go_on(const char *yard, const uint8_t tree[5], int64_t total) {
     uint8_t l[ROWS] = {0}, r[ROWS] = {0}, w[4 * ROWS] = {0}, mark[ROWS] = {0}, a[STAR_ANSWER_BYTES];
     struct star_imported got;
     struct star_answer built;
-    struct item none = {0};
-    int ok = star_import((const uint8_t *)yard, strlen(yard), l, sizeof l, r, sizeof r, w, sizeof w, a, sizeof a) == 1;
+    star_import((const uint8_t *)yard, strlen(yard), l, ROWS, r, ROWS, w, 4 * ROWS, a, sizeof a);
     got = star_read_imported(a);
-    tell(ok && got.kind == STAR_PASSED && got.number == 0 && got.n == 4 && got.m == 5 && got.place == 0, "the yard", &none);
-    star_mst1(got.n, l, got.m, r, got.m, w, 4 * got.m, mark, got.m, a, sizeof a);
+    tell(got.kind == STAR_PASSED && got.number == 0 && got.n == 4 && got.m == 5 && got.place == 0,
+         "the yard");
+    star_mst1(4, l, 5, r, 5, w, 20, mark, 5, a, sizeof a);
     built = star_read_answer(a);
-    tell(built.kind == STAR_PASSED && built.amount == total && !memcmp(mark, tree, 5), "the yard, built", &none);
-    star_cst(got.n, l, got.m, r, got.m, w, 4 * got.m, mark, got.m, a, sizeof a);
+    tell(built.kind == STAR_PASSED && built.amount == total && !memcmp(mark, tree, 5),
+         "the yard, built");
+    star_cst(4, l, 5, r, 5, w, 20, mark, 5, a, sizeof a);
     built = star_read_answer(a);
-    tell(built.kind == STAR_PASSED && built.amount == total, "the yard, checked", &none);
-    star_mst1(got.n, l, ROWS, r, ROWS, w, 4 * ROWS, mark, ROWS, a, sizeof a);
+    tell(built.kind == STAR_PASSED && built.amount == total, "the yard, checked");
+    star_mst1(4, l, ROWS, r, ROWS, w, 4 * ROWS, mark, ROWS, a, sizeof a);
     built = star_read_answer(a);
-    tell(built.kind == STAR_REFUSED && built.number == STAR_BAD_END && built.out == 6, "the yard, all rows", &none);
+    tell(built.kind == STAR_REFUSED && built.number == STAR_BAD_END && built.out == 6,
+         "the yard, all rows");
 }
 
 static void yards(void) {
     static const uint8_t tree[5] = {1, 1, 0, 1, 0}, granted[5] = {0, 1, 0, 1, 1};
-    go_on("33D32945 the yard\nSECTION Graph\nNodes 4\nEdges 5\nE 1 2 5\nE 2 3 3\nE 3 4 5\nE 1 4 4\nE 1 3 6\nEND\nEOF\n", tree, 12);
-    go_on("33D32945 the yard with grants\nSECTION Graph\nNodes 4\nEdges 5\nE 1 2 5\nE 2 3 -3\nE 3 4 5\nE 1 4 -4\nE 1 3 -2147483648\nEND\nEOF\n", granted,
-          INT64_C(-2147483655));
+    go_on("33D32945 the yard\nSECTION Graph\nNodes 4\nEdges 5\nE 1 2 5\nE 2 3 3\nE 3 4 5\n"
+          "E 1 4 4\nE 1 3 6\nEND\nEOF\n",
+          tree, 12);
+    go_on("33D32945 the yard with grants\nSECTION Graph\nNodes 4\nEdges 5\nE 1 2 5\nE 2 3 -3\n"
+          "E 3 4 5\nE 1 4 -4\nE 1 3 -2147483648\nEND\nEOF\n",
+          granted, INT64_C(-2147483655));
+}
+
+/* No text: a null pointer with length 0, and nothing else either. */
+static void no_text(void) {
+    memset(&text, 0, sizeof text);
+    text.answer[1] = STAR_BAD_TEXT;
+    text.said = star_read_imported(text.answer);
+    lent_short();
 }
 
 static int get(FILE *in, uint8_t *to, size_t len) { return fread(to, 1, len, in) == len; }
 
 /* The next text of the file: 1, 0 at the end, -1 where the file is broken. */
-static int next(FILE *in, struct item *t) {
+static int next(FILE *in, struct item *i) {
     uint8_t size[4];
     size_t got = fread(size, 1, sizeof size, in);
     if (got == 0) return 0;
     if (got != sizeof size) return -1;
-    t->len = (size_t)size[0] | (size_t)size[1] << 8 | (size_t)size[2] << 16 | (size_t)size[3] << 24;
-    t->text = malloc(t->len + 1);
-    if (!t->text || !get(in, t->text, t->len) || !get(in, t->answer, sizeof t->answer)) return -1;
-    t->text[t->len] = '\0';
-    t->said = star_read_imported(t->answer);
-    if (t->said.m > ROWS) return -1;
-    return get(in, t->left, t->said.m) && get(in, t->right, t->said.m) && get(in, t->weight, 4 * t->said.m) ? 1 : -1;
+    i->len = (size_t)size[0] | (size_t)size[1] << 8 | (size_t)size[2] << 16 | (size_t)size[3] << 24;
+    i->text = malloc(i->len + 1);
+    if (!i->text || !get(in, i->text, i->len) || !get(in, i->answer, sizeof i->answer)) return -1;
+    i->said = star_read_imported(i->answer);
+    if (i->said.m > ROWS || !get(in, i->left, i->said.m) || !get(in, i->right, i->said.m))
+        return -1;
+    return get(in, i->weight, 4 * i->said.m) ? 1 : -1;
 }
 
 static const char *file;
 static unsigned long every = 1; /* a part of the texts need not have every refusal */
+static size_t deepest;          /* the most sections of a text that was lent */
+
+static size_t sections(const struct item *i) {
+    size_t k, count = 0;
+    for (k = 0; k + 8 <= i->len; k++) count += !memcmp(i->text + k, "\nSECTION", 8);
+    return count;
+}
+
+static void each_text(FILE *in) {
+    int more, whole = 0;
+    for (number = 0; (more = next(in, &text)) == 1; number++) {
+        size_t depth = sections(&text);
+        if (number % every == 0) {
+            every_way();
+            if (depth > deepest) deepest = depth;
+        }
+        if (text.said.kind == STAR_PASSED && text.said.m > 0 && !whole) {
+            lent_short();
+            whole = 1;
+        }
+        free(text.text);
+    }
+    tell(more == 0, "the file of texts is read");
+}
 
 static void *whole_test(void *unused) {
-    static const unsigned numbers[] = {12, 13, 1, 2, 3, 4, 15};
-    static struct item t;
-    unsigned long k;
+    static const unsigned numbers[] = {12, 13, 1, 2, 3, 4, 15, 0};
     FILE *in = file ? fopen(file, "rb") : NULL;
-    int more = in ? 1 : -1, whole = 0;
     size_t i;
-    for (k = 0; more == 1; k++) {
-        more = next(in, &t);
-        if (more == 1 && every && k % every == 0) {
-            every_way(&t);
-            if (sections(&t) > deepest) deepest = sections(&t);
-        }
-        if (more == 1 && t.said.kind == STAR_PASSED && t.said.m > 0 && !whole) lent_short(&t), whole = 1;
-        free(t.text);
-        t.text = NULL;
+    tell(in != NULL, "the file of texts is opened");
+    if (in) {
+        each_text(in);
+        fclose(in);
     }
-    if (in) fclose(in);
-    if (more < 0) fprintf(stderr, "the file of texts cannot be read\n"), failed++;
-    memset(&t, 0, sizeof t);
-    t.answer[1] = STAR_BAD_TEXT;
-    t.said = star_read_imported(t.answer);
-    right_lengths(&t);          /* no text: a null pointer with length 0 */
-    wrong_lengths(&t, 0, 0, 0); /* and nothing else either */
-    wrong_answer(&t, 0);
-    nulls();
+    no_text();
     yards();
-    for (i = 0; i < sizeof numbers / sizeof numbers[0]; i++)
-        if (every == 1 && !refused[numbers[i]]) fprintf(stderr, "no text was refused %u\n", numbers[i]), failed++;
-    if (!taken) fprintf(stderr, "no text was read\n"), failed++;
-    if (every == 1 && deepest < DEEPEST) fprintf(stderr, "no text had %d sections\n", DEEPEST), failed++;
-    (void)unused;
-    return NULL;
+    for (i = 0; numbers[i] && every == 1; i++) tell(refused[numbers[i]] > 0, "a refusal of a text");
+    tell(lent_done[0] > 0, "a text that is taken");
+    tell(every > 1 || deepest >= DEEPEST, "a text of the most sections");
+    return unused;
 }
 
 int main(int words, char **word) {
-    pthread_attr_t attr;
-    pthread_t thread;
     if (words > 1) file = word[1];
     if (words > 2) every = strtoul(word[2], NULL, 10);
-    if (pthread_attr_init(&attr) || pthread_attr_setstacksize(&attr, STACK) || pthread_create(&thread, &attr, whole_test, NULL) || pthread_join(thread, NULL)) {
-        fprintf(stderr, "no thread with a stack of %d bytes\n", STACK);
-        failed++;
-    }
-    printf("%lu passed, %lu failed\n", passed, failed);
-    return failed != 0;
+    tell(every > 0 && on_small_stack(whole_test, NULL, STACK_TEXT), "a thread of 1,280 KiB");
+    return told();
 }

@@ -1,59 +1,63 @@
-/* Holds star_outlets and star_work_outlets to what is promised of them: exactly t rows at r, a network, no other with t rows at r is cheaper, 19 exactly
- * where there is none, 11 exactly where the table is not connected, the refusals in their order, and nothing else written. On small tables every
- * network is listed; on all of them the total is found by sorted rows with a number added to the prices at r.
- * usage: outlets_test [TABLES [exact]]   prints one line 'N passed, M failed' at its end; exact: columns in memory of their own length */
+/* Holds star_outlets and star_work_outlets to what is promised of them: exactly t rows at r, a
+ * network, no other with t rows at r is cheaper, 19 exactly where there is none, 11 exactly where
+ * the table is not connected, the refusals in their order, and nothing else written. On small
+ * tables every network is listed; on all of them the total is found by sorted rows with a number
+ * added to the prices at r.
+ * usage: outlets_test [TABLES [exact]]   prints one line 'N passed, M failed' at its end; exact:
+ * columns in memory of their own length */
 #include <stdio.h>
 #include <string.h>
 
+#include "lent.h"
 #include "plain_outlets.h"
 
 /* What the tables came to: dearer ones cost more than a least network. */
-static unsigned long done, dearer, listed;
+static unsigned long dearer, listed;
 
-static uint32_t ask(struct lent *t) {
-    struct columns c;
-    uint32_t said;
-    plan_lend_columns(t, &c);
-    if (t->working) said = star_work_outlets(t->n, c.in_use, t->words, PLAN_COLUMNS(t, c), c.mark, t->mark_len, t->r, t->t, c.answer, t->answer_len);
-    else said = star_outlets(t->n, PLAN_COLUMNS(t, c), c.mark, t->mark_len, t->r, t->t, c.answer, t->answer_len);
-    plan_back_columns(t, &c);
-    return said;
+static uint32_t door(struct lent *t) {
+    struct handed p = lent_hand(t);
+    return lent_back(t, p,
+                     ASK(t, p, outlets, HANDED(t, p, MARK), t->at, t->count, HANDED(t, p, ANSWER)));
+}
+
+/* The rows of a table at the junction asked about; those that are marked alone, for marks. */
+static uint32_t here(const struct lent *t, const struct rows *r, const uint8_t *mark) {
+    uint32_t count = 0;
+    size_t k;
+    for (k = 0; k < r->m; k++)
+        if (!mark || mark[r->row[k] - 1]) count += r->a[k] == t->at || r->b[k] == t->at;
+    return count;
 }
 
 /* Whether the marks are a network with exactly t rows at r, of this total; 0 at rows not in use. */
 static int tree_holds(const struct lent *t, const struct rows *r, int64_t amount) {
     struct parts p;
-    size_t k, count = 0, all = 0, here = 0;
-    int64_t sum = 0;
+    size_t k, count = 0;
     parts_start(&p);
-    for (k = 0; k < plan_m(t); k++) {
-        if (t->mark[k] > 1) return 0;
-        all += t->mark[k];
-    }
+    for (k = 0; k < lent_m(t); k++)
+        if (t->mark[k] > lent_used(t, k + 1)) return 0;
     for (k = 0; k < r->m; k++) {
         if (!t->mark[r->row[k] - 1]) continue;
         if (!parts_join(&p, r->a[k], r->b[k])) return 0;
-        here += r->a[k] == t->r || r->b[k] == t->r;
         count++;
-        sum += r->price[k];
     }
-    return count == all && count + 1 == t->n && here == t->t && sum == amount;
+    return count + 1 == t->n && here(t, r, t->mark) == t->count && lent_sum(t, t->mark) == amount;
 }
 
 /* What is expected: a refusal, or a pass with the total. */
 static struct star_answer expected(const struct lent *t, const struct rows *r) {
-    struct star_answer a = plan_least(t);
+    struct star_answer a = lent_least(t, MARK);
     struct outlets o, all;
     if (a.kind == STAR_REFUSED && a.number != STAR_NO_NETWORK) return a;
-    if (t->r == 0 || t->r > t->n) return (struct star_answer){STAR_REFUSED, STAR_BAD_SOURCE, 0, 0, 0, 0};
+    if (t->at == 0 || t->at > t->n) return refusal(STAR_BAD_SOURCE, 0);
     if (a.kind == STAR_REFUSED) return a;
-    o = outlets_shifted(t->n, r, t->r, t->t);
+    o = outlets_shifted(r, t->at, t->count);
     if (t->n <= 6 && r->m <= 12) {
-        all = outlets_listed(t->n, r, t->r, t->t);
+        all = outlets_listed(t->n, r, t->at, t->count);
         tell(o.exists == all.exists && o.total == all.total, "the two plain ways");
         listed++;
     }
-    if (!o.exists) return (struct star_answer){STAR_REFUSED, STAR_NO_OUTLETS, 0, 0, 0, 0};
+    if (!o.exists) return refusal(STAR_NO_OUTLETS, 0);
     dearer += o.total > a.amount;
     a.amount = o.total;
     return a;
@@ -64,135 +68,145 @@ static void held(struct lent *t) {
     static struct rows r;
     struct star_answer a, judged;
     uint32_t said;
-    plan_rows(t, &r);
+    lent_rows(t, &r);
     a = expected(t, &r);
-    memcpy(&before, t, sizeof before);
-    said = ask(t);
-    if (plan_refused(t, &before, said, a)) return;
-    done++;
-    tell(said == 1 && plan_does(t->answer, a.amount), "the least total with exactly t rows");
+    lent_copy(&before, t);
+    said = door(t);
+    if (lent_refused(t, &before, said, a)) return;
+    lent_ended(t, said);
+    tell(said == 1 && lent_does(t, a.amount), "the least total with exactly t rows");
     tell(tree_holds(t, &r, a.amount), "the network with exactly t rows");
-    judged = plan_judged(t);
-    tell(judged.kind == (a.amount == plan_least(t).amount ? STAR_PASSED : STAR_LIGHTER), "the check of the network");
+    judged = lent_judged(t);
+    tell(judged.kind == (a.amount == lent_least(t, MARK).amount ? STAR_PASSED : STAR_LIGHTER),
+         "the check of the network");
     memcpy(before.answer, t->answer, STAR_ANSWER_BYTES);
-    memcpy(before.mark, t->mark, t->mark_len);
-    tell(!memcmp(t, &before, sizeof before), "what is not written");
+    memcpy(before.mark, t->mark, t->len[MARK]);
+    tell(lent_same(t, &before), "what is not written");
 }
 
-/* A count at r that is mostly possible. */
+/* A count at a junction that is mostly possible. */
 static void question(struct lent *t) {
     static struct rows r;
-    uint32_t here = 0;
-    size_t k;
-    t->r = any(40) ? 1 + any(t->n) : any(2) ? 0 : t->n + 1 + any(300);
-    plan_rows(t, &r);
-    for (k = 0; k < r.m; k++) here += r.a[k] == t->r || r.b[k] == t->r;
-    t->t = any(10) ? 1 + any(here) : any(4) ? any(here + 3) : any(2) ? 256 + any(here + 1) : (uint32_t)bits();
+    uint32_t most;
+    t->at = 1 + any(t->n);
+    if (any(80) == 0) t->at = 0;
+    if (any(80) == 0) t->at = t->n + 1 + any(300);
+    lent_rows(t, &r);
+    most = here(t, &r, NULL);
+    t->count = 1 + any(most);
+    if (any(13) == 0) t->count = any(most + 3);
+    if (any(80) == 0) t->count = 256 + any(most + 1);
+    if (any(80) == 0) t->count = (uint32_t)bits();
 }
 
-/* The yard, or its rows in use: the total, 0 for the refusal. */
-static void known(const char *in_use, uint32_t r, uint32_t count, unsigned number, int64_t total, const char *marked) {
+/* The yard, or its rows in use: the total and the marks, where these are known. */
+static void known(const char *in_use, uint32_t r, uint32_t count, int64_t total,
+                  const char *marked) {
     static struct lent t;
     size_t i;
     int ok = 1;
-    plan_yard(&t, in_use);
-    t.r = r;
-    t.t = count;
+    lent_yard(&t, in_use);
+    t.at = r;
+    t.count = count;
     held(&t);
-    if (number) {
-        tell(plan_refuses(t.answer, number, 0), "a known refusal");
-        return;
-    }
-    for (i = 0; i < 5 && *marked; i++) ok = ok && t.mark[i] == (strchr(marked, (int)('1' + i)) != NULL);
-    tell(ok && plan_does(t.answer, total), "the yard's known total");
+    for (i = 0; i < 5 && *marked; i++)
+        ok = ok && t.mark[i] == (strchr(marked, (int)('1' + i)) != NULL);
+    tell(ok && lent_does(&t, total), "the yard's known total");
 }
 
-/* Rows 1-2 5, 1-3 5, 2-3 -10: with the greatest price at 1 added to all others, row 3 would still come first. */
-static void below_0(void) {
+static void known_refusal(const char *in_use, uint32_t r, uint32_t count, unsigned number) {
     static struct lent t;
-    uint32_t count;
-    for (count = 1; count <= 2; count++) {
-        plan_yard(&t, NULL);
+    lent_yard(&t, in_use);
+    t.at = r;
+    t.count = count;
+    held(&t);
+    tell(lent_refuses(&t, number, 0), "a known refusal");
+}
+
+/* Rows 1-2 5, 1-3 5, 2-3 -10: with the greatest price at 1 added to all others, row 3 would still
+   come first. */
+static void below_0(void) {
+    static const uint8_t left[] = {1, 1, 2}, right[] = {2, 3, 3};
+    static const int32_t price[] = {5, 5, -10};
+    static struct lent t;
+    for (lent_yard(&t, NULL), t.count = 1; t.count <= 2; t.count++) {
         t.n = 3;
-        t.left_len = t.right_len = t.mark_len = 3;
-        t.weight_len = 12;
-        t.left[1] = 1;
-        t.left[2] = 2;
-        t.right[2] = 3;
-        star_put_price(t.weight, 1, 5);
-        star_put_price(t.weight, 2, -10);
-        t.r = 1;
-        t.t = count;
+        lent_put(&t, 3, left, right, price);
         held(&t);
-        tell(plan_does(t.answer, count == 1 ? -5 : 10), "a price below 0");
+        tell(lent_does(&t, t.count == 1 ? -5 : 10), "a price below 0");
     }
+}
+
+/* 254 rows at junction 1, of which all but one go out; then the pairs without 1, in their order. */
+static void many_at_1(struct lent *t) {
+    unsigned a = 1, b = 1;
+    size_t i;
+    for (i = 0; i < STAR_MAX_ROWS; i++) {
+        if (++b > 255) b = ++a + 1;
+        t->left[i] = (uint8_t)a;
+        t->right[i] = (uint8_t)b;
+    }
+    t->at = t->count = 1;
+}
+
+static void ready(struct lent *t) {
+    many_at_1(t);
+    held(t);
 }
 
 static void cases(void) {
     static struct lent t;
     uint32_t k;
-    known(NULL, 1, 1, 0, 12, "");
-    known(NULL, 1, 2, 0, 12, "");
-    known(NULL, 1, 3, 0, 15, "145");
-    known(NULL, 3, 1, 0, 12, "");
-    known(NULL, 3, 2, 0, 12, "");
-    known(NULL, 3, 3, 0, 14, "235");
-    for (k = 2; k <= 4; k += 2) known(NULL, k, 1, 0, 12, ""), known(NULL, k, 2, 0, 12, ""), known(NULL, k, 3, STAR_NO_OUTLETS, 0, "");
-    known(NULL, 1, 0, STAR_NO_OUTLETS, 0, "");
-    known(NULL, 1, 4, STAR_NO_OUTLETS, 0, "");
-    known(NULL, 1, 257, STAR_NO_OUTLETS, 0, "");
-    known(NULL, 1, (uint32_t)-1, STAR_NO_OUTLETS, 0, "");
-    known(NULL, 0, 1, STAR_BAD_SOURCE, 0, "");
-    known(NULL, 5, 1, STAR_BAD_SOURCE, 0, "");
-    known(NULL, 257, 1, STAR_BAD_SOURCE, 0, "");
-    known("135", 3, 2, 0, 16, "135");
-    known("135", 1, 1, STAR_NO_OUTLETS, 0, "");
-    known("15", 1, 1, STAR_NO_NETWORK, 0, "");
-    known("15", 9, 1, STAR_BAD_SOURCE, 0, "");
-    below_0();
-    plan_yard(&t, NULL); /* one junction, no row */
-    t.n = t.r = 1;
-    t.left_len = t.right_len = t.weight_len = t.mark_len = t.t = 0;
-    held(&t);
-    tell(plan_does(t.answer, 0), "one junction");
-    t.t = 1;
-    held(&t);
-    tell(plan_refuses(t.answer, STAR_NO_OUTLETS, 0), "one junction and a row");
-    for (k = 0; k < 2; k++) { /* 254 rows at junction 1, of which all but one go out */
-        size_t i;
-        plan_table(&t, 255, STAR_MAX_ROWS, 1, (int)k);
-        for (i = 0; i < STAR_MAX_ROWS; i++) {
-            t.left[i] = (uint8_t)(i < 254 ? 1 : 2 + (i - 254) / 253);
-            t.right[i] = (uint8_t)(i < 254 ? 2 + i : t.left[i] + 1 + (i - 254) % 253);
-        }
-        for (i = 254; i < STAR_MAX_ROWS; i++) { /* the pairs without 1, in their order */
-            size_t a = i == 254 ? 2 : t.left[i - 1], b = i == 254 ? 3 : (size_t)t.right[i - 1] + 1;
-            if (b > 255) a++, b = a + 1;
-            t.left[i] = (uint8_t)a;
-            t.right[i] = (uint8_t)b;
-        }
-        t.r = t.t = 1;
-        tell(plan_small_stack(ask, &t, STACK) && t.answer[0] == STAR_PASSED, "a thread of 160 KiB");
-        held(&t);
+    lends = LENDS(MARK);
+    for (k = 1; k <= 2; k++) {
+        known(NULL, 1, k, 12, "");
+        known(NULL, 3, k, 12, "");
+        known(NULL, 2, k, 12, "");
+        known(NULL, 4, k, 12, "");
     }
-    plan_lengths(held);
+    known(NULL, 1, 3, 15, "145");
+    known(NULL, 3, 3, 14, "235");
+    known("135", 3, 2, 16, "135");
+    known_refusal(NULL, 2, 3, STAR_NO_OUTLETS);
+    known_refusal(NULL, 4, 3, STAR_NO_OUTLETS);
+    known_refusal(NULL, 1, 0, STAR_NO_OUTLETS);
+    known_refusal(NULL, 1, 4, STAR_NO_OUTLETS);
+    known_refusal(NULL, 1, 257, STAR_NO_OUTLETS);
+    known_refusal(NULL, 1, (uint32_t)-1, STAR_NO_OUTLETS);
+    known_refusal(NULL, 0, 1, STAR_BAD_SOURCE);
+    known_refusal(NULL, 5, 1, STAR_BAD_SOURCE);
+    known_refusal(NULL, 257, 1, STAR_BAD_SOURCE);
+    known_refusal("135", 1, 1, STAR_NO_OUTLETS);
+    known_refusal("15", 1, 1, STAR_NO_NETWORK);
+    known_refusal("15", 9, 1, STAR_BAD_SOURCE);
+    below_0();
+    lent_yard(&t, NULL); /* one junction, no row */
+    lent_no_rows(&t);
+    t.count = 0;
+    held(&t);
+    tell(lent_does(&t, 0), "one junction");
+    t.count = 1;
+    held(&t);
+    tell(lent_refuses(&t, STAR_NO_OUTLETS, 0), "one junction and a row");
+    lent_small_stacks(door, ready, STACK);
+    lent_each_length(held);
 }
 
 static void table(unsigned long k) {
     static struct lent t;
-    plan_make(&t, k);
+    lent_make(&t, k);
     question(&t);
-    if (any(6) == 0) plan_damage(&t);
+    if (any(7) == 0) lent_damage(&t);
     held(&t);
 }
 
 int main(int count, char **words) {
     static const unsigned numbers[] = {3, 4, 7, 11, 15, 19, 0};
     unsigned long tables = run(count, words, 20000, cases, table);
-    tell(2 * done >= tables && 5 * dearer >= tables && 4 * listed >= tables, "the share of tables that are not refused, and cost more than the least");
-    tell(50 * refused[3] >= tables && 50 * refused[19] >= tables && 50 * refused[11] >= tables && 100 * refused[7] >= tables, "the share of the refusals");
-    printf("outlets: %lu tables, %lu not refused, %lu of them dearer than a least network, %lu listed; ", tables, done, dearer, listed);
-    print_refused(numbers);
-    printf("\n");
-    return told();
+    share(lent_done[0] + lent_done[1], 2, tables, "the share of tables that are not refused");
+    share(dearer, 5, tables, "the share of tables that cost more than the least");
+    share(listed, 4, tables, "the share of tables whose networks are listed");
+    share(refused[STAR_NO_OUTLETS], 50, tables, "the share of no outlets");
+    printf("%lu dearer than a least network, %lu listed\n", dearer, listed);
+    return lent_told("outlets", tables, 200, numbers);
 }

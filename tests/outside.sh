@@ -18,14 +18,10 @@ add() {
     fi
 }
 
-"$build/door_test" 200000 | tee "$work/door"
-add "$work/door"
-
-# The same tests over doors with a fault each fail, and over doors with none do not.
-controls() { # PROGRAM FAULTS..
+# The same tests over doors with a fault each fail, and over doors with none do not. The faults are those that a source names.
+controls() { # PROGRAM SOURCE
     local program=$1 fault
-    shift
-    for fault in none "$@"; do
+    for fault in none $(grep -o 'fault("[^"]*")' "$2" | cut -d '"' -f 2 | sort -u); do
         FAULT=$fault "$build/$program" 2000 >"$work/faulty" 2>&1
         if [ $? = 0 ] && [ "$fault" != none ] || ! [[ $(tail -n 1 "$work/faulty") =~ failed$ ]]; then
             echo "$program does not find the fault $fault"
@@ -36,33 +32,15 @@ controls() { # PROGRAM FAULTS..
         else passed=$((passed + 1)); fi
     done
 }
-controls door_test_faulty always-only never-only only-swapped only-and-lighter only-and-refused only-and-built repeat-at-an-end repeat-above other-rows-swapped other-rows-lacking other-next-row \
-    paths-from-one paths-last-column paths-past-the-matrix paths-refusal-as-done
 
-# Working tables, in the same way; the faults are those that faulty_work.c names.
-"$build/work_test" 50000 | tee "$work/working"
-add "$work/working"
-controls work_test_faulty $(sed -n 's/.*fault("\([^"]*\)").*/\1/p' tests/faulty_work.c)
-
-# Questions about a table: the quote, the breaking price, which plan stands, the dig list.
-for asked in quote breaking which digs; do
-    "$build/${asked}_test" 20000 | tee "$work/asked"
-    add "$work/asked"
-    controls "${asked}_test_faulty" $(sed -n 's/.*fault("\([^"]*\)").*/\1/p' "tests/faulty_$asked.c")
-done
-
-# Districts, mends and outlets, in the same way: a name and how many tables.
-for plan in 'districts 50000' 'mend 50000' 'outlets 20000'; do
-    read -r name tables <<<"$plan"
-    "$build/${name}_test" "$tables" | tee "$work/$name"
+# The doors, a name and how many tables each; the short calls over a table last.
+doors='door work quote breaking which digs districts mend outlets'
+declare -A tables=([door]=200000 [work]=50000 [districts]=50000 [mend]=50000 [table]=200000)
+for name in $doors table; do
+    "$build/${name}_test" "${tables[$name]:-20000}" | tee "$work/$name"
     add "$work/$name"
-    controls "${name}_test_faulty" $(grep -o 'fault("[^"]*")' "tests/faulty_$name.c" | cut -d '"' -f 2 | sort -u)
+    controls "${name}_test_faulty" "tests/faulty_$name.c"
 done
-
-# The short calls over a table, in the same way.
-"$build/table_test" 200000 | tee "$work/table"
-add "$work/table"
-controls table_test_faulty $(grep -o 'fault("[^"]*")' tests/faulty_table.c | cut -d '"' -f 2 | sort -u)
 
 # The import, on texts whose answers a plain reader gives: the door, in a thread of 1,280 KiB, and the program.
 python3 -B tests/stp/generate.py "$work/texts"
@@ -83,10 +61,9 @@ memory() { # PROGRAM WORDS..
     fi
 }
 if command -v valgrind >/dev/null; then
-    memory "$build/door_test" 150
+    memory "$build/door_test" 150 exact
     memory "$build/work_test" 1000 exact
-    for asked in quote breaking which digs; do memory "$build/${asked}_test" 300 exact; done
-    for name in districts mend outlets; do memory "$build/${name}_test" 300 exact; done
+    for name in quote breaking which digs districts mend outlets; do memory "$build/${name}_test" 300 exact; done
     memory "$build/import_test" "$work/texts" 20
     memory "$build/table_test" 2000
     for words in 'draw console/examples/t2.txt' 'build tests/console/build-refused11.txt' 'check tests/console/check-refused4.txt' \

@@ -12,7 +12,8 @@ static int32_t price_of(const struct call *c, size_t i) {
     return top * 16777216 + w[2] * 65536 + w[1] * 256 + w[0];
 }
 
-static void put(uint8_t *answer, unsigned kind, unsigned number, unsigned out, unsigned in, unsigned only, int64_t amount) {
+static void put(uint8_t *answer, unsigned kind, unsigned number, unsigned out, unsigned in,
+                unsigned only, int64_t amount) {
     int i;
     memset(answer, 0, 16);
     answer[0] = (uint8_t)kind;
@@ -35,14 +36,17 @@ static int bad_table(const struct call *c, uint8_t *answer) {
     size_t m = c->left_len, i, k;
     if (c->n == 0 || c->n > MAX_N) return refuse(answer, 1, 0);
     if (m > MAX_M) return refuse(answer, 2, 0);
-    if (c->right_len != m || c->mark_len != m || c->weight_len != 4 * m) return refuse(answer, 3, 0);
+    if (c->right_len != m || c->mark_len != m || c->weight_len != 4 * m)
+        return refuse(answer, 3, 0);
     for (i = 0; i < m; i++) {
         unsigned a = c->left[i], b = c->right[i];
         if (a == 0 || b == 0 || a > c->n || b > c->n || a == b) return refuse(answer, 4, i + 1);
     }
     for (i = 0; i < m; i++)
         for (k = 0; k < i; k++)
-            if ((c->left[i] == c->left[k] && c->right[i] == c->right[k]) || (c->left[i] == c->right[k] && c->right[i] == c->left[k])) return refuse(answer, 15, i + 1);
+            if ((c->left[i] == c->left[k] && c->right[i] == c->right[k]) ||
+                (c->left[i] == c->right[k] && c->right[i] == c->left[k]))
+                return refuse(answer, 15, i + 1);
     return 0;
 }
 
@@ -59,7 +63,8 @@ static int by_price(const void *x, const void *y) {
     return a < b ? -1 : a > b;
 }
 
-size_t plain_tree(uint32_t n, const uint8_t *left, const uint8_t *right, const int32_t *price, size_t m, uint8_t *mark) {
+size_t plain_tree(uint32_t n, const uint8_t *left, const uint8_t *right, const int32_t *price,
+                  size_t m, uint8_t *mark) {
     uint16_t order[MAX_M];
     int up[MAX_N + 1];
     size_t i, chosen = 0;
@@ -97,7 +102,8 @@ uint32_t plain_mst1(const struct call *c, uint8_t *answer, size_t answer_len) {
     return 1;
 }
 
-/* Hangs the marked rows below vertex s: each vertex's parent, the row to it, and its depth (0: not reached). */
+/* Hangs the marked rows below vertex s: each vertex's parent, the row to it, and its depth (0: not
+   reached). */
 struct hung {
     int parent[MAX_N + 1], row[MAX_N + 1], depth[MAX_N + 1];
 };
@@ -124,7 +130,8 @@ static void hang(const struct call *c, uint32_t s, struct hung *h) {
 
 /* The rows on the path between two vertices. */
 struct path {
-    int heavier, equal; /* the uppermost row heavier than w, and the uppermost of weight w; 0 for none */
+    int heavier, equal;   /* the uppermost row heavier than w, and the uppermost of weight w; 0 for
+                             none */
     unsigned long equals; /* how many have weight w */
 };
 
@@ -145,7 +152,8 @@ static struct path path_of(const struct call *c, const struct hung *h, int a, in
 }
 
 /* Causes 6, then 7 and 8 where there is a matrix, 9 and 10, for paths from s. */
-static int bad_claim(const struct call *c, uint32_t s, size_t words, int matrix, struct hung *h, uint8_t *answer) {
+static int bad_claim(const struct call *c, uint32_t s, size_t words, int matrix, struct hung *h,
+                     uint8_t *answer) {
     size_t m = c->left_len, marks = 0, i;
     uint32_t v;
     for (i = 0; i < m; i++)
@@ -177,7 +185,8 @@ static uint32_t judge(const struct call *c, int other, uint8_t *answer, size_t a
         }
         p = path_of(c, &h, c->left[i], c->right[i], price_of(c, i));
         if (p.heavier) {
-            put(answer, 2, 0, (unsigned)p.heavier, (unsigned)i + 1, 0, (int64_t)price_of(c, (size_t)p.heavier - 1) - price_of(c, i));
+            put(answer, 2, 0, (unsigned)p.heavier, (unsigned)i + 1, 0,
+                (int64_t)price_of(c, (size_t)p.heavier - 1) - price_of(c, i));
             return 1;
         }
         if (other && p.equal && !in) out = (unsigned)p.equal, in = (unsigned)i + 1;
@@ -187,11 +196,16 @@ static uint32_t judge(const struct call *c, int other, uint8_t *answer, size_t a
     return 1;
 }
 
-uint32_t plain_cst(const struct call *c, uint8_t *answer, size_t answer_len) { return judge(c, 0, answer, answer_len); }
+uint32_t plain_cst(const struct call *c, uint8_t *answer, size_t answer_len) {
+    return judge(c, 0, answer, answer_len);
+}
 
-uint32_t plain_other(const struct call *c, uint8_t *answer, size_t answer_len) { return judge(c, 1, answer, answer_len); }
+uint32_t plain_other(const struct call *c, uint8_t *answer, size_t answer_len) {
+    return judge(c, 1, answer, answer_len);
+}
 
-uint32_t plain_paths(const struct call *c, uint32_t s, uint64_t *matrix, size_t words, uint8_t *answer, size_t answer_len) {
+uint32_t plain_paths(const struct call *c, uint32_t s, uint64_t *matrix, size_t words,
+                     uint8_t *answer, size_t answer_len) {
     struct hung h;
     uint32_t v;
     if (answer_len != 16) return 0;

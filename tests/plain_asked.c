@@ -27,19 +27,24 @@ static uint32_t put(uint8_t *answer, unsigned kind, unsigned number, int64_t amo
 }
 
 /* The rows that are regarded: how many there can be, and whether row i, counted from 1, is one. */
-static size_t rows_of(const struct in_use *u, const struct call *c) { return u ? ROWS : c->left_len; }
+static size_t rows_of(const struct in_use *u, const struct call *c) {
+    return u ? ROWS : c->left_len;
+}
 
 static int regarded(const struct in_use *u, const struct call *c, size_t i) {
     if (i < 1 || i > rows_of(u, c)) return 0;
     return !u || (u->words[(i - 1) / 64] >> (i - 1) % 64) % 2 == 1;
 }
 
-/* The least total, or the refusal of a table; marks of the length that fits are lent, so that no fault of theirs is told. */
-static void mark_tree(const struct in_use *u, const struct call *c, uint8_t mark[ROWS], uint8_t answer[16]) {
+/* The least total, or the refusal of a table; marks of the length that fits are lent, so that no
+   fault of theirs is told. */
+static void mark_tree(const struct in_use *u, const struct call *c, uint8_t mark[ROWS],
+                      uint8_t answer[16]) {
     struct call own = *c;
     memset(mark, 0, ROWS);
     own.mark = mark;
-    own.mark_len = u ? ROWS : c->left_len; /* above 1,024 it is refused before marks are looked at */
+    own.mark_len = u ? ROWS : c->left_len; /* above 1,024 it is refused before marks are looked
+                                              at */
     if (u) plain_work_mst1(*u, &own, answer, 16);
     else plain_mst1(&own, answer, 16);
 }
@@ -57,7 +62,8 @@ static int refused(const struct in_use *u, const struct call *c, uint32_t row, u
     return answer[0] == 0;
 }
 
-uint32_t plain_quote(const struct in_use *u, const struct call *c, uint32_t row, int32_t price, uint8_t *answer, size_t answer_len) {
+uint32_t plain_quote(const struct in_use *u, const struct call *c, uint32_t row, int32_t price,
+                     uint8_t *answer, size_t answer_len) {
     uint8_t weight[4 * ROWS], after[16];
     struct call changed = *c;
     int k;
@@ -65,7 +71,8 @@ uint32_t plain_quote(const struct in_use *u, const struct call *c, uint32_t row,
     memset(answer, 0, QUOTE);
     if (refused(u, c, row, answer)) return 1;
     memcpy(weight, c->weight, c->weight_len);
-    for (k = 0; k < 4; k++) weight[4 * (row - 1) + (size_t)k] = (uint8_t)((uint32_t)price >> (8 * k));
+    for (k = 0; k < 4; k++)
+        weight[4 * (row - 1) + (size_t)k] = (uint8_t)((uint32_t)price >> (8 * k));
     changed.weight = weight;
     build(u, &changed, after);
     put_number(answer + 16, number_at(after + 8));
@@ -77,7 +84,8 @@ static int64_t price_of(const struct call *c, size_t i) {
     return (w[3] < 128 ? w[3] : w[3] - 256) * (int64_t)16777216 + w[2] * 65536 + w[1] * 256 + w[0];
 }
 
-/* Whether rows of at most a price join the ends of a row without it: the vertices reached are spread row by row until no more come. */
+/* Whether rows of at most a price join the ends of a row without it: the vertices reached are
+   spread row by row until no more come. */
 static int joined(const struct in_use *u, const struct call *c, size_t row, int64_t most) {
     uint8_t reached[MAX_N + 1] = {0};
     size_t i;
@@ -93,7 +101,8 @@ static int joined(const struct in_use *u, const struct call *c, size_t row, int6
     return reached[c->right[row - 1]];
 }
 
-uint32_t plain_breaking(const struct in_use *u, const struct call *c, uint32_t row, uint8_t *answer, size_t answer_len) {
+uint32_t plain_breaking(const struct in_use *u, const struct call *c, uint32_t row, uint8_t *answer,
+                        size_t answer_len) {
     int64_t low = INT32_MIN, high = INT32_MAX;
     if (answer_len != 16) return 0;
     if (refused(u, c, row, answer)) return 1;
@@ -107,7 +116,8 @@ uint32_t plain_breaking(const struct in_use *u, const struct call *c, uint32_t r
 }
 
 /* The total of a plan that is a tree, or its refusal as star_cst gives it. */
-static int tree(const struct in_use *u, const struct call *c, struct marks plan, uint8_t answer[16], int64_t *total) {
+static int tree(const struct in_use *u, const struct call *c, struct marks plan, uint8_t answer[16],
+                int64_t *total) {
     struct call own = *c;
     size_t i;
     own.mark = (uint8_t *)plan.at;
@@ -116,11 +126,13 @@ static int tree(const struct in_use *u, const struct call *c, struct marks plan,
     else plain_cst(&own, answer, 16);
     if (answer[0] == 0) return 0;
     *total = 0;
-    for (i = 1; i <= rows_of(u, c); i++) *total += regarded(u, c, i) && plan.at[i - 1] == 1 ? price_of(c, i) : 0;
+    for (i = 1; i <= rows_of(u, c); i++)
+        *total += regarded(u, c, i) && plan.at[i - 1] == 1 ? price_of(c, i) : 0;
     return 1;
 }
 
-uint32_t plain_which(const struct in_use *u, const struct call *c, struct marks first, struct marks second, uint8_t *answer, size_t answer_len) {
+uint32_t plain_which(const struct in_use *u, const struct call *c, struct marks first,
+                     struct marks second, uint8_t *answer, size_t answer_len) {
     int64_t total[2];
     if (answer_len != 16) return 0;
     if (!tree(u, c, first, answer, &total[0]) || !tree(u, c, second, answer, &total[1])) return 0;
@@ -128,7 +140,8 @@ uint32_t plain_which(const struct in_use *u, const struct call *c, struct marks 
     return total[1] < total[0] ? 2 : 1;
 }
 
-uint32_t plain_digs(const struct in_use *u, const struct call *c, uint8_t *text, size_t text_len, uint8_t *answer, size_t answer_len) {
+uint32_t plain_digs(const struct in_use *u, const struct call *c, uint8_t *text, size_t text_len,
+                    uint8_t *answer, size_t answer_len) {
     char line[80];
     uint8_t mark[ROWS];
     size_t i, len = 0, k;
@@ -136,8 +149,11 @@ uint32_t plain_digs(const struct in_use *u, const struct call *c, uint8_t *text,
     mark_tree(u, c, mark, answer);
     if (answer[0] == 0) return 1;
     for (i = 1; i <= rows_of(u, c) + 1; i++) {
-        if (i > rows_of(u, c)) k = (size_t)snprintf(line, sizeof line, "Total %" PRId64 "\n", number_at(answer + 8));
-        else if (mark[i - 1] == 1) k = (size_t)snprintf(line, sizeof line, "%zu %u %u %" PRId64 "\n", i, c->left[i - 1], c->right[i - 1], price_of(c, i));
+        if (i > rows_of(u, c))
+            k = (size_t)snprintf(line, sizeof line, "Total %" PRId64 "\n", number_at(answer + 8));
+        else if (mark[i - 1] == 1)
+            k = (size_t)snprintf(line, sizeof line, "%zu %u %u %" PRId64 "\n", i, c->left[i - 1],
+                                 c->right[i - 1], price_of(c, i));
         else continue;
         memcpy(text + len, line, k);
         len += k;

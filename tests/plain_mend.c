@@ -9,7 +9,8 @@ static void record(struct star_record *list, size_t *count, uint32_t kind, size_
     ++*count;
 }
 
-/* The marked rows at each junction, as lists: first has the head, next the one after, by index of row and side. */
+/* The marked rows at each junction, as lists: first has the head, next the one after, by index of
+   row and side. */
 struct near {
     int first[STAR_MAX_JUNCTIONS + 1], next[2 * STAR_MAX_ROWS];
 };
@@ -26,8 +27,10 @@ static void put_near(struct near *l, const struct rows *r, const uint8_t *mark) 
         }
 }
 
-/* The dearest row, by its index, the uppermost of them, on the way from one junction to another along marked rows; -1 where there is no way. */
-static int dearest(const struct near *l, const struct rows *r, unsigned at, unsigned from, unsigned to, int worst) {
+/* The dearest row, by its index, the uppermost of them, on the way from one junction to another
+   along marked rows; -1 where there is no way. */
+static int dearest(const struct near *l, const struct rows *r, unsigned at, unsigned from,
+                   unsigned to, int worst) {
     int e;
     if (at == to) return worst;
     for (e = l->first[at]; e >= 0; e = l->next[e]) {
@@ -41,11 +44,10 @@ static int dearest(const struct near *l, const struct rows *r, unsigned at, unsi
     return -1;
 }
 
-size_t plain_mend(uint32_t n, const struct rows *r, uint8_t *mark, struct star_record *list) {
+size_t plain_mend(const struct rows *r, uint8_t *mark, struct star_record *list) {
     static struct near l;
     struct parts p;
     size_t k, count = 0;
-    (void)n;
     parts_start(&p);
     for (k = 0; k < r->m; k++)
         if (mark[r->row[k] - 1] && !parts_join(&p, r->a[k], r->b[k])) {

@@ -2,29 +2,30 @@
 
 #include <stdlib.h>
 
-static int is_at(const struct rows *r, size_t k, uint32_t at) { return r->a[k] == at || r->b[k] == at; }
+static int is_at(const struct rows *r, size_t k, uint32_t at) {
+    return r->a[k] == at || r->b[k] == at;
+}
 
-/* Goes through the rows from index k on: each is taken where it closes no ring, or left. */
-static void list(uint32_t n, const struct rows *r, uint32_t at, uint32_t t, size_t k, struct parts p, uint32_t taken, uint32_t here, int64_t sum, struct outlets *best) {
-    if (taken + 1 == n) {
-        if (here == t && (!best->exists || sum < best->total)) best->exists = 1, best->total = sum;
-        return;
-    }
-    if (k == r->m || r->m - k < n - 1 - taken) return;
-    list(n, r, at, t, k + 1, p, taken, here, sum, best);
-    if (parts_join(&p, r->a[k], r->b[k])) list(n, r, at, t, k + 1, p, taken + 1, here + (uint32_t)is_at(r, k, at), sum + r->price[k], best);
+struct wanted {
+    uint32_t t;
+    struct outlets best;
+};
+
+static void take(void *with, unsigned here, int64_t total) {
+    struct wanted *w = with;
+    if (here != w->t || (w->best.exists && w->best.total <= total)) return;
+    w->best.exists = 1;
+    w->best.total = total;
 }
 
 struct outlets outlets_listed(uint32_t n, const struct rows *r, uint32_t at, uint32_t t) {
-    struct outlets best = {0, 0};
-    struct parts p;
-    parts_start(&p);
-    list(n, r, at, t, 0, p, 0, 0, 0, &best);
-    return best;
+    struct wanted w = {t, {0, 0}};
+    rows_networks(n, r, at, take, &w);
+    return w.best;
 }
 
-/* The least network with a number added to the prices at a junction: its total without what was added, and its rows there. Among equal prices the
-   rows at the junction go first, or last. */
+/* The least network with a number added to the prices at a junction: its total without what was
+   added, and its rows there. Among equal prices the rows at the junction go first, or last. */
 struct shifted {
     int64_t total;
     uint32_t here;
@@ -51,25 +52,29 @@ static struct shifted shift(const struct rows *r, uint32_t at, int64_t by, int a
     qsort(order, r->m, sizeof order[0], by_key);
     parts_start(&p);
     for (k = 0; k < r->m; k++)
-        if (parts_join(&p, r->a[order[k]], r->b[order[k]])) s.total += r->price[order[k]], s.here += (uint32_t)is_at(r, order[k], at);
+        if (parts_join(&p, r->a[order[k]], r->b[order[k]])) {
+            s.total += r->price[order[k]];
+            s.here += (uint32_t)is_at(r, order[k], at);
+        }
     return s;
 }
 
-struct outlets outlets_shifted(uint32_t n, const struct rows *r, uint32_t at, uint32_t t) {
+struct outlets outlets_shifted(const struct rows *r, uint32_t at, uint32_t t) {
     const int64_t far = (int64_t)1 << 33; /* above every difference of two prices */
     struct outlets found = {0, 0};
     struct shifted s;
     int64_t low = -far, high = far;
-    (void)n;
     if (t > shift(r, at, low, 1).here || t < shift(r, at, high, 0).here) return found;
-    while (low < high) { /* the least number added at which a least network has at most t rows there */
+    while (low < high) { /* the least number added at which a least network has at most t rows
+                            there */
         int64_t middle = low + (high - low) / 2;
         if (shift(r, at, middle, 0).here <= t) high = middle;
         else low = middle + 1;
     }
     s = shift(r, at, low, 0);
     found.exists = 1;
-    found.total = s.total - low * ((int64_t)t - s.here); /* equal with the number added; t is at most what rows at r first give */
+    /* equal with the number added; t is at most what rows at r first give */
+    found.total = s.total - low * ((int64_t)t - s.here);
     if (shift(r, at, low, 1).here < t) found.exists = -1; /* cannot be */
     return found;
 }

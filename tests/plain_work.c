@@ -16,9 +16,15 @@ static uint32_t put(uint8_t *answer, unsigned kind, unsigned number, unsigned am
 static uint32_t refuse(uint8_t *answer, unsigned number) { return put(answer, 0, number, 0); }
 
 /* Row i, counted from 1; one that is not there is not in use. */
-static int used(struct in_use u, size_t i) { return i >= 1 && i <= ROWS && (i - 1) / 64 < u.count && (u.words[(i - 1) / 64] >> (i - 1) % 64) % 2 == 1; }
+static int used(struct in_use u, size_t i) {
+    return i >= 1 && i <= ROWS && (i - 1) / 64 < u.count &&
+           (u.words[(i - 1) / 64] >> (i - 1) % 64) % 2 == 1;
+}
 
-static int wrong_columns(struct in_use u, const struct call *c) { return u.count != WORDS || c->left_len != ROWS || c->right_len != ROWS || c->weight_len != 4 * ROWS; }
+static int wrong_columns(struct in_use u, const struct call *c) {
+    return u.count != WORDS || c->left_len != ROWS || c->right_len != ROWS ||
+           c->weight_len != 4 * ROWS;
+}
 
 /* A table of the rows in use alone, and where each of them stands. */
 struct part {
@@ -40,7 +46,8 @@ static void take(struct part *p, struct in_use u, const struct call *c) {
     p->c = (struct call){c->n, p->left, p->right, p->weight, p->mark, m, m, 4 * m, m};
 }
 
-/* The table of the rows in use, unless the number of junctions or a length is wrong: then 0, and the answer has the refusal. */
+/* The table of the rows in use, unless the number of junctions or a length is wrong: then 0, and
+   the answer has the refusal. */
 static int part_of(struct part *p, struct in_use u, const struct call *c, uint8_t *answer) {
     if (c->n == 0 || c->n > 255) return refuse(answer, 1), 0;
     if (wrong_columns(u, c) || c->mark_len != ROWS) return refuse(answer, 3), 0;
@@ -56,7 +63,8 @@ static void name(const struct part *p, uint8_t *bytes) {
     bytes[1] = (uint8_t)(p->row[i - 1] >> 8);
 }
 
-/* The answer over the table of rows in use becomes that over the working table: the places of 4, 6 and 15 are rows, and so are out and in. */
+/* The answer over the table of rows in use becomes that over the working table: the places of 4, 6
+   and 15 are rows, and so are out and in. */
 static void renumber(const struct part *p, uint8_t *answer) {
     if (answer[0] == 0 && answer[1] != 4 && answer[1] != 6 && answer[1] != 15) return;
     name(p, answer + 2);
@@ -70,14 +78,16 @@ uint32_t plain_work_cst(struct in_use u, const struct call *c, uint8_t *answer, 
     return 1;
 }
 
-uint32_t plain_work_other(struct in_use u, const struct call *c, uint8_t *answer, size_t answer_len) {
+uint32_t plain_work_other(struct in_use u, const struct call *c, uint8_t *answer,
+                          size_t answer_len) {
     static struct part p;
     if (answer_len != 16) return 0;
     if (part_of(&p, u, c, answer)) plain_other(&p.c, answer, 16), renumber(&p, answer);
     return 1;
 }
 
-uint32_t plain_work_mst1(struct in_use u, const struct call *c, uint8_t *answer, size_t answer_len) {
+uint32_t plain_work_mst1(struct in_use u, const struct call *c, uint8_t *answer,
+                         size_t answer_len) {
     static struct part p;
     size_t i;
     if (answer_len != 16) return 0;
@@ -90,19 +100,22 @@ uint32_t plain_work_mst1(struct in_use u, const struct call *c, uint8_t *answer,
     return 1;
 }
 
-uint32_t plain_work_paths(struct in_use u, const struct call *c, uint32_t s, uint64_t *matrix, size_t words, uint8_t *answer, size_t answer_len) {
+uint32_t plain_work_paths(struct in_use u, const struct call *c, uint32_t s, uint64_t *matrix,
+                          size_t words, uint8_t *answer, size_t answer_len) {
     static struct part p;
     static uint64_t own[WORDS * 255];
     size_t v, i;
     if (answer_len != 16) return 0;
     if (!part_of(&p, u, c, answer)) return 1;
-    plain_paths(&p.c, s, own, words < WORDS * (size_t)c->n ? words : WORDS * (size_t)c->n, answer, 16);
+    plain_paths(&p.c, s, own, words < WORDS * (size_t)c->n ? words : WORDS * (size_t)c->n, answer,
+                16);
     renumber(&p, answer);
     if (answer[0] == 0) return 1;
     memset(matrix, 0, 8 * WORDS * (size_t)c->n);
     for (v = 0; v < c->n; v++)
         for (i = 0; i < p.c.left_len; i++)
-            if (own[WORDS * v + i / 64] >> i % 64 & 1) matrix[WORDS * v + (p.row[i] - 1) / 64] |= (uint64_t)1 << (p.row[i] - 1) % 64;
+            if (own[WORDS * v + i / 64] >> i % 64 & 1)
+                matrix[WORDS * v + (p.row[i] - 1) / 64] |= (uint64_t)1 << (p.row[i] - 1) % 64;
     return 1;
 }
 
@@ -133,14 +146,16 @@ static size_t pack(struct in_use u, const struct call *c, struct numbers to) {
     return m;
 }
 
-uint32_t plain_merge(struct in_use u, const struct call *c, struct numbers to, uint8_t *answer, size_t answer_len) {
+uint32_t plain_merge(struct in_use u, const struct call *c, struct numbers to, uint8_t *answer,
+                     size_t answer_len) {
     if (answer_len != 16) return 0;
     if (wrong_columns(u, c) || to.count != ROWS) return refuse(answer, 3);
     pack(u, c, to);
     return put(answer, 1, 0, 0);
 }
 
-uint32_t plain_add(struct in_use u, const struct call *c, struct numbers to, uint8_t a, uint8_t b, int32_t price, uint8_t *answer, size_t answer_len) {
+uint32_t plain_add(struct in_use u, const struct call *c, struct numbers to, uint8_t a, uint8_t b,
+                   int32_t price, uint8_t *answer, size_t answer_len) {
     size_t i, all = 0, last = 0;
     int k;
     if (answer_len != 16) return 0;
@@ -158,7 +173,8 @@ uint32_t plain_add(struct in_use u, const struct call *c, struct numbers to, uin
     return put(answer, 1, 0, (unsigned)last + 1);
 }
 
-uint32_t plain_carry(struct numbers to, uint8_t *mark, size_t mark_len, uint8_t *answer, size_t answer_len) {
+uint32_t plain_carry(struct numbers to, uint8_t *mark, size_t mark_len, uint8_t *answer,
+                     size_t answer_len) {
     uint8_t old[ROWS];
     size_t row;
     if (answer_len != 16) return 0;

@@ -26,7 +26,8 @@ static int try_library(const char *file) {
     const char *(*version)(void) = NULL;
     uint8_t weight[8];
     uint64_t words[16] = {0, 4};
-    if (!library || !FIND(put, library, "star_put_price") || !FIND(get, library, "star_get_price")) return 2;
+    if (!library || !FIND(put, library, "star_put_price") || !FIND(get, library, "star_get_price"))
+        return 2;
     if (!FIND(in_use, library, "star_in_use") || !FIND(version, library, "star_version")) return 3;
     put(weight, 1, -70000);
     if (get(weight, 1) != -70000 || !in_use(words, 67) || in_use(words, 66)) return 4;

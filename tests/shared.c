@@ -6,32 +6,35 @@
 #include <stdlib.h>
 #include <string.h>
 
+#include "random.h"
 #include "star.h"
 
 int exact_lengths;
 unsigned long refused[32];
 
 static unsigned long passed, failed;
-static uint64_t state = 88172645463325252u;
+static uint64_t state = RANDOM_START;
 
-uint64_t bits(void) {
-    state ^= state << 13;
-    state ^= state >> 7;
-    state ^= state << 17;
-    return state * 2685821657736338717u;
-}
+uint64_t bits(void) { return random_bits(&state); }
 
-void random_start(uint64_t start) { state = 88172645463325252u ^ start * 11400714819323198485u; }
+void random_start(uint64_t start) { state = RANDOM_START ^ start * 11400714819323198485u; }
 
 uint32_t any(uint32_t below) { return below ? (uint32_t)((bits() >> 20) % below) : 0; }
 
 void random_bytes(void *to, size_t count) {
-    size_t i;
-    for (i = 0; i < count; i++) ((uint8_t *)to)[i] = (uint8_t)bits();
+    uint8_t *at = to;
+    while (count > 0) {
+        uint64_t word = bits();
+        size_t some = count < sizeof word ? count : sizeof word;
+        memcpy(at, &word, some);
+        at += some;
+        count -= some;
+    }
 }
 
 int32_t limit_price(void) {
-    static const int32_t limits[] = {STAR_MIN_PRICE, STAR_MIN_PRICE + 1, -1, 0, 1, STAR_MAX_PRICE - 1, STAR_MAX_PRICE};
+    static const int32_t limits[] = {STAR_MIN_PRICE,     STAR_MIN_PRICE + 1, -1, 0, 1,
+                                     STAR_MAX_PRICE - 1, STAR_MAX_PRICE};
     return limits[any(sizeof limits / sizeof limits[0])];
 }
 
@@ -52,7 +55,10 @@ struct pair any_pair(uint32_t n, size_t joined, int repeats, unsigned most) {
     unsigned tries = 0;
     p.a = joined ? (unsigned)joined + 1 : 1 + any(n);
     p.b = 1 + any(joined ? (uint32_t)joined : n);
-    while (n > 1 && (p.a == p.b || (!first_given(p) && !repeats)) && ++tries < most) p.a = 1 + any(n), p.b = 1 + any(n);
+    while (n > 1 && (p.a == p.b || (!first_given(p) && !repeats)) && ++tries < most) {
+        p.a = 1 + any(n);
+        p.b = 1 + any(n);
+    }
     return p;
 }
 
@@ -61,7 +67,8 @@ void wrong_length(size_t *len, size_t most) {
     if (*len > most) *len = 0;
 }
 
-void put_row(uint8_t *left, uint8_t *right, uint8_t *weight, size_t i, unsigned a, unsigned b, int32_t price) {
+void put_row(uint8_t *left, uint8_t *right, uint8_t *weight, size_t i, unsigned a, unsigned b,
+             int32_t price) {
     left[i - 1] = (uint8_t)a;
     right[i - 1] = (uint8_t)b;
     star_put_price(weight, i - 1, price);
@@ -75,7 +82,8 @@ void put_yard(uint8_t *left, uint8_t *right, uint8_t *weight) {
 
 void tell(int ok, const char *what) {
     if (ok) passed++;
-    else if (failed++ < 10) fprintf(stderr, "%s differs, seed state %llx\n", what, (unsigned long long)state);
+    else if (failed++ < 10)
+        fprintf(stderr, "%s differs, seed state %llx\n", what, (unsigned long long)state);
 }
 
 int told(void) {
@@ -83,7 +91,9 @@ int told(void) {
     return failed != 0;
 }
 
-void share(unsigned long part, unsigned long one_of, unsigned long calls, const char *what) { tell(calls < 2000 || one_of * part >= calls, what); }
+void share(unsigned long part, unsigned long one_of, unsigned long calls, const char *what) {
+    tell(calls < 2000 || one_of * part >= calls, what);
+}
 
 void share_refused(const unsigned *numbers, unsigned long one_of, unsigned long calls) {
     for (; *numbers; numbers++) share(refused[*numbers], one_of, calls, "the share of a refusal");
@@ -91,7 +101,8 @@ void share_refused(const unsigned *numbers, unsigned long one_of, unsigned long 
 
 void print_refused(const unsigned *numbers) {
     const unsigned *number;
-    for (number = numbers; *number; number++) printf(number == numbers ? "refused %u %lu times" : ", %u %lu", *number, refused[*number]);
+    for (number = numbers; *number; number++)
+        printf(number == numbers ? "refused %u %lu times" : ", %u %lu", *number, refused[*number]);
 }
 
 void *lend(void *from, size_t bytes) {
@@ -111,10 +122,12 @@ void back(void *to, void *lent, size_t bytes) {
 int on_small_stack(void *(*called)(void *), void *with, size_t stack) {
     pthread_attr_t attr;
     pthread_t thread;
-    return !pthread_attr_init(&attr) && !pthread_attr_setstacksize(&attr, stack) && !pthread_create(&thread, &attr, called, with) && !pthread_join(thread, NULL);
+    return !pthread_attr_init(&attr) && !pthread_attr_setstacksize(&attr, stack) &&
+           !pthread_create(&thread, &attr, called, with) && !pthread_join(thread, NULL);
 }
 
-unsigned long run(int count, char **words, unsigned long otherwise, void (*known)(void), void (*table)(unsigned long k)) {
+unsigned long run(int count, char **words, unsigned long otherwise, void (*known)(void),
+                  void (*table)(unsigned long k)) {
     unsigned long tables = count > 1 ? strtoul(words[1], NULL, 10) : otherwise, k;
     exact_lengths = count > 2 && strcmp(words[2], "exact") == 0;
     known();

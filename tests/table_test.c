@@ -333,7 +333,7 @@ static void start(void) {
 
 static void step(unsigned long k) {
     static void (*const calls[])(void) = {
-        add,   add,  mark, strike, merge, judge, build, mend,      outlets, which, ask,
+        add,   add,  mark, strike, merge, judge, build, mend,      outlets, which,       ask,
         write, read, mark, judge,  mark,  mark,  judge, districts, build,   read_planner};
     unsigned i;
     if (k % 20 == 0) start();
@@ -407,6 +407,7 @@ int main(int count, char **words) {
     share(refusals, 50, steps, "the share of refusals");
     if (steps >= 20000) tell(packed >= 3, "tables that are packed by an addition");
     printf("table: %lu steps, %lu lighter, %lu passed, %lu with another, %lu mended, %lu refused, "
-           "%lu packed by an addition\n", steps, lighter, passes, others, mended, refusals, packed);
+           "%lu packed by an addition\n",
+           steps, lighter, passes, others, mended, refusals, packed);
     return told();
 }

@@ -24,9 +24,12 @@ static unsigned next(unsigned *seed) {
     return *seed >> 12;
 }
 
-static void mix(uint64_t *found, int64_t with) { *found = (*found ^ (uint64_t)with) * 1099511628211U; }
+static void mix(uint64_t *found, int64_t with) {
+    *found = (*found ^ (uint64_t)with) * 1099511628211U;
+}
 
-/* A connected table without repeated rows: a chain, and rows to the second, the third .. neighbour. */
+/* A connected table without repeated rows: a chain, and rows to the second, the third ..
+   neighbour. */
 static void fill(struct star_table *t, unsigned *seed) {
     unsigned row, gap = 1, at = 0;
     star_table_init(t, JUNCTIONS);

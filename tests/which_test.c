@@ -1,121 +1,135 @@
-/* Compares star_which and star_work_which with the plain implementation: which of two plans, its total, the first plan's refusal before the second's,
- * the sixteen bytes and all that stands around what is lent. Where a plan is named its marks are a tree by star.h's own words: added up once more.
- * usage: which_test [PAIRS [exact]]   prints one line 'N passed, M failed' at its end; exact: columns in memory of their own length */
-#include <stdio.h>
+/* Compares star_which and star_work_which with the plain implementation: which of two plans, its
+ * total, the first plan's refusal before the second's, the sixteen bytes and all that stands around
+ * what is lent. Where a plan is named its marks are a tree by star.h's own words: added up once
+ * more.
+ * usage: which_test [PAIRS [exact]]   prints one line 'N passed, M failed' at its end; exact:
+ * columns in memory of their own length */
 #include <string.h>
 
-#include "asked.h"
+#include "lent.h"
+#include "plain_asked.h"
 
-static unsigned long named[3], equal, working_pairs;
+static unsigned long named[3], equal;
 
-static uint32_t door(struct asked *t) {
-    struct lent p = asked_lend(t);
-    uint32_t said;
-    if (t->working)
-        said = star_work_which(t->n, p.in_use, t->words, p.left, t->left_len, p.right, t->right_len, p.weight, t->weight_len, p.first, t->first_len, p.second, t->second_len, p.answer,
-                               t->answer_len);
-    else said = star_which(t->n, p.left, t->left_len, p.right, t->right_len, p.weight, t->weight_len, p.first, t->first_len, p.second, t->second_len, p.answer, t->answer_len);
-    asked_back(t, p);
+static uint32_t door(struct lent *t) {
+    struct handed p = lent_hand(t);
+    return lent_back(
+        t, p, ASK(t, p, which, HANDED(t, p, MARK), HANDED(t, p, SECOND), HANDED(t, p, ANSWER)));
+}
+
+static uint32_t plain(struct lent *t) {
+    struct call c = lent_call(t);
+    struct marks first = {t->mark, t->len[MARK]}, second = {t->second, t->len[SECOND]};
+    return plain_which(lent_in_use(t), &c, first, second, t->answer, t->len[ANSWER]);
+}
+
+static uint32_t one(struct lent *t) {
+    uint32_t said = lent_agree(t, "which", door, plain);
+    int64_t first, second;
+    if (!lent_ended(t, said)) return said;
+    first = lent_sum(t, t->mark);
+    second = lent_sum(t, t->second);
+    named[said % 3]++;
+    equal += first == second;
+    tell(lent_does(t, said == 1 ? first : second), "the named plan's total");
+    tell(said == 1 ? first <= second : second < first, "the lighter plan");
     return said;
 }
 
-static int64_t total(const struct asked *t, const uint8_t *mark) {
-    int64_t sum = 0;
-    size_t i, rows = t->working ? STAR_MAX_ROWS : t->left_len;
-    for (i = 0; i < rows; i++) sum += (!t->working || star_in_use(t->in_use, i + 1)) && mark[i] == 1 ? star_get_price(t->weight, i) : 0;
-    return sum;
-}
+/* Pairs of plans of the yard whose answers are known. */
+static const struct {
+    uint8_t first[5], second[5];
+    uint32_t said;
+    unsigned number, place;
+    int64_t total;
+} PAIR[] = {
+    {{1, 1, 1, 0, 0}, {1, 1, 0, 1, 0}, 2, 0, 0, 12},
+    {{1, 1, 0, 1, 0}, {0, 1, 1, 1, 0}, 1, 0, 0, 12},
+    {{1, 1, 0, 0, 1}, {1, 1, 0, 1, 0}, 0, STAR_NOT_JOINED, 4, 0},
+    {{1, 1, 0, 1, 0}, {1, 1, 0, 0, 0}, 0, STAR_BAD_MARK_COUNT, 0, 0},
+    {{1, 1, 0, 0, 1}, {1, 1, 0, 0, 9}, 0, STAR_NOT_JOINED, 4, 0},
+    {{1, 1, 0, 1, 0}, {1, 1, 9, 0, 8}, 0, STAR_BAD_MARK, 3, 0},
+};
 
-static void one(struct asked *t) {
-    static struct asked plain;
-    struct call c;
-    struct marks first, second;
-    uint32_t said, expected;
-    memcpy(&plain, t, sizeof plain);
-    c = asked_call(&plain);
-    first.at = plain.first, first.len = plain.first_len;
-    second.at = plain.second, second.len = plain.second_len;
-    expected = plain_which(asked_in_use(&plain), &c, first, second, plain.answer, plain.answer_len);
-    said = door(t);
-    tell(said == expected && memcmp(t, &plain, sizeof plain) == 0, t->working ? "star_work_which" : "star_which");
-    named[said < 3 ? said : 0]++;
-    if (said == 0 && t->answer_len == STAR_ANSWER_BYTES) refused[t->answer[1] % 32]++;
-    if (said == 0 || expected == 0) return;
-    working_pairs += (unsigned long)t->working;
-    equal += total(t, t->first) == total(t, t->second);
-    tell(star_read_answer(t->answer).amount == total(t, said == 1 ? t->first : t->second) && total(t, said == 1 ? t->first : t->second) <= total(t, said == 1 ? t->second : t->first), "the lighter plan's total");
-}
-
-/* A pair of plans of the yard whose answer is known. */
-static void known(void) {
-    static const struct {
-        uint8_t first[5], second[5];
-        uint32_t said;
-        unsigned number, place;
-        int64_t total;
-    } pair[] = {
-        {{1, 1, 1, 0, 0}, {1, 1, 0, 1, 0}, 2, 0, 0, 12}, {{1, 1, 0, 1, 0}, {0, 1, 1, 1, 0}, 1, 0, 0, 12},  {{1, 1, 0, 0, 1}, {1, 1, 0, 1, 0}, 0, STAR_NOT_JOINED, 4, 0},
-        {{1, 1, 0, 1, 0}, {1, 1, 0, 0, 0}, 0, STAR_BAD_MARK_COUNT, 0, 0}, {{1, 1, 0, 0, 1}, {1, 1, 0, 0, 9}, 0, STAR_NOT_JOINED, 4, 0}, {{1, 1, 0, 1, 0}, {1, 1, 9, 0, 8}, 0, STAR_BAD_MARK, 3, 0},
-    };
-    static struct asked t;
-    struct star_answer a;
+static void known(const char *in_use) {
+    static struct lent t;
     size_t i;
-    int working;
-    for (i = 0; i < sizeof pair / sizeof pair[0]; i++)
-        for (working = 0; working < 2; working++) {
-            asked_yard(&t, working, STAR_ANSWER_BYTES);
-            memcpy(t.first, pair[i].first, 5);
-            memcpy(t.second, pair[i].second, 5);
-            one(&t);
-            a = star_read_answer(t.answer);
-            tell(door(&t) == pair[i].said && a.number == pair[i].number && a.out == pair[i].place && a.amount == pair[i].total && a.only == 0, "a known pair of plans");
-        }
-    /* the first plan's refusal goes before a second column of another length; a length of the first before all */
-    asked_yard(&t, 0, STAR_ANSWER_BYTES);
-    memcpy(t.first, pair[2].first, 5);
-    t.second_len = 4;
+    for (i = 0; i < sizeof PAIR / sizeof PAIR[0]; i++) {
+        lent_yard(&t, in_use);
+        memcpy(t.mark, PAIR[i].first, 5);
+        memcpy(t.second, PAIR[i].second, 5);
+        tell(one(&t) == PAIR[i].said, "which of a known pair of plans");
+        if (PAIR[i].said) tell(lent_does(&t, PAIR[i].total), "a known pair of plans");
+        else tell(lent_refuses(&t, PAIR[i].number, PAIR[i].place), "a known refusal of a plan");
+    }
+}
+
+/* The first plan's refusal goes before a second column of another length. */
+static void lengths(void) {
+    static struct lent t;
+    lent_yard(&t, NULL);
+    memcpy(t.mark, PAIR[2].first, 5);
+    t.len[SECOND] = 4;
     one(&t);
     tell(t.answer[1] == STAR_NOT_JOINED, "the first plan's refusal before the second's length");
-    memcpy(t.first, pair[0].first, 5);
+    memcpy(t.mark, PAIR[0].first, 5);
     one(&t);
     tell(t.answer[1] == STAR_BAD_LENGTHS, "the second plan's length");
-    t.answer_len = 15;
-    t.second_len = 5;
+    t.len[ANSWER] = 15;
+    t.len[SECOND] = 5;
     one(&t);
-    t.answer_len = STAR_ANSWER_BYTES;
-    t.n = 1;
-    t.left_len = t.right_len = t.weight_len = t.first_len = t.second_len = 0;
+    lent_no_rows(&t);
     one(&t);
-    tell(t.answer[0] == STAR_PASSED && star_read_answer(t.answer).amount == 0, "one junction");
+    tell(lent_does(&t, 0), "one junction");
 }
 
-static void put_plans(struct asked *t) {
-    asked_plan(t, t->first);
-    asked_plan(t, t->second);
+/* Another row for a marked one: a tree, a ring, or too few or too many marks. */
+static void exchange(const struct lent *t, uint8_t *mark) {
+    mark[lent_row(t) - 1] = 0;
+    mark[lent_row(t) - 1] = 1;
+}
+
+static void put_plan(struct lent *t, uint8_t *mark) {
+    lent_mark(t, mark);
+    if (any(16) == 0) mark[lent_row(t) - 1] ^= (uint8_t)(any(3) ? 1 : 2 + any(250));
+    if (any(10) == 0) exchange(t, mark);
+}
+
+static void put_plans(struct lent *t) {
+    lent_mark(t, t->mark);
+    lent_mark(t, t->second);
+}
+
+static void held(struct lent *t) {
+    memcpy(t->mark, PAIR[0].first, 5);
+    memcpy(t->second, PAIR[0].second, 5);
+    one(t);
 }
 
 static void cases(void) {
-    known();
-    asked_small_stack(STAR_ANSWER_BYTES, put_plans, door, STAR_PASSED);
+    lends = LENDS(MARK) | LENDS(SECOND);
+    known(NULL);
+    known("12345");
+    lengths();
+    lent_each_length(held);
+    lent_small_stacks(door, put_plans, STACK);
 }
 
 static void table(unsigned long k) {
-    static struct asked t;
-    asked_make(&t, k, STAR_ANSWER_BYTES);
-    put_plans(&t);
-    asked_damage(&t, 6, 30);
+    static struct lent t;
+    lent_make(&t, k);
+    put_plan(&t, t.mark);
+    put_plan(&t, t.second);
+    if (any(7) == 0) lent_damage(&t);
     one(&t);
 }
 
 int main(int count, char **words) {
     static const unsigned numbers[] = {1, 2, 3, 4, 15, 6, 9, 10, 0};
-    unsigned long pairs = run(count, words, 20000, cases, table), k;
-    for (k = 1; k <= 2; k++) share(named[k], 8, pairs, "the share of a plan that is named");
+    unsigned long pairs = run(count, words, 20000, cases, table);
+    share(named[1], 8, pairs, "the share of first plans");
+    share(named[2], 8, pairs, "the share of second plans");
     share(equal, 20, pairs, "the share of plans that cost the same");
-    share(working_pairs, 8, pairs, "the share of working tables");
-    share_refused(numbers, 1500, pairs);
-    printf("%lu pairs of plans: the first %lu times, the second %lu, %lu of equal totals, %lu of working tables; ", pairs, named[1], named[2], equal, working_pairs);
-    print_refused(numbers);
-    printf("\n");
-    return told();
+    share(lent_done[1], 8, pairs, "the share of working tables");
+    return lent_told("pairs of plans", pairs, 1500, numbers);
 }

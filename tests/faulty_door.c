@@ -1,5 +1,6 @@
-/* The doors with a fault each: a control of door_test, which has to fail over every one of them and to pass over the fault 'none'. door_test is
- * compiled with the doors' names replaced by those below; the environment's FAULT names the fault. */
+/* The doors with a fault each: a control of door_test, which has to fail over every one of them and
+ * to pass over the fault 'none'. door_test is compiled with the doors' names replaced by those
+ * below; the environment's FAULT names the fault. */
 #include "faulty.h"
 
 /* Spoils an answer of star_cst or star_other that is written. */
@@ -17,7 +18,8 @@ static void spoil(uint8_t *answer) {
 uint32_t faulty_cst(uint32_t n, COLUMNS, CLAIM, ANSWER);
 uint32_t faulty_other(uint32_t n, COLUMNS, CLAIM, ANSWER);
 uint32_t faulty_mst1(uint32_t n, COLUMNS, MARK, ANSWER);
-uint32_t faulty_paths(uint32_t n, COLUMNS, CLAIM, uint32_t s, uint64_t *matrix, size_t words, ANSWER);
+uint32_t faulty_paths(uint32_t n, COLUMNS, CLAIM, uint32_t s, uint64_t *matrix, size_t words,
+                      ANSWER);
 
 uint32_t faulty_cst(uint32_t n, COLUMNS, CLAIM, ANSWER) {
     uint32_t said = star_cst(n, LENT, mark, mark_len, answer, answer_len);
@@ -43,11 +45,17 @@ uint32_t faulty_mst1(uint32_t n, COLUMNS, MARK, ANSWER) {
     return said;
 }
 
-uint32_t faulty_paths(uint32_t n, COLUMNS, CLAIM, uint32_t s, uint64_t *matrix, size_t words, ANSWER) {
-    uint32_t said = star_paths(n, LENT, mark, mark_len, fault("paths-from-one") && s > 1 && s <= n ? 1 : s, matrix, words, answer, answer_len);
+uint32_t faulty_paths(uint32_t n, COLUMNS, CLAIM, uint32_t s, uint64_t *matrix, size_t words,
+                      ANSWER) {
+    uint32_t said =
+        star_paths(n, LENT, mark, mark_len, fault("paths-from-one") && s > 1 && s <= n ? 1 : s,
+                   matrix, words, answer, answer_len);
     size_t used = STAR_COLUMN_WORDS * (size_t)n;
-    if (said && answer[0] == STAR_PASSED && fault("paths-last-column")) matrix[used - STAR_COLUMN_WORDS] ^= 1;
-    if (said && answer[0] == STAR_PASSED && fault("paths-past-the-matrix") && words > used) matrix[used] = 0;
-    if (said && answer[0] == STAR_REFUSED && fault("paths-refusal-as-done")) answer[0] = STAR_PASSED;
+    if (said && answer[0] == STAR_PASSED && fault("paths-last-column"))
+        matrix[used - STAR_COLUMN_WORDS] ^= 1;
+    if (said && answer[0] == STAR_PASSED && fault("paths-past-the-matrix") && words > used)
+        matrix[used] = 0;
+    if (said && answer[0] == STAR_REFUSED && fault("paths-refusal-as-done"))
+        answer[0] = STAR_PASSED;
     return said;
 }
