@@ -33,6 +33,8 @@ $(PAGES): include/manual.py include/star.h
 	@rm -rf $@
 	python3 -B include/manual.py include/star.h $@
 
+manual3: $(PAGES)
+
 # The Python package with the shared library inside. It is what pip installs, so that it is held against the record as what is installed is.
 WHEELS := $(BUILD)/wheel
 wheel: checked $(SHARED)

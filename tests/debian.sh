@@ -28,6 +28,8 @@ fi
 mkdir -p "$work/star/target"
 git ls-files -z | tar cf - --null -T - | tar xf - -C "$work/star"
 cp -a target/objects "$work/star/target"
+page=target/c/star.html
+if [ -e "$page" ]; then mkdir "$work/star/target/c" && cp -p "$page" "$work/star/target/c"; fi
 holds build build
 for package in libstar0 libstar-dev star-console python3-star; do
     holds "$package" [ -s "$work/$package"_*.deb ]
@@ -49,12 +51,21 @@ holds example-runs "$work/plan"
 holds python env PYTHONPATH="$usr/lib/python3/dist-packages" \
     python3 -B -m star check console/examples/yard.txt
 holds manual [ -s "$usr/share/man/man3/star_cst.3.gz" ]
+if [ -e "$page" ]; then
+    holds page cmp "$page" "$usr/share/star/star.html"
+    "$usr/bin/star" page console/examples/yard.txt >"$work/page.html" 2>"$work/page.said"
+    holds page-written [ -s "$work/page.html" ]
+    holds page-found [ ! -s "$work/page.said" ]
+else
+    echo "skipped: the page in the package, since it is not built (make page)"
+fi
 
 # A core that is not of the record is not packaged.
-echo '// changed' >>"$work/star/crates/cst_door/src/lib.rt"
+door=$(sed -n 's/^DOORS := \([a-z0-9_]*\).*/\1/p' Makefile)
+echo '// changed' >>"$work/star/crates/$door/src/lib.rt"
 again() { (cd "$work/star" && dpkg-buildpackage -b -us -uc -nc) >"$work/changed" 2>&1; }
 fails() { ! "$@"; }
 holds changed fails again
-holds changed-said grep -q 'the sources of cst_door differ' "$work/changed"
+holds changed-said grep -q "the sources of $door differ" "$work/changed"
 echo "$passed passed, $failed failed"
 [ "$failed" = 0 ]

@@ -134,6 +134,8 @@ bash tests/record.sh | tee "$work/record"
 add "$work/record"
 bash tests/proving.sh | tee "$work/proving"
 add "$work/proving"
+bash tests/packaged.sh | tee "$work/packaged"
+add "$work/packaged"
 
 echo "$passed passed, $failed failed"
 [ "$failed" = 0 ]
