@@ -1,20 +1,25 @@
-# make run       compiles the console without proving it, says whether the record of the gate (crates.sum) has it, and checks the yard
-# make           the same library and console, and the programs readstp and diglist
-# make console   the C anew over the archives that are there
+# make help      this list
+# make run       compiles the console without proving it, says whether crates.sum has it, and checks the yard
+# make           the same library and console, the shared library, and the programs readstp and diglist
 # make prove     proves every crate here, with how far it is, and builds all over the proved archives
-# make test      the whole gate: proofs, must-fail edits, programs, the record, tests from outside
-# make sums      writes crates.sum anew, from the proved archives
-# make manual    the sections of the manual page and of the documents that are made from the table of commands (console/pages.c)
-# make documents the same, what the documents' examples print, and their pictures
-# make bench     times the doors against other libraries, where they are installed, and plots the times (target/c/bench.svg)
-# make counts    the instructions of each call of the bench, by callgrind
-# make shared    the shared library; make wheel the Python package, if the core is proved here or is of the record
-# make backends  random calls of every door, compiled in four ways: -O3, -O0, with the compiler's assumptions checked, as WebAssembly
-# make load SECONDS=n   eight threads, random calls of all doors, for n seconds
-# make fuzz SECONDS=n   libFuzzer over the readers of planners' texts and over the console's commands, for n seconds
-# make tasks     ten tasks with the library, networkx and LEMON, side by side: lines and microseconds
-# make install PREFIX=DIR     the header, the libraries, the console, manual pages, star.pc, a CMake package: if they are proved here or are of the record
+# make page      target/c/star.html, a page to try plans on (node, clang with WebAssembly)
+# make shared    the shared library
+# make wheel     the Python package, if the core is proved here or is of the record
+# make install PREFIX=DIR     header, libraries, console, manual pages, star.pc, a CMake package; the same holds
 # make uninstall PREFIX=DIR   removes these files
+# make console   the C anew over the archives that are there
+# make test      the whole gate: proofs, must-fail edits, programs, the record, tests from outside
+# make outside   the tests from outside alone
+# make backends  random calls of every door, compiled in four ways, as WebAssembly among them
+# make load SECONDS=n   eight threads, random calls of all doors, for n seconds
+# make fuzz SECONDS=n   libFuzzer over the readers of planners' texts and over the console's commands
+# make bench     times the doors against other libraries, and plots the times (target/c/bench.svg)
+# make counts    the instructions of each call of the bench, by callgrind
+# make tasks     ten tasks with the library, networkx and LEMON, side by side: lines and microseconds
+# make sums      writes crates.sum, the record of the gate, anew from the proved archives
+# make manual    what the manual page and the documents have from the table of commands (console/pages.c)
+# make documents the same, what the documents' examples print, and their pictures
+# make clean     removes target
 CC ?= cc
 CXX ?= c++
 CFLAGS ?= -O2 -g -Wall -Wextra -Wpedantic
@@ -49,7 +54,7 @@ define COMPILE
 endef
 
 # Where the archives are taken as they are, none is compiled that is there: no kit is needed then.
-TAKEN := console checked install uninstall manual
+TAKEN := console checked install uninstall manual help
 ifneq ($(filter-out $(TAKEN),$(or $(MAKECMDGOALS),all)),)
 SOURCES := crates.txt tools/compile.sh $(wildcard $(shell sh tools/kit.sh 2>/dev/null)/KIT-ID) $(sort $(shell find crates -path '*/src/*' -name '*.rt'))
 endif
@@ -93,6 +98,9 @@ recorded:
 	$(PYTHON) tools/record.py check target/staticlib $(DOORS) programs
 
 console: $(BUILD)/star
+
+help:
+	@sed -n 's/^# make/make/p' $(firstword $(MAKEFILE_LIST))
 
 programs: $(READSTP) $(DIGLIST)
 
@@ -205,4 +213,4 @@ clean:
 -include library.mk page.mk backends.mk fuzz.mk
 install-library: checked
 
-.PHONY: all tell checked prove sums recorded console programs manual documents run test outside bench counts install uninstall clean
+.PHONY: help all tell checked prove sums recorded console programs manual documents run test outside bench counts install uninstall clean

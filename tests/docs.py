@@ -213,6 +213,20 @@ def first_page():
     holds('README.md has a picture', '](docs/pictures/' in text)
 
 
+def help_of_make():
+    """make help lists what there is, and nothing that there is not."""
+    said, status = run('make -s help', ROOT)
+    listed = re.findall(r'^make(?: ([\w-]+))?', said, re.M)
+    names = ' '.join(name for name in sorted(os.listdir(ROOT)) if name.endswith('.mk'))
+    rules = run(f'grep -h "^[a-z].*:" Makefile {names}', ROOT)[0]
+    there = {word for line in rules.splitlines() for word in line.split(':')[0].split()}
+    holds('make help', status == 0 and said.count('\n') == len(listed), said)
+    for name in ('', 'run', 'prove', 'test', 'page', 'wheel', 'install'):
+        holds(f'make help lists make {name}', name in listed or f'make {name} ' in said)
+    for name in filter(None, listed):
+        holds(f'make help: {name}', name in there)
+
+
 def links(document):
     """Every file that a document links, with its heading."""
     text = read(document)
@@ -252,5 +266,6 @@ if __name__ == '__main__':
     programmers_pages()
     broken()
     first_page()
+    help_of_make()
     print(f'{counts[True]} passed, {counts[False]} failed')
     sys.exit(0 if counts[False] == 0 else 1)
