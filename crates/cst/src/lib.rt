@@ -243,22 +243,8 @@ fn check_in(
         let c = tableIn n table (now (left .entry)) (now (right .entry)) (now (weight .entry)) (now (mark .entry)) in
         ⌜ equalRowsOf r ≡ equalRows c ⌝ }
 {
-    let m = table.m;
-    let rows = table.rows;
     let words = path::ALL_WORDS;
-    let answer = path::path_own(
-        n,
-        m,
-        table.whole,
-        rows,
-        left,
-        right,
-        weight,
-        mark,
-        1,
-        words,
-        own,
-    );
+    let answer = path::path_own(n, table, left, right, weight, mark, 1, words, own);
     let Outcome::Done = answer else {
         return Checked {
             verdict: Verdict::Refused(record_of(answer)),
@@ -266,7 +252,7 @@ fn check_in(
             into: 0,
         };
     };
-    judge(own, m, rows, left, right, weight, mark)
+    judge(own, table.m, table.rows, left, right, weight, mark)
 }
 
 // CST over a table of either kind: the verdict on the claim, and beside a pass that is not the only one the rows of an exchange that gives another tree of the same weight.

@@ -221,7 +221,12 @@ fn tree_paths(
 {
     let mut plan = [0u8; SIZE];
     claim::write_claim(&mut plan, marks);
-    path::matrix_path_rows(n, m, whole, rows, left, right, weight, &plan[..m], 1, own)
+    let table = InUse {
+        m: m,
+        whole: whole,
+        rows: rows,
+    };
+    path::matrix_path(n, table, left, right, weight, &plan[..m], 1, own)
 }
 
 // The byte of row i in the mended claim: as it was where the row is not in use.

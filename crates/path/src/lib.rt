@@ -7,26 +7,24 @@ ghost use Prim.Native.Nat.{ℕ, _≤_};
 ghost use lib.ListN.{length, take, drop};
 ghost use Rattle.refusal.specs.Outcomes.{refusalOf};
 ghost use Rattle.path_matrix.specs.Matrix.{matrixColumn, withColumn};
+ghost use Rattle.in_use.specs.Tables.{tableIn};
 ghost use Rattle.incidence.specs.steps.Rows.{Blank, EachMatch};
 ghost use Rattle.search_columns.specs.steps.Rows.{NonePast};
 ghost use Rattle.slice.specs.Slices.{size, component, written};
 ghost use Rattle.star_spec.specs.MatrixPath.{matrixPath, matrixAfter};
 ghost use Rattle.star_spec.specs.Refusals.{wrongSource, fewWords, unreached, beforeWalk, refusal};
-ghost use Rattle.star_spec.specs.Call.{tableOf, callOf, workOf};
 ghost use Rattle.table.specs.Loads.{loadedRow};
 ghost use Rattle.path.specs.steps.Walks.{walk, Walked, claimWalk, ownPath, ownAfter};
+use in_use::InUse;
 use refusal::Outcome;
 use slice::Slice;
+use slice::WORDS;
 use slice::rows::rows_among;
-use slice::rows::rows_to;
-use slice::words::rows_in_use;
 use table_checks::first;
 use table_checks::refused_at;
 use table_checks::refused_if;
 
-// The words of a slice and of a column of a path matrix, and of a matrix with as many columns as there can be vertices.
-const WORDS: usize = 16;
-
+// The words of a path matrix with as many columns as there can be vertices; a column has those of a slice.
 pub const ALL_WORDS: usize = 4080;
 
 // The first of two vertices where the test holds, else the second.
@@ -164,9 +162,7 @@ fn call_check(n: u32, s: u32, words: usize) -> Outcome
 // Causes 1 to 4, 15 and 6 to 9.
 fn path_check(
     n: u32,
-    m: usize,
-    whole: bool,
-    rows: Slice,
+    table: InUse,
     left: &[u8],
     right: &[u8],
     weight: &[u8],
@@ -175,10 +171,12 @@ fn path_check(
     words: usize,
 ) -> Outcome
     ensures { λ r.
-        let c = tableOf n m whole (component rows) (now (left .entry)) (now (right .entry)) (now (weight .entry)) (now (mark .entry)) in
+        let c = tableIn n table (now (left .entry)) (now (right .entry)) (now (weight .entry)) (now (mark .entry)) in
         ⌜ refusalOf r ≡ refusal (beforeWalk c s words) ⌝ }
 {
-    let claim = table_checks::claim_check(n, m, whole, rows, left, right, weight, mark);
+    let m = table.m;
+    let rows = table.rows;
+    let claim = table_checks::claim_check(n, m, table.whole, rows, left, right, weight, mark);
     let Outcome::Done = claim else {
         return claim;
     };
@@ -209,9 +207,7 @@ fn claim_walk(
 // MatrixPath in a matrix that is lent for the walk, where the caller's matrix has so many words: all causes, those before the walk and then cause 10. Where none applies, the first n columns of `own` are the paths.
 pub fn path_own(
     n: u32,
-    m: usize,
-    whole: bool,
-    rows: Slice,
+    table: InUse,
     left: &[u8],
     right: &[u8],
     weight: &[u8],
@@ -221,25 +217,23 @@ pub fn path_own(
     own: &mut [u64],
 ) -> Outcome
     ensures answer { λ o.
-        let c = tableOf n m whole (component rows) (now (left .entry)) (now (right .entry)) (now (weight .entry)) (now (mark .entry)) in
+        let c = tableIn n table (now (left .entry)) (now (right .entry)) (now (weight .entry)) (now (mark .entry)) in
         ⌜ refusalOf o ≡ ownPath c s words (now (own .entry)) ⌝ }
     ensures words { λ o.
-        let c = tableOf n m whole (component rows) (now (left .entry)) (now (right .entry)) (now (weight .entry)) (now (mark .entry)) in
+        let c = tableIn n table (now (left .entry)) (now (right .entry)) (now (weight .entry)) (now (mark .entry)) in
         ⌜ now (own .exit) ≡ ownAfter c s words (now (own .entry)) ⌝ }
 {
-    let checked = path_check(n, m, whole, rows, left, right, weight, mark, s, words);
+    let checked = path_check(n, table, left, right, weight, mark, s, words);
     let Outcome::Done = checked else {
         return checked;
     };
-    claim_walk(n, m, rows, left, right, mark, s, own)
+    claim_walk(n, table.m, table.rows, left, right, mark, s, own)
 }
 
-// MatrixPath over a table of m rows, of which those of a slice are in use: every refusal is settled, the walk's too, before the first 16 n words of r are written.
-pub fn matrix_path_rows(
+// MatrixPath over a table of either kind: every refusal is settled, the walk's too, before the first 16 n words of r are written.
+pub fn matrix_path(
     n: u32,
-    m: usize,
-    whole: bool,
-    rows: Slice,
+    table: InUse,
     left: &[u8],
     right: &[u8],
     weight: &[u8],
@@ -248,75 +242,15 @@ pub fn matrix_path_rows(
     r: &mut [u64],
 ) -> Outcome
     ensures { λ o.
-        let c = tableOf n m whole (component rows) (now (left .entry)) (now (right .entry)) (now (weight .entry)) (now (mark .entry)) in
+        let c = tableIn n table (now (left .entry)) (now (right .entry)) (now (weight .entry)) (now (mark .entry)) in
         ⌜ (refusalOf o ≡ matrixPath c s (now (r .entry))) × (now (r .exit) ≡ matrixAfter c s (now (r .entry))) ⌝ }
 {
     let mut own = [0u64; ALL_WORDS];
     let words = r.len();
-    let answer = path_own(
-        n,
-        m,
-        whole,
-        rows,
-        left,
-        right,
-        weight,
-        mark,
-        s,
-        words,
-        &mut own,
-    );
+    let answer = path_own(n, table, left, right, weight, mark, s, words, &mut own);
     let Outcome::Done = answer else {
         return answer;
     };
     fill(r, &own, WORDS * n as usize);
     Outcome::Done
-}
-
-// MatrixPath over a plain table: a row for each byte of the left column, all in use.
-pub fn matrix_path(
-    n: u32,
-    left: &[u8],
-    right: &[u8],
-    weight: &[u8],
-    mark: &[u8],
-    s: u32,
-    r: &mut [u64],
-) -> Outcome
-    ensures { λ o.
-        let c = callOf n (now (left .entry)) (now (right .entry)) (now (weight .entry)) (now (mark .entry)) in
-        ⌜ (refusalOf o ≡ matrixPath c s (now (r .entry))) × (now (r .exit) ≡ matrixAfter c s (now (r .entry))) ⌝ }
-{
-    let m = left.len();
-    matrix_path_rows(n, m, true, rows_to(m), left, right, weight, mark, s, r)
-}
-
-// MatrixPath over a working table: 1,024 rows, and the rows in use lent as sixteen words.
-pub fn work_matrix_path(
-    n: u32,
-    words: &[u64],
-    left: &[u8],
-    right: &[u8],
-    weight: &[u8],
-    mark: &[u8],
-    s: u32,
-    r: &mut [u64],
-) -> Outcome
-    ensures { λ o.
-        let c = workOf n (now (words .entry)) (now (left .entry)) (now (right .entry)) (now (weight .entry)) (now (mark .entry)) in
-        ⌜ (refusalOf o ≡ matrixPath c s (now (r .entry))) × (now (r .exit) ≡ matrixAfter c s (now (r .entry))) ⌝ }
-{
-    let whole = words.len() == WORDS;
-    matrix_path_rows(
-        n,
-        slice::SIZE,
-        whole,
-        rows_in_use(words),
-        left,
-        right,
-        weight,
-        mark,
-        s,
-        r,
-    )
 }

@@ -1,6 +1,8 @@
 // MatrixPath for C.
 use answer::of_outcome;
+use answer::well_lent;
 use answer::write_answer;
+use in_use::InUse;
 ghost use mathlib.Core.Path.{_≡_};
 ghost use Rattle.path_meaning.specs.Bytes.{PathsCall};
 ghost use Rattle.star_spec.specs.Call.{callOf};
@@ -30,10 +32,11 @@ pub extern "C" fn star_paths(
         let c = callOf n (now (left .entry)) (now (right .entry)) (now (weight .entry)) (now (mark .entry)) in
         ⌜ PathsCall c s (now (matrix .entry)) (now (answer .entry)) (now (answer .exit)) (now (matrix .exit)) r ⌝ }
 {
-    if answer.len() != 16 {
+    if !well_lent(answer) {
         return 0;
     }
-    let o = path::matrix_path(n, left, right, weight, mark, s, matrix);
+    let table = InUse::plain(left.len());
+    let o = path::matrix_path(n, table, left, right, weight, mark, s, matrix);
     let x = of_outcome(o);
     write_answer(answer, x);
     1

@@ -1,6 +1,8 @@
 // MatrixPath over a working table for C.
 use answer::of_outcome;
+use answer::well_lent;
 use answer::write_answer;
+use in_use::InUse;
 ghost use mathlib.Core.Path.{_≡_};
 ghost use Rattle.path_meaning.specs.Bytes.{PathsCall};
 ghost use Rattle.star_spec.specs.Call.{workOf};
@@ -31,10 +33,11 @@ pub extern "C" fn star_work_paths(
         let c = workOf n (now (words .entry)) (now (left .entry)) (now (right .entry)) (now (weight .entry)) (now (mark .entry)) in
         ⌜ PathsCall c s (now (matrix .entry)) (now (answer .entry)) (now (answer .exit)) (now (matrix .exit)) r ⌝ }
 {
-    if answer.len() != 16 {
+    if !well_lent(answer) {
         return 0;
     }
-    let o = path::work_matrix_path(n, words, left, right, weight, mark, s, matrix);
+    let table = InUse::working(words);
+    let o = path::matrix_path(n, table, left, right, weight, mark, s, matrix);
     let x = of_outcome(o);
     write_answer(answer, x);
     1

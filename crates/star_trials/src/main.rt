@@ -285,7 +285,8 @@ fn prices(s: &[u8], from: usize, room: &mut [u8]) -> Column
 // MatrixPath on a matrix of 112 words, all 7 beforehand.
 fn walk(n: u32, left: &[u8], right: &[u8], weight: &[u8], mark: &[u8], s: u32) {
     let mut matrix = [7u64; 112];
-    let answer = path::matrix_path(n, left, right, weight, mark, s, &mut matrix);
+    let table = InUse::plain(left.len());
+    let answer = path::matrix_path(n, table, left, right, weight, mark, s, &mut matrix);
     filled(answer, &matrix, n);
 }
 

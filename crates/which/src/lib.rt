@@ -9,6 +9,7 @@ ghost use Rattle.answer.specs.Records.{fieldsOf};
 ghost use Rattle.which_spec.specs.Door.{whichFields, planNumber, planOf, startOf, whichDoor, whichReturns, handedBack};
 ghost use Rattle.which_spec.specs.Means.{WhichCall};
 ghost use Rattle.which_spec.specs.Which.{lighterPlan, which};
+ghost use Rattle.in_use.specs.Tables.{tableIn};
 ghost use Rattle.refusal.specs.Outcomes.{refusalOf};
 ghost use Rattle.rowset.specs.Integers.{fromBits};
 ghost use Rattle.slice.specs.Slices.{component};
@@ -16,18 +17,14 @@ ghost use Rattle.star_spec.specs.Call.{Call, tableOf, callOf, workOf, claimWeig
 ghost use Rattle.star_spec.specs.Refusals.{cstCauses, refusal};
 ghost use Rattle.which.specs.Answers.{answerOf};
 use answer::Record;
+use answer::of_refusal;
+use answer::well_lent;
 use answer::write_answer;
+use in_use::InUse;
 use refusal::Outcome;
 use refusal::Refusal;
-use slice::SIZE;
 use slice::Slice;
-use slice::WORDS;
 use slice::rows::rows_among;
-use slice::rows::rows_to;
-use slice::words::rows_in_use;
-
-// The length of the lent answer.
-const LENGTH: usize = 16;
 
 // 2 ^ 63: the first of 64 bits.
 const OFFSET: u64 = 9223372036854775808;
@@ -45,33 +42,19 @@ pub enum Decision {
 // CST's refusals of a plan, without its search for an exchange: MatrixPath from vertex 1 has them on a matrix of its own.
 fn plan_check(
     n: u32,
-    m: usize,
-    whole: bool,
-    rows: Slice,
+    table: InUse,
     left: &[u8],
     right: &[u8],
     weight: &[u8],
     mark: &[u8],
 ) -> Outcome
     ensures { λ r.
-        let c = tableOf n m whole (component rows) (now (left .entry)) (now (right .entry)) (now (weight .entry)) (now (mark .entry)) in
+        let c = tableIn n table (now (left .entry)) (now (right .entry)) (now (weight .entry)) (now (mark .entry)) in
         ⌜ refusalOf r ≡ refusal (cstCauses c) ⌝ }
 {
     let mut own = [0u64; path::ALL_WORDS];
     let words = path::ALL_WORDS;
-    path::path_own(
-        n,
-        m,
-        whole,
-        rows,
-        left,
-        right,
-        weight,
-        mark,
-        1,
-        words,
-        &mut own,
-    )
+    path::path_own(n, table, left, right, weight, mark, 1, words, &mut own)
 }
 
 // The 64 bits of the weight of a plan that is not refused.
@@ -102,12 +85,10 @@ fn lighter(first: u64, second: u64) -> Decision
     Decision::First(first)
 }
 
-// Which plan stands over a table of m rows, of which those of a slice are in use: the first plan's refusal goes before the second's.
-pub fn decide_rows(
+// Which plan stands over a table of either kind: the first plan's refusal goes before the second's.
+fn decide(
     n: u32,
-    m: usize,
-    whole: bool,
-    rows: Slice,
+    table: InUse,
     left: &[u8],
     right: &[u8],
     weight: &[u8],
@@ -115,18 +96,18 @@ pub fn decide_rows(
     second: &[u8],
 ) -> Decision
     ensures { λ r.
-        let c = tableOf n m whole (component rows) (now (left .entry)) (now (right .entry)) (now (weight .entry)) (now (first .entry)) in
+        let c = tableIn n table (now (left .entry)) (now (right .entry)) (now (weight .entry)) (now (first .entry)) in
         ⌜ answerOf r ≡ which c (now (second .entry)) ⌝ }
 {
-    if let Outcome::Refused(refusal) = plan_check(n, m, whole, rows, left, right, weight, first) {
+    if let Outcome::Refused(refusal) = plan_check(n, table, left, right, weight, first) {
         return Decision::Refused(refusal);
     }
-    if let Outcome::Refused(refusal) = plan_check(n, m, whole, rows, left, right, weight, second) {
+    if let Outcome::Refused(refusal) = plan_check(n, table, left, right, weight, second) {
         return Decision::Refused(refusal);
     }
     lighter(
-        plan_weight(m, rows, weight, first),
-        plan_weight(m, rows, weight, second),
+        plan_weight(table.m, table.rows, weight, first),
+        plan_weight(table.m, table.rows, weight, second),
     )
 }
 
@@ -151,14 +132,7 @@ fn of_decision(d: Decision) -> Record
             only: ONLY,
             amount: weight,
         },
-        Decision::Refused(r) => Record {
-            kind: 0,
-            number: r.number,
-            out: r.place,
-            into: 0,
-            only: ONLY,
-            amount: 0,
-        },
+        Decision::Refused(r) => of_refusal(r),
     }
 }
 
@@ -173,12 +147,10 @@ fn number_of(d: Decision) -> u32
     }
 }
 
-// Which plan stands, 1 or 2, and the sixteen bytes; 0 on a refusal, and where the lent answer has not sixteen bytes.
-pub fn which_rows(
+// Which plan stands over a table of either kind, 1 or 2, and the sixteen bytes; 0 on a refusal, and where the lent answer has not sixteen bytes.
+pub fn which(
     n: u32,
-    m: usize,
-    whole: bool,
-    rows: Slice,
+    table: InUse,
     left: &[u8],
     right: &[u8],
     weight: &[u8],
@@ -187,75 +159,16 @@ pub fn which_rows(
     answer: &mut [u8],
 ) -> u32
     ensures { λ r.
-        let c = tableOf n m whole (component rows) (now (left .entry)) (now (right .entry)) (now (weight .entry)) (now (first .entry)) in
+        let c = tableIn n table (now (left .entry)) (now (right .entry)) (now (weight .entry)) (now (first .entry)) in
         ⌜ (r ≡ whichReturns c (now (second .entry)) (now (answer .entry))) × (now (answer .exit) ≡ whichDoor c (now (second .entry)) (now (answer .entry))) ⌝ }
 {
-    if answer.len() != LENGTH {
+    if !well_lent(answer) {
         return 0;
     }
-    let d = decide_rows(n, m, whole, rows, left, right, weight, first, second);
+    let d = decide(n, table, left, right, weight, first, second);
     let x = of_decision(d);
     write_answer(answer, x);
     number_of(d)
-}
-
-// The same over a plain table: a row for each byte of the left column, all in use.
-pub fn which(
-    n: u32,
-    left: &[u8],
-    right: &[u8],
-    weight: &[u8],
-    first: &[u8],
-    second: &[u8],
-    answer: &mut [u8],
-) -> u32
-    ensures { λ r.
-        let c = callOf n (now (left .entry)) (now (right .entry)) (now (weight .entry)) (now (first .entry)) in
-        ⌜ (r ≡ whichReturns c (now (second .entry)) (now (answer .entry))) × (now (answer .exit) ≡ whichDoor c (now (second .entry)) (now (answer .entry))) ⌝ }
-{
-    let m = left.len();
-    which_rows(
-        n,
-        m,
-        true,
-        rows_to(m),
-        left,
-        right,
-        weight,
-        first,
-        second,
-        answer,
-    )
-}
-
-// The same over a working table: 1,024 rows, and the rows in use lent as sixteen words.
-pub fn work_which(
-    n: u32,
-    words: &[u64],
-    left: &[u8],
-    right: &[u8],
-    weight: &[u8],
-    first: &[u8],
-    second: &[u8],
-    answer: &mut [u8],
-) -> u32
-    ensures { λ r.
-        let c = workOf n (now (words .entry)) (now (left .entry)) (now (right .entry)) (now (weight .entry)) (now (first .entry)) in
-        ⌜ (r ≡ whichReturns c (now (second .entry)) (now (answer .entry))) × (now (answer .exit) ≡ whichDoor c (now (second .entry)) (now (answer .entry))) ⌝ }
-{
-    let whole = words.len() == WORDS;
-    which_rows(
-        n,
-        SIZE,
-        whole,
-        rows_in_use(words),
-        left,
-        right,
-        weight,
-        first,
-        second,
-        answer,
-    )
 }
 
 // The plan of a number, as it was lent: 1 the first, 2 the second, and of any other number the empty start of the first.
@@ -296,7 +209,8 @@ pub fn which_plan<'a>(
         let c = callOf n (now (left .entry)) (now (right .entry)) (now (weight .entry)) (now (first .entry)) in
         ⌜ WhichCall c (now (second .entry)) (now (answer .entry)) (now (answer .exit)) (now r) (whichReturns c (now (second .entry)) (now (answer .entry))) ⌝ }
 {
-    let k = which(n, left, right, weight, first, second, answer);
+    let plain = InUse::plain(left.len());
+    let k = which(n, plain, left, right, weight, first, second, answer);
     plan_of(k, first, second)
 }
 
@@ -324,6 +238,7 @@ pub fn work_which_plan<'a>(
         let c = workOf n (now (words .entry)) (now (left .entry)) (now (right .entry)) (now (weight .entry)) (now (first .entry)) in
         ⌜ WhichCall c (now (second .entry)) (now (answer .entry)) (now (answer .exit)) (now r) (whichReturns c (now (second .entry)) (now (answer .entry))) ⌝ }
 {
-    let k = work_which(n, words, left, right, weight, first, second, answer);
+    let working = InUse::working(words);
+    let k = which(n, working, left, right, weight, first, second, answer);
     plan_of(k, first, second)
 }

@@ -1,4 +1,5 @@
 // Which plan stands, for C: the number of the plan, and the sixteen bytes of every door, kind 1 with the weight of that plan or the refusal, byte 6 zero.
+use in_use::InUse;
 ghost use mathlib.Core.Path.{_≡_};
 ghost use Rattle.which_spec.specs.Door.{planOf, whichDoor, whichReturns};
 ghost use Rattle.which_spec.specs.Means.{WhichCall};
@@ -25,7 +26,8 @@ pub extern "C" fn star_which(
         let c = callOf n (now (left .entry)) (now (right .entry)) (now (weight .entry)) (now (first .entry)) in
         ⌜ WhichCall c (now (second .entry)) (now (answer .entry)) (now (answer .exit)) (planOf (now (first .entry)) (now (second .entry)) r) r ⌝ }
 {
-    which::which(n, left, right, weight, first, second, answer)
+    let plain = InUse::plain(left.len());
+    which::which(n, plain, left, right, weight, first, second, answer)
 }
 
 // Which plan stands over a working table, whose rows in use are lent as sixteen words.
@@ -50,5 +52,6 @@ pub extern "C" fn star_work_which(
         let c = workOf n (now (words .entry)) (now (left .entry)) (now (right .entry)) (now (weight .entry)) (now (first .entry)) in
         ⌜ WhichCall c (now (second .entry)) (now (answer .entry)) (now (answer .exit)) (planOf (now (first .entry)) (now (second .entry)) r) r ⌝ }
 {
-    which::work_which(n, words, left, right, weight, first, second, answer)
+    let working = InUse::working(words);
+    which::which(n, working, left, right, weight, first, second, answer)
 }

@@ -13,7 +13,7 @@ unfolding answerOf equalRowsOf refusalOf recordOf
 returns c =
     let told = c .before in
     let p = told .before .before .before .before in
-    let s = p .before .before .before .before .before .before .before .before in
+    let s = p .before .before .before .before .before .before .before in
     rw (c .record-of .ensures, told .enum-told2 .given .1)
     (refused-own _ (s .args .own .now) (λ t. s .pre (t .few-vertices)) _ (ap refusalOf (sym (told .enum-told2 .given .1)) ∙ p .path-own .ensures .0))
 
@@ -22,7 +22,7 @@ unfolding refusalOf
 judge-requires c κs =
     let told = c .before in
     let p = told .before .before .before .before in
-    let s = p .before .before .before .before .before .before .before .before in
+    let s = p .before .before .before .before .before .before .before in
     loads-own _ (s .args .own .now) (λ t. s .pre (t .few-vertices)) (ap refusalOf (sym (told .enum-told .given .1)) ∙ p .path-own .ensures .0)
 
 returns-2 : tie.Need-returns-2
@@ -30,7 +30,7 @@ unfolding refusalOf
 returns-2 c =
     let told = c .before .before in
     let p = told .before .before .before .before in
-    let s = p .before .before .before .before .before .before .before .before in
+    let s = p .before .before .before .before .before .before .before in
     c .judge .ensures _ _ (walked-own _ (s .args .own .now) (λ t. s .pre (t .few-vertices)) (ap refusalOf (sym (told .enum-told .given .1)) ∙ p .path-own .ensures .0) _ (p .path-own .ensures .1))
 
 pub check-in-spec : {M : Type 1} → statement M

@@ -24,7 +24,7 @@ claim-part : (S : ℕ → Bool) (m k : ℕ) → m ≤ k → take m (claimOf k S)
 unfolding claimOf
 claim-part S m k h = let e : k ≡ m + (k - m) = omega arith in ap (λ (j : ℕ). take m (claimFrom S 0 j)) e ∙ claim-start S 0 m (k - m)
 
-prefix : tie.Need-slice-aggregate-matrix-path-rows
+prefix : tie.Need-slice-aggregate-matrix-path
 prefix c =
     let whole : length (c .before .before .write-claim .last .0) ≡ 1024 = search needs in
     sym (length-take-le (c .before .before .before .before .before .before .before .before .args .m) (c .before .before .write-claim .last .0) (omega arith))
@@ -36,9 +36,9 @@ returns c =
     let e : take (a .m) (c .before .before .before .before .before .before .write-claim .last .0) ≡ claimOf (a .m) (component (a .marks)) = ap (take (a .m)) whole ∙ claim-part (component (a .marks)) (a .m) 1024 (omega arith) in
     subst
     (λ (l : List ℕ).
-    (refusalOf (c .before .before .matrix-path-rows .result) ≡ matrixPath (tableOf (a .n) (a .m) (a .whole) (component (a .rows)) (a .left .now) (a .right .now) (a .weight .now) l) 1 (a .own .now))
-    × (c .before .before .matrix-path-rows .last .1 .1 .1 .1 .1 .1 .1 .1 .1 .0 ≡ matrixAfter (tableOf (a .n) (a .m) (a .whole) (component (a .rows)) (a .left .now) (a .right .now) (a .weight .now) l) 1 (a .own .now)))
-    e (c .before .before .matrix-path-rows .ensures)
+    (refusalOf (c .before .before .matrix-path .result) ≡ matrixPath (tableOf (a .n) (a .m) (a .whole) (component (a .rows)) (a .left .now) (a .right .now) (a .weight .now) l) 1 (a .own .now))
+    × (c .before .before .matrix-path .last .1 .1 .1 .1 .1 .1 .1 .0 ≡ matrixAfter (tableOf (a .n) (a .m) (a .whole) (component (a .rows)) (a .left .now) (a .right .now) (a .weight .now) l) 1 (a .own .now)))
+    e (c .before .before .matrix-path .ensures)
 
 pub tree-paths-spec : {M : Type 1} → statement M
 tree-paths-spec =

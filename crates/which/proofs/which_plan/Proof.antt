@@ -10,8 +10,10 @@ returns : tie.Need-returns
 unfolding handedBack
 returns c =
     let w = c .before .before .before in
-    let (plan, rest) = plan-call (c .plan-of .ensures .0 ∙ ap (planOf _ _) (w .which .ensures .0), w .which .ensures .1) in
-    (plan, (c .plan-of .ensures .1 ∙ ap (startOf _ _) (w .which .ensures .0), rest))
+    let table = w .before .before .plain .ensures in
+    let (number, bytes) = rw (table .0 .0, table .0 .1, table .1) at (w .which .ensures) in
+    let (plan, rest) = plan-call (c .plan-of .ensures .0 ∙ ap (planOf _ _) number, bytes) in
+    (plan, (c .plan-of .ensures .1 ∙ ap (startOf _ _) number, rest))
 
 pub which-plan-spec : {M : Type 1} → statement M
-which-plan-spec = tie.close (tie.spec (λ c κs. search needs) (λ c κs. search needs) (λ c. search needs) returns)
+which-plan-spec = tie.close (tie.spec (λ c κs. search needs) (λ c κs. search needs) (λ c κs. search needs) (λ c. search needs) returns)

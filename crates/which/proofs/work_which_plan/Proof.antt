@@ -1,4 +1,4 @@
--- `which::work_which_plan` meets its contract: the plan of the number that `work_which` returns. Assumes nothing.
+-- `which::work_which_plan` meets its contract: the plan of the number that `which` returns. Assumes nothing.
 use borrow.Author.Needs.{needs}
 use mathlib.Core.Path.{ap, _∙_}
 use Rattle.which_spec.proofs.Means.{plan-call}
@@ -10,8 +10,10 @@ returns : tie.Need-returns
 unfolding handedBack
 returns c =
     let w = c .before .before .before in
-    let (plan, rest) = plan-call (c .plan-of .ensures .0 ∙ ap (planOf _ _) (w .work-which .ensures .0), w .work-which .ensures .1) in
-    (plan, (c .plan-of .ensures .1 ∙ ap (startOf _ _) (w .work-which .ensures .0), rest))
+    let table = w .before .before .working .ensures in
+    let (number, bytes) = rw (table .0 .0, table .0 .1, table .1) at (w .which .ensures) in
+    let (plan, rest) = plan-call (c .plan-of .ensures .0 ∙ ap (planOf _ _) number, bytes) in
+    (plan, (c .plan-of .ensures .1 ∙ ap (startOf _ _) number, rest))
 
 pub work-which-plan-spec : {M : Type 1} → statement M
-work-which-plan-spec = tie.close (tie.spec (λ c κs. search needs) (λ c κs. search needs) (λ c. search needs) returns)
+work-which-plan-spec = tie.close (tie.spec (λ c κs. search needs) (λ c κs. search needs) (λ c κs. search needs) (λ c. search needs) returns)

@@ -5,7 +5,10 @@ use Rattle.which_door.proofs.which_door.star_which.Statement.{statement
 use Rattle.which_door.proofs.which_door.star_which.Tie as tie
 
 returns : tie.Need-returns
-returns c = which-call (c .before .before .which .ensures)
+returns c =
+    let w = c .before .before in
+    let table = w .before .before .plain .ensures in
+    which-call (rw (table .0 .0, table .0 .1, table .1) at (w .which .ensures))
 
 pub star-which-spec : {M : Type 1} → statement M
-star-which-spec = tie.close (tie.spec (λ c κs. search needs) (λ c. search needs) returns)
+star-which-spec = tie.close (tie.spec (λ c κs. search needs) (λ c κs. search needs) (λ c. search needs) returns)

@@ -1,10 +1,10 @@
--- `which::decide_rows` meets its contract in each of its three cases: the first plan is refused, or the second, or the weights decide. Assumes nothing.
+-- `which::decide` meets its contract in each of its three cases: the first plan is refused, or the second, or the weights decide. Assumes nothing.
 use borrow.Author.Needs.{needs}
 use mathlib.Core.Path.{_∙_}
 use Rattle.which.proofs.Laws.{first-declined, second-declined, decided}
 use Rattle.which.specs.Answers.{answerOf}
-use Rattle.which.proofs.decide_rows.Statement.{statement}
-use Rattle.which.proofs.decide_rows.Tie as tie
+use Rattle.which.proofs.decide.Statement.{statement}
+use Rattle.which.proofs.decide.Tie as tie
 
 returns : tie.Need-returns
 unfolding answerOf
@@ -25,8 +25,8 @@ returns-3 c =
     ∙ decided _ _ (b .before .before .plan-check .ensures) (b .enum-told .given .1) (t .before .before .plan-check2 .ensures) (t .enum-told2 .given .1)
     _ _ (c .before .before .plan-weight .ensures _ _ _ _) (c .before .plan-weight2 .ensures _ _ _ _)
 
-pub decide-rows-spec : {M : Type 1} → statement M
-decide-rows-spec =
+pub decide-spec : {M : Type 1} → statement M
+decide-spec =
     tie.close
     (tie.spec
     (λ c κs. search needs)
