@@ -16,6 +16,8 @@
 # make bench     times the doors against other libraries, and plots the times (target/c/bench.svg)
 # make counts    the instructions of each call of the bench, by callgrind
 # make tasks     ten tasks with the library, networkx and LEMON, side by side: lines and microseconds
+# make format    the C in the format of .clang-format
+# make format-check   whether it is, and the crates by rt fmt
 # make sums      writes crates.sum, the record of the gate, anew from the proved archives
 # make manual    what the manual page and the documents have from the table of commands (console/pages.c)
 # make documents the same, what the documents' examples print, and their pictures
@@ -54,7 +56,7 @@ define COMPILE
 endef
 
 # Where the archives are taken as they are, none is compiled that is there: no kit is needed then.
-TAKEN := console checked install uninstall manual help
+TAKEN := console checked install uninstall manual help format format-check
 ifneq ($(filter-out $(TAKEN),$(or $(MAKECMDGOALS),all)),)
 SOURCES := crates.txt tools/compile.sh $(wildcard $(shell sh tools/kit.sh 2>/dev/null)/KIT-ID) $(sort $(shell find crates -path '*/src/*' -name '*.rt'))
 endif
@@ -176,6 +178,12 @@ run: $(BUILD)/star tell
 
 test:
 	bash .ci/run
+
+format:
+	clang-format -i $$(find console include programs tests -name '*.[ch]')
+
+format-check:
+	bash tests/format.sh
 
 # What stands outside the proofs: the doors against the plain implementation, the import against the plain reader (python3), both under a
 # memory checker, and the console.

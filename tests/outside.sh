@@ -33,6 +33,9 @@ controls() { # PROGRAM SOURCE
     done
 }
 
+bash tests/format.sh | tee "$work/format"
+add "$work/format"
+
 # The doors, a name and how many tables each; the short calls over a table last.
 doors='door work quote breaking which digs districts mend outlets'
 declare -A tables=([door]=200000 [work]=50000 [districts]=50000 [mend]=50000 [table]=200000)

@@ -116,10 +116,9 @@ static void hang(const struct call *c, uint32_t s, struct hung *h) {
     while (changed) {
         changed = 0;
         for (i = 0; i < c->left_len; i++) {
-            int a = c->left[i], b = c->right[i], t;
-            if (c->mark[i] != 1) continue;
-            if (!h->depth[a] == !h->depth[b]) continue;
-            if (!h->depth[a]) t = a, a = b, b = t;
+            int turned = !h->depth[c->left[i]];
+            int a = turned ? c->right[i] : c->left[i], b = turned ? c->left[i] : c->right[i];
+            if (c->mark[i] != 1 || !h->depth[a] == !h->depth[b]) continue;
             h->parent[b] = a;
             h->row[b] = (int)i + 1;
             h->depth[b] = h->depth[a] + 1;
@@ -138,15 +137,12 @@ struct path {
 static struct path path_of(const struct call *c, const struct hung *h, int a, int b, int32_t w) {
     struct path p = {0, 0, 0};
     while (a != b) {
-        int t, r;
-        int32_t x;
-        if (h->depth[a] < h->depth[b]) t = a, a = b, b = t;
-        r = h->row[a];
-        x = price_of(c, (size_t)r - 1);
+        int *deeper = h->depth[a] < h->depth[b] ? &b : &a, r = h->row[*deeper];
+        int32_t x = price_of(c, (size_t)r - 1);
         if (x > w && (!p.heavier || r < p.heavier)) p.heavier = r;
         if (x == w && (!p.equal || r < p.equal)) p.equal = r;
         p.equals += x == w;
-        a = h->parent[a];
+        *deeper = h->parent[*deeper];
     }
     return p;
 }
@@ -189,7 +185,10 @@ static uint32_t judge(const struct call *c, int other, uint8_t *answer, size_t a
                 (int64_t)price_of(c, (size_t)p.heavier - 1) - price_of(c, i));
             return 1;
         }
-        if (other && p.equal && !in) out = (unsigned)p.equal, in = (unsigned)i + 1;
+        if (other && p.equal && !in) {
+            out = (unsigned)p.equal;
+            in = (unsigned)i + 1;
+        }
         equals += p.equals;
     }
     put(answer, 1, 0, out, in, equals == 0, total);

@@ -58,7 +58,7 @@ static void build(const struct in_use *u, const struct call *c, uint8_t answer[1
 static int refused(const struct in_use *u, const struct call *c, uint32_t row, uint8_t answer[16]) {
     build(u, c, answer);
     if (answer[0] == 0 && answer[1] != 11) return 1;
-    if (!regarded(u, c, row)) return put(answer, 0, 7, 0), 1;
+    if (!regarded(u, c, row)) return (int)put(answer, 0, 7, 0);
     return answer[0] == 0;
 }
 

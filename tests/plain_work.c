@@ -49,8 +49,8 @@ static void take(struct part *p, struct in_use u, const struct call *c) {
 /* The table of the rows in use, unless the number of junctions or a length is wrong: then 0, and
    the answer has the refusal. */
 static int part_of(struct part *p, struct in_use u, const struct call *c, uint8_t *answer) {
-    if (c->n == 0 || c->n > 255) return refuse(answer, 1), 0;
-    if (wrong_columns(u, c) || c->mark_len != ROWS) return refuse(answer, 3), 0;
+    if (c->n == 0 || c->n > 255) return !refuse(answer, 1);
+    if (wrong_columns(u, c) || c->mark_len != ROWS) return !refuse(answer, 3);
     take(p, u, c);
     return 1;
 }
@@ -71,19 +71,24 @@ static void renumber(const struct part *p, uint8_t *answer) {
     name(p, answer + 4);
 }
 
-uint32_t plain_work_cst(struct in_use u, const struct call *c, uint8_t *answer, size_t answer_len) {
+/* One of the plain judges, over the rows in use. */
+static uint32_t judge(uint32_t (*plain)(const struct call *, uint8_t *, size_t), struct in_use u,
+                      const struct call *c, uint8_t *answer, size_t answer_len) {
     static struct part p;
     if (answer_len != 16) return 0;
-    if (part_of(&p, u, c, answer)) plain_cst(&p.c, answer, 16), renumber(&p, answer);
+    if (!part_of(&p, u, c, answer)) return 1;
+    plain(&p.c, answer, 16);
+    renumber(&p, answer);
     return 1;
+}
+
+uint32_t plain_work_cst(struct in_use u, const struct call *c, uint8_t *answer, size_t answer_len) {
+    return judge(plain_cst, u, c, answer, answer_len);
 }
 
 uint32_t plain_work_other(struct in_use u, const struct call *c, uint8_t *answer,
                           size_t answer_len) {
-    static struct part p;
-    if (answer_len != 16) return 0;
-    if (part_of(&p, u, c, answer)) plain_other(&p.c, answer, 16), renumber(&p, answer);
-    return 1;
+    return judge(plain_other, u, c, answer, answer_len);
 }
 
 uint32_t plain_work_mst1(struct in_use u, const struct call *c, uint8_t *answer,
@@ -159,8 +164,10 @@ uint32_t plain_add(struct in_use u, const struct call *c, struct numbers to, uin
     size_t i, all = 0, last = 0;
     int k;
     if (answer_len != 16) return 0;
-    for (i = 1; i <= ROWS; i++)
-        if (used(u, i)) all++, last = i;
+    for (i = 1; i <= ROWS; i++) {
+        all += (size_t)used(u, i);
+        if (used(u, i)) last = i;
+    }
     if (all == ROWS) return refuse(answer, 17);
     if (wrong_columns(u, c) || to.count != ROWS) return refuse(answer, 3);
     if (last == ROWS) last = pack(u, c, to);

@@ -7,22 +7,20 @@
 #include <stdlib.h>
 #include <string.h>
 
+#include "random.h"
 #include "star.h"
 
 enum { THREADS = 8, JUNCTIONS = 60, ROWS = 200 };
 
 struct work {
-    unsigned seed;
+    uint64_t seed;
     unsigned long rounds;
     uint64_t found; /* all answers, mixed */
 };
 
 static struct star_table one;
 
-static unsigned next(unsigned *seed) {
-    *seed = *seed * 1103515245U + 12345U;
-    return *seed >> 12;
-}
+static unsigned next(uint64_t *seed) { return (unsigned)(random_bits(seed) >> 40); }
 
 static void mix(uint64_t *found, int64_t with) {
     *found = (*found ^ (uint64_t)with) * 1099511628211U;
@@ -30,7 +28,7 @@ static void mix(uint64_t *found, int64_t with) {
 
 /* A connected table without repeated rows: a chain, and rows to the second, the third ..
    neighbour. */
-static void fill(struct star_table *t, unsigned *seed) {
+static void fill(struct star_table *t, uint64_t *seed) {
     unsigned row, gap = 1, at = 0;
     star_table_init(t, JUNCTIONS);
     for (row = 1; row <= ROWS; row++) {
@@ -73,13 +71,14 @@ static void *work(void *with) {
 
 int main(int count, char **words) {
     unsigned long rounds = count > 1 ? strtoul(words[1], NULL, 10) : 500;
-    unsigned seed = 1, k, failed = 0;
+    uint64_t seed = RANDOM_START;
+    unsigned k, failed = 0;
     struct work alone[THREADS], together[THREADS];
     pthread_t threads[THREADS];
     fill(&one, &seed);
     star_table_build(&one);
     for (k = 0; k < THREADS; k++) {
-        alone[k].seed = k + 7;
+        alone[k].seed = RANDOM_START + k;
         alone[k].rounds = rounds;
         alone[k].found = 0;
         together[k] = alone[k];
