@@ -64,7 +64,10 @@ void places_bends(uint32_t n, uint32_t m, const uint8_t *left, const uint8_t *ri
     struct ends e = {0, 0, NULL, NULL};
     double clear = CLOSE * nearness(n, at);
     uint32_t i;
-    e.n = n, e.m = m, e.left = left, e.right = right;
+    e.n = n;
+    e.m = m;
+    e.left = left;
+    e.right = right;
     if (clear > CLEAR) clear = CLEAR;
     for (i = 0; i < m; i++) {
         uint32_t a = left[i], b = right[i];
@@ -87,10 +90,16 @@ int places_given(uint32_t n, uint32_t m, const uint8_t *left, const uint8_t *rig
     struct ends e = {0, 0, NULL, NULL};
     double sum = 0, scale;
     uint32_t i, v, used = 0;
-    e.n = n, e.m = m, e.left = left, e.right = right;
+    e.n = n;
+    e.m = m;
+    e.left = left;
+    e.right = right;
     if (coincide(n, at)) return 0;
     for (i = 0; i < m; i++)
-        if (places_sound(&e, i)) used++, sum += places_distance(at[left[i]], at[right[i]]);
+        if (places_sound(&e, i)) {
+            used++;
+            sum += places_distance(at[left[i]], at[right[i]]);
+        }
     if (sum > 1e15) return 0;
     scale = sum > 0 ? used / sum : 1;
     for (v = n; v >= 1; v--) {

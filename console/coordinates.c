@@ -58,7 +58,10 @@ static int number_of(struct words w, double *number) {
     *number = 0;
     if (minus || (w.at < w.end && *w.at == '+')) w.at++;
     whole = digits(&w, number);
-    if (w.at < w.end && *w.at == '.') w.at++, decimals = digits(&w, number);
+    if (w.at < w.end && *w.at == '.') {
+        w.at++;
+        decimals = digits(&w, number);
+    }
     if (whole + decimals == 0 || whole + decimals > 300) return 0;
     if (w.at < w.end && (*w.at == 'e' || *w.at == 'E')) {
         w.at++;

@@ -84,7 +84,10 @@ static void place(struct layout *l, const struct table *t, double bend[PLACES_RO
     l->dot = t->n <= 24 ? 13 : 11;
     corners(l, t, 0, &least, &most);
     scale = scale_of(l, t, most.x - least.x, most.y - least.y);
-    for (v = 1; v <= t->n; v++) l->at[v].x *= scale, l->at[v].y *= scale;
+    for (v = 1; v <= t->n; v++) {
+        l->at[v].x *= scale;
+        l->at[v].y *= scale;
+    }
     for (i = 0; i < t->m; i++) bend[i] *= scale;
 }
 

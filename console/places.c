@@ -39,7 +39,10 @@ static void list_beside(const struct ends *e) {
     uint32_t v, i;
     for (v = 0; v <= SIZE; v++) first[v] = 0;
     for (i = 0; i < e->m; i++)
-        if (places_sound(e, i)) first[e->left[i]]++, first[e->right[i]]++;
+        if (places_sound(e, i)) {
+            first[e->left[i]]++;
+            first[e->right[i]]++;
+        }
     for (v = 1; v <= SIZE; v++) first[v] = (uint16_t)(first[v] + first[v - 1]);
     for (i = e->m; i-- > 0;) {
         if (!places_sound(e, i)) continue;
@@ -164,7 +167,10 @@ static uint32_t crossings(const struct ends *e, const struct point *at) {
 static void turn(struct point *at, uint32_t n) {
     double mx = 0, my = 0, xx = 0, xy = 0, yy = 0, d, h, c = 1, s = 0;
     uint32_t v;
-    for (v = 1; v <= n; v++) mx += at[v].x / n, my += at[v].y / n;
+    for (v = 1; v <= n; v++) {
+        mx += at[v].x / n;
+        my += at[v].y / n;
+    }
     for (v = 1; v <= n; v++) {
         at[v].x -= mx;
         at[v].y -= my;
@@ -186,7 +192,10 @@ static void turn(struct point *at, uint32_t n) {
     }
     c = at[1].x > 0 ? -1 : 1;
     s = at[1].y > 0 ? -1 : 1;
-    for (v = 1; v <= n; v++) at[v].x *= c, at[v].y *= s;
+    for (v = 1; v <= n; v++) {
+        at[v].x *= c;
+        at[v].y *= s;
+    }
 }
 
 static void stress(const struct ends *e, struct point *at) {
@@ -207,7 +216,10 @@ static void stress(const struct ends *e, struct point *at) {
 void places_of(uint32_t n, uint32_t m, const uint8_t *left, const uint8_t *right,
                struct point *at) {
     struct ends e = {0, 0, NULL, NULL};
-    e.n = n, e.m = m, e.left = left, e.right = right;
+    e.n = n;
+    e.m = m;
+    e.left = left;
+    e.right = right;
     list_beside(&e);
     if (!places_shape(&e, &beside, at)) stress(&e, at);
 }

@@ -32,7 +32,10 @@ static uint32_t tip(const struct ends *e, const struct beside *b) {
     uint32_t v, found = 0, tips = 0;
     for (v = e->n; v >= 1; v--) {
         if (degree(b, v) < 1 || degree(b, v) > 2) return 0;
-        if (degree(b, v) == 1) found = v, tips++;
+        if (degree(b, v) == 1) {
+            found = v;
+            tips++;
+        }
     }
     return tips == 2 ? found : 0;
 }

@@ -95,15 +95,27 @@ void box_junction(struct box *b, const struct drawing *g, unsigned v) { include(
 /* Widens a side to a least length, and keeps it on the sheet. */
 static void side(double *from, double *to, double least, double sheet) {
     double more = (least - (*to - *from)) / 2;
-    if (more > 0) *from -= more, *to += more;
-    if (*from < 0) *to -= *from, *from = 0;
-    if (*to > sheet) *from -= *to - sheet, *to = sheet;
+    if (more > 0) {
+        *from -= more;
+        *to += more;
+    }
+    if (*from < 0) {
+        *to -= *from;
+        *from = 0;
+    }
+    if (*to > sheet) {
+        *from -= *to - sheet;
+        *to = sheet;
+    }
     if (*from < 0) *from = 0;
 }
 
 struct box box_shown(struct box b, const struct drawing *g) {
     if (b.right < b.left || (g->l.width <= SMALL && g->l.height <= SMALL)) return box_whole(g);
-    b.left -= AROUND, b.right += AROUND, b.top -= AROUND, b.bottom += AROUND;
+    b.left -= AROUND;
+    b.right += AROUND;
+    b.top -= AROUND;
+    b.bottom += AROUND;
     side(&b.left, &b.right, LEAST_WIDE, g->l.width);
     side(&b.top, &b.bottom, LEAST_HIGH, g->l.height);
     return b;

@@ -33,8 +33,8 @@ static const char *called_door = "no door", *called_library = "";
 
 static void ended(int number) {
     static char line[200];
-    int length = snprintf(line, sizeof line, "%s of %s: signal %d\n", called_door, called_library,
-                          number);
+    int length =
+        snprintf(line, sizeof line, "%s of %s: signal %d\n", called_door, called_library, number);
     if (write(1, line, (size_t)length) < 0) _exit(4);
     _exit(3);
 }

@@ -8,21 +8,36 @@
 
 enum { MOST_DOORS = 64, MOST_NUMBER = 32 };
 enum {
-    NOT_TAKEN, DONE, ONLY, ANOTHER, LIGHTER, NEVER, FIRST, SECOND, DROPPED, ADDED, EXCHANGED,
-    KEPT, PACKED, ONE_WORD, FOUR_WORDS, SIXTEEN_WORDS, LARGEST, KINDS
+    NOT_TAKEN,
+    DONE,
+    ONLY,
+    ANOTHER,
+    LIGHTER,
+    NEVER,
+    FIRST,
+    SECOND,
+    DROPPED,
+    ADDED,
+    EXCHANGED,
+    KEPT,
+    PACKED,
+    ONE_WORD,
+    FOUR_WORDS,
+    SIXTEEN_WORDS,
+    LARGEST,
+    KINDS
 };
 
 /* The kinds, and the doors that have them: a part of the name, or of every name. */
 static const struct {
-    const char *words, *of, *or;
+    const char *words, *of, * or ;
 } kinds[KINDS] = {
-    {"not taken", "star_", NULL}, {"done", "star_", NULL},
-    {"only", "cst", "other"}, {"another", "cst", "other"}, {"lighter", "cst", "other"},
-    {"never", "breaking", NULL}, {"first", "which", NULL}, {"second", "which", NULL},
-    {"dropped", "mend", NULL}, {"added", "mend", NULL}, {"exchanged", "mend", NULL},
-    {"kept", "star_add", NULL}, {"packed", "star_add", NULL},
-    {"1 word", "star_", NULL}, {"4 words", "star_", NULL}, {"16 words", "star_", NULL},
-    {"largest", "star_", NULL},
+    {"not taken", "star_", NULL}, {"done", "star_", NULL},     {"only", "cst", "other"},
+    {"another", "cst", "other"},  {"lighter", "cst", "other"}, {"never", "breaking", NULL},
+    {"first", "which", NULL},     {"second", "which", NULL},   {"dropped", "mend", NULL},
+    {"added", "mend", NULL},      {"exchanged", "mend", NULL}, {"kept", "star_add", NULL},
+    {"packed", "star_add", NULL}, {"1 word", "star_", NULL},   {"4 words", "star_", NULL},
+    {"16 words", "star_", NULL},  {"largest", "star_", NULL},
 };
 
 static unsigned long of_kind[MOST_DOORS][KINDS], of_number[MOST_DOORS][MOST_NUMBER];
@@ -73,16 +88,14 @@ void counts_add(const struct call *before, const struct call *after, uint32_t re
     int list = text >= 0 && !after->door->p[text].is_const;
     if (answer->length != length || (list && after->v[text].length < STAR_MAX_LIST))
         of_kind[door][NOT_TAKEN]++;
-    else if (answer->bytes[0] == STAR_REFUSED)
-        of_number[door][answer->bytes[1] % MOST_NUMBER]++;
-    else
-        add_done(of_kind[door], before, after, result);
+    else if (answer->bytes[0] == STAR_REFUSED) of_number[door][answer->bytes[1] % MOST_NUMBER]++;
+    else add_done(of_kind[door], before, after, result);
 }
 
 static int has_kind(const char *name, unsigned kind) {
     /* star_carry has no rows. */
     if (kind >= ONE_WORD && strcmp(name, "star_carry") == 0) return 0;
-    return strstr(name, kinds[kind].of) || (kinds[kind].or && strstr(name, kinds[kind].or));
+    return strstr(name, kinds[kind].of) || (kinds[kind].or &&strstr(name, kinds[kind].or));
 }
 
 static int has_number(const struct door *door, unsigned number) {

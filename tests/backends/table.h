@@ -10,8 +10,8 @@ enum { TABLE_ROWS = 1024, TABLE_ROOM = 1040 };
 struct table {
     uint32_t n;
     int working;
-    size_t m;    /* the rows in use */
-    size_t rows; /* the length of a column: m, or 1,024 where it is a working table */
+    size_t m;              /* the rows in use */
+    size_t rows;           /* the length of a column: m, or 1,024 where it is a working table */
     size_t at[TABLE_ROOM]; /* where each row in use stands, counted from 0 */
     uint8_t left[TABLE_ROOM], right[TABLE_ROOM], mark[TABLE_ROOM], weight[4 * TABLE_ROOM];
     uint64_t in_use[16];
