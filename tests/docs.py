@@ -43,6 +43,11 @@ int main(void) {
 # What the blocks print, over the yard with the dearer plan.
 PRINTED = '''\
 take out 1, put in 4: saves 1
+1 1 2 5
+2 2 3 3
+3 3 4 5
+Total 13
+refused 12 at byte 8
 row 2 lies between s and junction 3
 theirs
 step 1: out 5, in 0
