@@ -5,3 +5,4 @@ pub mod Skips
 pub mod Graphs
 pub mod Loops
 pub mod Sections
+pub mod Texts

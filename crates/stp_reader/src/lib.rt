@@ -1,18 +1,21 @@
 // The reader of a SteinLib STP text: its words become the columns of a table, or the place where the layout is broken. The section reader and the line reader
 // call each other, once a section, so that what they hand on is what a text of many sections costs in stack.
-ghost use mathlib.Core.Bool.{true, false, _&&_};
+ghost use mathlib.Core.Bool.{true, false, cond, _&&_};
+ghost use mathlib.Core.List.{[], _++_};
 ghost use mathlib.Core.Path.{_≡_};
 ghost use Prim.Native.Nat.{_-_, _≤_, _<_};
 ghost use lib.ListN.{length, take, drop, replicate};
-ghost use Rattle.stp_spec.specs.Import.{maxText, readText};
+ghost use Rattle.stp_spec.specs.Import.{maxText, readText, columnsOf};
 ghost use Rattle.stp_spec.specs.Reader.{Read, opening, sections, naming, closed, readFrom};
 ghost use Rattle.stp_words.specs.Names.{same};
 ghost use Rattle.stp_words.specs.Text.{words, wordsAt};
 ghost use Rattle.stp_reader.specs.Readings.{Sized, readOf, rowsOf, finished};
+ghost use Rattle.stp_reader.specs.Texts.{numbersOf, textOf};
 ghost use Rattle.stp_reader.specs.steps.Sections.{headed};
 ghost use Rattle.stp_reader.specs.steps.Reading.{resumed, lineStand, lineRead};
 use lines::FOUND;
 use lines::GRAPH;
+use lines::LINES;
 use lines::ROWS;
 use lines::Step;
 use lines::WEIGHT_BYTES;
@@ -34,7 +37,7 @@ pub struct Text {
     pub weight: [u8; WEIGHT_BYTES],
 }
 
-// A line between sections: where it opens a section, the step is at the end of the section's name, and `graph_theory` says that the name is Graph;
+// A line between sections: where it opens a section, the step is at the end of the section's name, and `graph` says that the name is Graph;
 // where it does not, the step says how reading ends.
 struct Heading {
     begun: bool,
@@ -228,9 +231,41 @@ fn read_text(
     read_sections(text, step.at, found, left, right, weight)
 }
 
-// The whole text: how reading ends, and the numbers and columns that were read by then.
+// The numbers of a text: the first is 1 or 0, and all are 0 where the text is broken.
+fn numbers(step: Step, found: [u32; FOUND]) -> [u32; FOUND]
+    requires { ⌜ length found ≡ 4 ⌝ }
+    ensures { λ r. ⌜ r ≡ numbersOf (columnsOf (finished step (readOf found [] [] []))) ⌝ }
+{
+    if step.broken {
+        return [0u32; FOUND];
+    }
+    let mut own = found;
+    own[GRAPH] = (found[GRAPH] == 1) as u32;
+    own
+}
+
+// The place where a text is broken, and 0 where it is not.
+fn place(step: Step) -> usize
+    ensures { λ r. ⌜ r ≡ cond (step .broken) (step .at) 0 ⌝ }
+{
+    if step.broken { step.at } else { 0 }
+}
+
+// The bytes of a column from an index on become 0.
+fn clear_from(column: &mut [u8], from: usize)
+    ensures { λ u. ⌜ now (column .exit) ≡ take from (now (column .entry)) ++ replicate (length (now (column .entry)) - from) 0 ⌝ }
+{
+    let mut k = from;
+    while k < column.len() {
+        column[k] = 0;
+        k += 1;
+    }
+}
+
+// The whole text: how reading ends, and the numbers and rows that were read, with zeros past them; a broken text has zeros alone.
 pub fn read(text: &[u8]) -> Text
-    ensures { λ x. ⌜ readText (now (text .entry)) ≡ finished (x .step) (readOf (x .found) (x .left) (x .right) (x .weight)) ⌝ }
+    ensures { λ x. ⌜ x ≡ textOf (readText (now (text .entry))) ⌝ }
+    ensures kept { λ x. ⌜ readText (now (text .entry)) ≡ finished (x .step) (readOf (x .found) (x .left) (x .right) (x .weight)) ⌝ }
     ensures further { λ x. ⌜ x .step .at ≤ maxText ⌝ }
     ensures sized { λ x. ⌜ Sized (x .found) (x .left) (x .right) (x .weight) ⌝ }
 {
@@ -239,9 +274,17 @@ pub fn read(text: &[u8]) -> Text
     let mut right = [0u8; ROWS];
     let mut weight = [0u8; WEIGHT_BYTES];
     let step = read_text(text, &mut found, &mut left, &mut right, &mut weight);
+    let own = numbers(step, found);
+    let rows = own[LINES] as usize;
+    clear_from(&mut left, rows);
+    clear_from(&mut right, rows);
+    clear_from(&mut weight, 4 * rows);
     Text {
-        step: step,
-        found: found,
+        step: Step {
+            broken: step.broken,
+            at: place(step),
+        },
+        found: own,
         left: left,
         right: right,
         weight: weight,

@@ -9,7 +9,7 @@ unfolding imported importRefusal leftAfter rightAfter weightAfter
 returns c =
     let d = c .before .before .before .before .before .before in
     let s = d .settle .ensures in
-    rw (d .before .before .before .before .before .before .before .before .before .before .before .read .ensures .0)
+    rw (d .before .before .before .before .before .before .before .before .before .before .before .read .ensures .1 .0)
     (s .told, (s .lefts, (s .rights, s .weights)))
 
 pub import-spec : {M : Type 1} → statement M

@@ -1,4 +1,4 @@
--- `digs_lines::bits_below` meets its contract: 0 has no sign, and another v is taken from 2 ^ 32. Assumes nothing.
+-- `stp_reader::bits_below` meets its contract: 0 has no sign, and another v is taken from 2 ^ 32. Assumes nothing.
 use native.Mathlib.Omega.{arith}
 use Rattle.stp_reader.proofs.Counts.{below-zero, below-some}
 use Rattle.stp_reader.proofs.lines.bits_below.Statement.{statement}

@@ -1,4 +1,4 @@
--- `digs_lines::count_line` meets its contract: the next word does not begin a line of the name, or it does and a number may follow.
+-- `stp_reader::count_line` meets its contract: the next word does not begin a line of the name, or it does and a number may follow.
 -- Assumes nothing.
 use borrow.Author.Needs.{needs}
 use borrow.Author.Tests.{not-true, not-false}

@@ -1,4 +1,4 @@
--- `digs_lines::counts` meets its contract: a count is missing, or both are found.
+-- `stp_reader::counts` meets its contract: a count is missing, or both are found.
 -- Assumes nothing.
 use borrow.Author.Needs.{needs}
 use lib.ListN.{length-set}

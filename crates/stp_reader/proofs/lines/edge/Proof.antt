@@ -1,4 +1,4 @@
--- `digs_lines::edge` meets its contract: an end or the price is missing, or a row is stored.
+-- `stp_reader::edge` meets its contract: an end or the price is missing, or a row is stored.
 -- Assumes nothing.
 use borrow.Author.Needs.{needs}
 use lib.ListN.{length-set}

@@ -1,4 +1,4 @@
--- `digs_lines::edge_lines` meets its contract. The loop's invariant: reading from where the loop began comes to reading on from the last line.
+-- `stp_reader::edge_lines` meets its contract. The loop's invariant: reading from where the loop began comes to reading on from the last line.
 -- The measure is what is left of the text.
 -- Assumes nothing.
 use Prim.Native.Nat.{_≤_}

@@ -1,4 +1,4 @@
--- `digs_lines::end_of` meets its contract.
+-- `stp_reader::end_of` meets its contract.
 -- Assumes nothing.
 use borrow.Author.Needs.{needs}
 use borrow.Author.Tests.{le-leb, lt-leb}

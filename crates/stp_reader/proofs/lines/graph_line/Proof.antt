@@ -1,4 +1,4 @@
--- `digs_lines::graph_line` meets its contract, by the first word of the line.
+-- `stp_reader::graph_line` meets its contract, by the first word of the line.
 -- Assumes nothing.
 use borrow.Author.Needs.{needs}
 use borrow.Author.Tests.{not-true, not-false}

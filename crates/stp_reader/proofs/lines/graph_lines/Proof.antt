@@ -1,4 +1,4 @@
--- `digs_lines::graph_lines` meets its contract: a count is missing, or the lines of E follow.
+-- `stp_reader::graph_lines` meets its contract: a count is missing, or the lines of E follow.
 -- Assumes nothing.
 use borrow.Author.Needs.{needs}
 use mathlib.Core.Path.{refl, sym, _∙_}

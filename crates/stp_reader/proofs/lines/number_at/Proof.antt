@@ -1,4 +1,4 @@
--- `digs_lines::number_at` meets its contract: the next word is first on its line, no number, or a number.
+-- `stp_reader::number_at` meets its contract: the next word is first on its line, no number, or a number.
 -- Assumes nothing.
 use borrow.Author.Needs.{needs}
 use mathlib.Core.Bool.{false}

@@ -1,4 +1,4 @@
--- `digs_lines::price_at` meets its contract: the next word is first on its line, no price, or a price, which opens with - or not.
+-- `stp_reader::price_at` meets its contract: the next word is first on its line, no price, or a price, which opens with - or not.
 -- Assumes nothing.
 use borrow.Author.Needs.{needs}
 use mathlib.Core.Bool.{false}

@@ -1,4 +1,4 @@
--- `digs_lines::skip_heading` meets its contract. The loop's invariant: w is the next word at or after p, and the first line goes on up to p.
+-- `stp_reader::skip_heading` meets its contract. The loop's invariant: w is the next word at or after p, and the first line goes on up to p.
 -- The measure is what is left of the text.
 -- Assumes nothing.
 use Prim.Native.Nat.{_-_, _≤_}

@@ -1,4 +1,4 @@
--- `digs_lines::skip_lines` meets its contract. The loop's invariant: reading from the name on comes to reading on from the last word.
+-- `stp_reader::skip_lines` meets its contract. The loop's invariant: reading from the name on comes to reading on from the last word.
 -- The measure is what is left of the text.
 -- Assumes nothing.
 use borrow.Author.Needs.{needs}

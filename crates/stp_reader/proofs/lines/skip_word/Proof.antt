@@ -1,4 +1,4 @@
--- `digs_lines::skip_word` meets its contract, by the next word and, after END, by the one that follows it.
+-- `stp_reader::skip_word` meets its contract, by the next word and, after END, by the one that follows it.
 -- Assumes nothing.
 use borrow.Author.Needs.{needs}
 use borrow.Author.Tests.{not-true, not-false}

@@ -1,4 +1,4 @@
--- `digs_lines::store_end` meets its contract: a byte is stored, or the column has no such row.
+-- `stp_reader::store_end` meets its contract: a byte is stored, or the column has no such row.
 -- Assumes nothing.
 use borrow.Author.Needs.{needs}
 use lib.ListN.{length-set}

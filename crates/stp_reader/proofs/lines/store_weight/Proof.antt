@@ -1,4 +1,4 @@
--- `digs_lines::store_weight` meets its contract: four bytes are stored, or the column has no such row.
+-- `stp_reader::store_weight` meets its contract: four bytes are stored, or the column has no such row.
 -- Assumes nothing.
 use Prim.Native.Nat.{_+_, _*_}
 use borrow.Author.Needs.{needs}
