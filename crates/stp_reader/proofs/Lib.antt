@@ -6,3 +6,4 @@ pub mod Graphs
 pub mod Loops
 pub mod Sections
 pub mod Texts
+pub mod Trials
