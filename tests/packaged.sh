@@ -15,7 +15,8 @@ doors=$(sed -n 's/^DOORS := //p' Makefile)
 
 packaged() { # the two steps, over what the copy has; the C is built already
     rm -rf "$at/debian/tmp" "$at/target/c"
-    cp -a target/c "$at/target"
+    mkdir "$at/target/c"
+    cp -a target/c/{star,star.o,parts,names,man3,libcore.a,libstar.*} "$at/target/c"
     (cd "$at" && PATH="$work/no-rt:$PATH" make -s -f debian/rules override_dh_auto_build \
         override_dh_auto_install) >"$work/said" 2>&1
 }
