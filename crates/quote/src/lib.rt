@@ -6,18 +6,13 @@ ghost use mathlib.Core.Bool.{cond};
 ghost use mathlib.Core.Path.{_≡_};
 ghost use Rattle.refusal.specs.Outcomes.{refusalOf};
 ghost use Rattle.rowset.specs.Bytes.{inRow};
-ghost use Rattle.slice.specs.Slices.{component};
-ghost use Rattle.star_spec.specs.Call.{tableOf};
+ghost use Rattle.in_use.specs.Tables.{tableIn};
 ghost use Rattle.star_spec.specs.Refusals.{refusal};
-ghost use Rattle.price_spec.specs.Quote.{asked, askedWork, rowAsked, quote};
+ghost use Rattle.price_spec.specs.Quote.{rowAsked, quote};
 ghost use Rattle.quote.specs.Answers.{answerOf};
+use in_use::InUse;
 use refusal::Outcome;
 use refusal::Refusal;
-use slice::SIZE;
-use slice::Slice;
-use slice::WORDS;
-use slice::rows::rows_to;
-use slice::words::rows_in_use;
 
 // The bytes of 1,024 prices.
 const PRICES: usize = 4096;
@@ -42,21 +37,21 @@ struct Prices {
 // Causes 1 to 4 and 15, and 7 where the row asked about is not in use.
 pub fn row_check(
     n: u32,
-    m: usize,
-    whole: bool,
-    rows: Slice,
+    table: InUse,
     left: &[u8],
     right: &[u8],
     weight: &[u8],
     row: u32,
 ) -> Outcome
     ensures { λ r.
-        let c = tableOf n m whole (component rows) (now (left .entry)) (now (right .entry)) (now (weight .entry)) (now (left .entry)) in
+        let c = tableIn n table (now (left .entry)) (now (right .entry)) (now (weight .entry)) (now (left .entry)) in
         ⌜ refusalOf r ≡ refusal (rowAsked c row) ⌝ }
 {
-    let table = table_checks::table_check(n, m, whole, rows, left, right, weight, left);
+    let m = table.m;
+    let rows = table.rows;
+    let checked = table_checks::table_check(n, m, table.whole, rows, left, right, weight, left);
     let asked = slice::get(slice::rows::rows_among(m, rows), row as usize);
-    table_checks::first(table, table_checks::refused_if(!asked, 7))
+    table_checks::first(checked, table_checks::refused_if(!asked, 7))
 }
 
 // The prices of a column, 0 in the rows past its end.
@@ -89,12 +84,10 @@ fn replaced(weight: &[u8], row: usize, price: u32) -> Prices
     prices
 }
 
-// The quote over a table of m rows, of which those of a slice are in use: both trees are built and weighed, the second with the row's price replaced.
-pub fn quote_rows(
+// The quote over a table of either kind: both trees are built and weighed, the second with the row's price replaced.
+pub fn quote(
     n: u32,
-    m: usize,
-    whole: bool,
-    rows: Slice,
+    table: InUse,
     left: &[u8],
     right: &[u8],
     weight: &[u8],
@@ -102,13 +95,13 @@ pub fn quote_rows(
     price: u32,
 ) -> Quoted
     ensures { λ r.
-        let c = tableOf n m whole (component rows) (now (left .entry)) (now (right .entry)) (now (weight .entry)) (now (left .entry)) in
+        let c = tableIn n table (now (left .entry)) (now (right .entry)) (now (weight .entry)) (now (left .entry)) in
         ⌜ answerOf r ≡ quote c row price ⌝ }
 {
-    if let Outcome::Refused(refusal) = row_check(n, m, whole, rows, left, right, weight, row) {
+    if let Outcome::Refused(refusal) = row_check(n, table, left, right, weight, row) {
         return Quoted::Refused(refusal);
     }
-    let old = mst1::tree_of(n, m, rows, left, right, weight);
+    let old = mst1::tree_of(n, table.m, table.rows, left, right, weight);
     if !old.whole {
         return Quoted::Refused(Refusal {
             number: 11,
@@ -116,49 +109,11 @@ pub fn quote_rows(
         });
     }
     let prices = replaced(weight, row as usize, price);
-    let new = mst1::tree_of(n, m, rows, left, right, &prices.bytes);
+    let new = mst1::tree_of(n, table.m, table.rows, left, right, &prices.bytes);
     let before = claim::weigh(weight, old.chosen);
     let after = claim::weigh(&prices.bytes, new.chosen);
     Quoted::Totals(Totals {
         before: before,
         after: after,
     })
-}
-
-// The quote over a plain table: a row for each byte of the left column, all in use.
-pub fn quote(n: u32, left: &[u8], right: &[u8], weight: &[u8], row: u32, price: u32) -> Quoted
-    ensures { λ r.
-        let c = asked n (now (left .entry)) (now (right .entry)) (now (weight .entry)) in
-        ⌜ answerOf r ≡ quote c row price ⌝ }
-{
-    let m = left.len();
-    quote_rows(n, m, true, rows_to(m), left, right, weight, row, price)
-}
-
-// The quote over a working table: 1,024 rows, and the rows in use lent as sixteen words.
-pub fn work_quote(
-    n: u32,
-    words: &[u64],
-    left: &[u8],
-    right: &[u8],
-    weight: &[u8],
-    row: u32,
-    price: u32,
-) -> Quoted
-    ensures { λ r.
-        let c = askedWork n (now (words .entry)) (now (left .entry)) (now (right .entry)) (now (weight .entry)) in
-        ⌜ answerOf r ≡ quote c row price ⌝ }
-{
-    let whole = words.len() == WORDS;
-    quote_rows(
-        n,
-        SIZE,
-        whole,
-        rows_in_use(words),
-        left,
-        right,
-        weight,
-        row,
-        price,
-    )
 }

@@ -1,6 +1,8 @@
 // The quote for C: twenty-four bytes, of which the first sixteen are those of every door, with the least total before, and the last eight the least total after.
 use answer::Record;
 use answer::bytes_of;
+use answer::of_refusal;
+use in_use::InUse;
 use quote::Quoted;
 ghost use mathlib.Core.Bool.{cond};
 ghost use mathlib.Core.List.{_++_};
@@ -40,14 +42,7 @@ pub fn of_quoted(q: Quoted) -> QuoteRecord
             after: t.after,
         },
         Quoted::Refused(r) => QuoteRecord {
-            first: Record {
-                kind: 0,
-                number: r.number,
-                out: r.place,
-                into: 0,
-                only: 0,
-                amount: 0,
-            },
+            first: of_refusal(r),
             after: 0,
         },
     }
@@ -133,7 +128,7 @@ pub extern "C" fn star_quote(
     if answer.len() != LENGTH {
         return 0;
     }
-    let q = quote::quote(n, left, right, weight, row, price);
+    let q = quote::quote(n, InUse::plain(left.len()), left, right, weight, row, price);
     let x = of_quoted(q);
     write_quote(answer, x);
     1
@@ -162,7 +157,7 @@ pub extern "C" fn star_work_quote(
     if answer.len() != LENGTH {
         return 0;
     }
-    let q = quote::work_quote(n, words, left, right, weight, row, price);
+    let q = quote::quote(n, InUse::working(words), left, right, weight, row, price);
     let x = of_quoted(q);
     write_quote(answer, x);
     1

@@ -7,14 +7,15 @@ use Rattle.quote_door.proofs.quote_door.of_quoted.Statement.{statement}
 use Rattle.quote_door.proofs.quote_door.of_quoted.Tie as tie
 use Rattle.price_spec.specs.Door.{quoteFields, afterOf}
 use Rattle.rowset.specs.Integers.{fromBits}
+use Rattle.star_spec.specs.Door.{fields}
 
 returns : tie.Need-returns
 unfolding fieldsOf quoteFields afterOf answerOf
 returns c = rw (c .before .q .given .1) (refl, refl)
 
 returns-2 : tie.Need-returns-2
-unfolding fieldsOf quoteFields afterOf answerOf fromBits
-returns-2 c = rw (c .before .q2 .given .1) (refl, refl)
+unfolding quoteFields afterOf answerOf fromBits fields
+returns-2 c = rw (c .before .before .q2 .given .1) (c .of-refusal .ensures, refl)
 
 pub of-quoted-spec : {M : Type 1} → statement M
-of-quoted-spec = tie.close (tie.spec (λ c. search needs) (λ c. search needs) returns returns-2)
+of-quoted-spec = tie.close (tie.spec (λ c. search needs) (λ c. search needs) (λ c κs. search needs) returns returns-2)
