@@ -11,18 +11,15 @@ ghost use Rattle.rowset.specs.Searches.{largest};
 ghost use Rattle.rowset.specs.Sets.{uppermost};
 ghost use Rattle.slice.specs.Slices.{size, component};
 ghost use Rattle.star_spec.specs.Call.{tableOf};
+ghost use Rattle.in_use.specs.Tables.{tableIn};
 ghost use Rattle.table.specs.Loads.{loadedRow};
 ghost use Rattle.price_spec.specs.Breaking.{breakingPrice};
-ghost use Rattle.price_spec.specs.Quote.{asked, askedWork};
 ghost use Rattle.breaking.specs.Answers.{answerOf};
 ghost use Rattle.breaking.specs.steps.Routes.{Found};
+use in_use::InUse;
 use refusal::Outcome;
 use refusal::Refusal;
-use slice::SIZE;
 use slice::Slice;
-use slice::WORDS;
-use slice::rows::rows_to;
-use slice::words::rows_in_use;
 
 // What is answered: the 32 bits of the breaking price, that there is none, or the refusal.
 pub enum Breaks {
@@ -64,32 +61,16 @@ fn heaviest_price(weight: &[u8], x: Slice) -> u32
     table_checks::row_weight(weight, heaviest)
 }
 
-// What the trees of a table of m rows, of which those of a slice are in use, say of a row: where a tree is built without the row, that there is a route, and the tree's rows; else the answer.
+// What the trees of a table of either kind say of a row: where a tree is built without the row, that there is a route, and the tree's rows; else the answer.
 // Where no tree is built without the row, the tree with the row says whether the table is connected.
-fn around_rows(
-    n: u32,
-    m: usize,
-    whole: bool,
-    rows: Slice,
-    left: &[u8],
-    right: &[u8],
-    weight: &[u8],
-    row: u32,
-) -> Around
+fn around_rows(n: u32, table: InUse, left: &[u8], right: &[u8], weight: &[u8], row: u32) -> Around
     ensures { λ r.
-        let c = tableOf n m whole (component rows) (now (left .entry)) (now (right .entry)) (now (weight .entry)) (now (left .entry)) in
+        let c = tableIn n table (now (left .entry)) (now (right .entry)) (now (weight .entry)) (now (left .entry)) in
         ⌜ Found c row (answerOf (r .answer)) (r .route) (component (r .chosen)) ⌝ }
 {
-    if let Outcome::Refused(refusal) = quote::row_check(
-        n,
-        m,
-        whole,
-        rows,
-        left,
-        right,
-        weight,
-        row,
-    ) {
+    let m = table.m;
+    let rows = table.rows;
+    if let Outcome::Refused(refusal) = quote::row_check(n, table, left, right, weight, row) {
         return Around {
             answer: Breaks::Refused(refusal),
             route: false,
@@ -139,32 +120,12 @@ fn told(n: u32, left: &[u8], right: &[u8], weight: &[u8], row: u32, around: Arou
     Breaks::At(heaviest_price(weight, path))
 }
 
-// The breaking price over a plain table: a row for each byte of the left column, all in use.
-pub fn breaking(n: u32, left: &[u8], right: &[u8], weight: &[u8], row: u32) -> Breaks
+// The breaking price over a table of either kind.
+pub fn breaking(n: u32, table: InUse, left: &[u8], right: &[u8], weight: &[u8], row: u32) -> Breaks
     ensures { λ r.
-        let c = asked n (now (left .entry)) (now (right .entry)) (now (weight .entry)) in
+        let c = tableIn n table (now (left .entry)) (now (right .entry)) (now (weight .entry)) (now (left .entry)) in
         ⌜ answerOf r ≡ breakingPrice c row ⌝ }
 {
-    let m = left.len();
-    let around = around_rows(n, m, true, rows_to(m), left, right, weight, row);
-    told(n, left, right, weight, row, around)
-}
-
-// The breaking price over a working table: 1,024 rows, and the rows in use lent as sixteen words.
-pub fn work_breaking(
-    n: u32,
-    words: &[u64],
-    left: &[u8],
-    right: &[u8],
-    weight: &[u8],
-    row: u32,
-) -> Breaks
-    ensures { λ r.
-        let c = askedWork n (now (words .entry)) (now (left .entry)) (now (right .entry)) (now (weight .entry)) in
-        ⌜ answerOf r ≡ breakingPrice c row ⌝ }
-{
-    let whole = words.len() == WORDS;
-    let rows = rows_in_use(words);
-    let around = around_rows(n, SIZE, whole, rows, left, right, weight, row);
+    let around = around_rows(n, table, left, right, weight, row);
     told(n, left, right, weight, row, around)
 }

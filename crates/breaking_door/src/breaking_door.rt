@@ -1,7 +1,10 @@
 // The breaking price for C: kind 1 and the price, kind 2 and all else 0 where there is none, or the refusal.
 use answer::Record;
+use answer::of_refusal;
+use answer::well_lent;
 use answer::write_answer;
 use breaking::Breaks;
+use in_use::InUse;
 ghost use mathlib.Core.Path.{_≡_};
 ghost use Rattle.answer.specs.Records.{fieldsOf};
 ghost use Rattle.breaking.specs.Answers.{answerOf};
@@ -47,14 +50,7 @@ pub fn of_breaks(b: Breaks) -> Record
             only: 0,
             amount: 0,
         },
-        Breaks::Refused(r) => Record {
-            kind: 0,
-            number: r.number,
-            out: r.place,
-            into: 0,
-            only: 0,
-            amount: 0,
-        },
+        Breaks::Refused(r) => of_refusal(r),
     }
 }
 
@@ -76,10 +72,10 @@ pub extern "C" fn star_breaking(
         let c = asked n (now (left .entry)) (now (right .entry)) (now (weight .entry)) in
         ⌜ BreakingCall c row (now (answer .entry)) (now (answer .exit)) r ⌝ }
 {
-    if answer.len() != 16 {
+    if !well_lent(answer) {
         return 0;
     }
-    let b = breaking::breaking(n, left, right, weight, row);
+    let b = breaking::breaking(n, InUse::plain(left.len()), left, right, weight, row);
     let x = of_breaks(b);
     write_answer(answer, x);
     1
@@ -104,10 +100,10 @@ pub extern "C" fn star_work_breaking(
         let c = askedWork n (now (words .entry)) (now (left .entry)) (now (right .entry)) (now (weight .entry)) in
         ⌜ BreakingCall c row (now (answer .entry)) (now (answer .exit)) r ⌝ }
 {
-    if answer.len() != 16 {
+    if !well_lent(answer) {
         return 0;
     }
-    let b = breaking::work_breaking(n, words, left, right, weight, row);
+    let b = breaking::breaking(n, InUse::working(words), left, right, weight, row);
     let x = of_breaks(b);
     write_answer(answer, x);
     1

@@ -7,6 +7,7 @@ use Rattle.breaking_door.proofs.breaking_door.of_breaks.Statement.{stat
 use Rattle.breaking_door.proofs.breaking_door.of_breaks.Tie as tie
 use Rattle.price_spec.specs.Door.{breakingFields}
 use Rattle.rowset.specs.Integers.{fromBits}
+use Rattle.star_spec.specs.Door.{fields}
 
 returns : tie.Need-returns
 unfolding fieldsOf breakingFields answerOf
@@ -17,8 +18,11 @@ unfolding fieldsOf breakingFields answerOf fromBits
 returns-2 c = rw (c .enum-told .given .1) refl
 
 returns-3 : tie.Need-returns-3
-unfolding fieldsOf breakingFields answerOf fromBits
-returns-3 c = rw (c .before .b2 .given .1) refl
+unfolding breakingFields answerOf fields
+returns-3 c = rw (c .before .before .b2 .given .1) (c .of-refusal .ensures)
+
+of-refusal-requires : tie.Need-of-refusal-requires
+of-refusal-requires c κs = search needs
 
 pub of-breaks-spec : {M : Type 1} → statement M
 of-breaks-spec =
@@ -28,6 +32,7 @@ of-breaks-spec =
     (λ c κs. search needs)
     (λ c. search needs)
     (λ c. search needs)
+    of-refusal-requires
     returns
     returns-2
     returns-3)

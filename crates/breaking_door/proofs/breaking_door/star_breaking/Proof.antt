@@ -1,34 +1,34 @@
 -- `breaking_door::breaking_door::star_breaking` meets its contract: what the breaking price, `of_breaks` and `write_answer` promise, one after the other. Assumes nothing.
 use borrow.Author.Needs.{needs}
-use borrow.Author.Tests.{eq-eqb, ne-eqb}
-use lib.ListN.{length}
-use mathlib.Core.Path.{refl, ap, _∙_}
-use native.Mathlib.Omega.{arith}
+use borrow.Author.Tests.{not-true, not-false}
+use mathlib.Core.Path.{sym, _∙_}
+use Rattle.breaking_door.proofs.Laws.{breaking-shut, breaking-open}
 use Rattle.breaking_door.proofs.breaking_door.star_breaking.Statement.{statement}
 use Rattle.breaking_door.proofs.breaking_door.star_breaking.Tie as tie
 use Rattle.price_meaning.proofs.Breaking.{breaking-call}
-use Rattle.price_spec.specs.Door.{breakingFields, breakingDoor}
-use Rattle.star_spec.specs.Door.{wellLent, doorReturns, answerAfter}
 
 returns : tie.Need-returns
-unfolding doorReturns wellLent breakingDoor answerAfter
-returns c = breaking-call (rw (ne-eqb (length (c .before .before .before .before .before .args .answer .now)) 16 (λ e. omega arith)) (refl, refl))
+returns c = breaking-call (breaking-shut _ _ _ (sym (c .before .well-lent .ensures) ∙ not-true _ (c .if1 .taken)))
 
 returns-2 : tie.Need-returns-2
-unfolding doorReturns wellLent breakingDoor
 returns-2 c =
-    let w = c .before .before in
-    let o = w .before .before in
-    breaking-call (
-      rw (eq-eqb (length (c .before .before .before .before .before .before .before .before .before .before .before .args .answer .now)) 16 (omega arith)),
-      w .write-answer .ensures ∙ ap (answerAfter _) (o .of-breaks .ensures ∙ ap breakingFields (o .before .breaking .ensures)),
-    )
+    let written = c .before .before in
+    let told = written .before .before in
+    let priced = told .before in
+    let table = priced .before .plain .ensures in
+    let lent = priced .before .before in
+    breaking-call
+    (breaking-open _ _ _ (sym (lent .before .well-lent .ensures) ∙ not-false _ (lent .if1 .left)) (written .write-answer .ensures) (told .of-breaks .ensures)
+    (rw (table .0 .0, table .0 .1, table .1) at (priced .breaking .ensures)))
 
 pub star-breaking-spec : {M : Type 1} → statement M
 star-breaking-spec =
     tie.close
     (tie.spec
+    (λ c κs. search needs)
+    (λ c. search needs)
     returns
+    (λ c κs. search needs)
     (λ c κs. search needs)
     (λ c κs. search needs)
     (λ c κs. search needs)
