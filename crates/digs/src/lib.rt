@@ -6,15 +6,11 @@ ghost use lib.ListN.{length, take};
 ghost use Rattle.digs_lines.specs.Prints.{Prints};
 ghost use Rattle.digs_spec.specs.DigList.{tableList, textList, printed, exitStatus};
 ghost use Rattle.digs.specs.Lists.{Lists};
-ghost use Rattle.slice.specs.Slices.{component};
-ghost use Rattle.star_spec.specs.Call.{tableOf, callOf, workOf};
+ghost use Rattle.in_use.specs.Tables.{tableIn};
+ghost use Rattle.star_spec.specs.Call.{callOf};
+use in_use::InUse;
 use refusal::Outcome;
 use refusal::Refusal;
-use slice::SIZE;
-use slice::Slice;
-use slice::WORDS;
-use slice::rows::rows_to;
-use slice::words::rows_in_use;
 use stp::Imported;
 use stp::Sizes;
 
@@ -32,26 +28,24 @@ pub enum Listed {
     Refused(Refusal),
 }
 
-// The list over a table of m rows, of which those of a slice are in use. No mark column is taken; the left column stands in its place.
-pub fn rows_list(
+// The list over a table of either kind. No mark column is taken; the left column stands in its place.
+pub fn table_list(
     n: u32,
-    m: usize,
-    whole: bool,
-    rows: Slice,
+    table: InUse,
     left: &[u8],
     right: &[u8],
     weight: &[u8],
     out: &mut [u8],
 ) -> Listed
     ensures { λ r.
-        let c = tableOf n m whole (component rows) (now (left .entry)) (now (right .entry)) (now (weight .entry)) (now (left .entry)) in
+        let c = tableIn n table (now (left .entry)) (now (right .entry)) (now (weight .entry)) (now (left .entry)) in
         ⌜ Lists (tableList c) (now (out .entry)) (now (out .exit)) r ⌝ }
 {
     if let Outcome::Refused(refusal) = table_checks::table_check(
         n,
-        m,
-        whole,
-        rows,
+        table.m,
+        table.whole,
+        table.rows,
         left,
         right,
         weight,
@@ -59,42 +53,15 @@ pub fn rows_list(
     ) {
         return Listed::Refused(refusal);
     }
-    let tree = mst1::tree_of(n, m, rows, left, right, weight);
+    let tree = mst1::tree_of(n, table.m, table.rows, left, right, weight);
     if !tree.whole {
         return Listed::Refused(Refusal {
             number: 11,
             place: 0,
         });
     }
-    let size = digs_lines::put_list(out, m, left, right, weight, tree.chosen);
+    let size = digs_lines::put_list(out, table.m, left, right, weight, tree.chosen);
     Listed::Text(size)
-}
-
-// The list over a plain table: a row for each byte of the left column, all in use.
-pub fn table_list(n: u32, left: &[u8], right: &[u8], weight: &[u8], out: &mut [u8]) -> Listed
-    ensures { λ r.
-        let c = callOf n (now (left .entry)) (now (right .entry)) (now (weight .entry)) (now (left .entry)) in
-        ⌜ Lists (tableList c) (now (out .entry)) (now (out .exit)) r ⌝ }
-{
-    let m = left.len();
-    rows_list(n, m, true, rows_to(m), left, right, weight, out)
-}
-
-// The list over a working table: 1,024 rows, and the rows in use lent as sixteen words.
-pub fn work_list(
-    n: u32,
-    words: &[u64],
-    left: &[u8],
-    right: &[u8],
-    weight: &[u8],
-    out: &mut [u8],
-) -> Listed
-    ensures { λ r.
-        let c = workOf n (now (words .entry)) (now (left .entry)) (now (right .entry)) (now (weight .entry)) (now (left .entry)) in
-        ⌜ Lists (tableList c) (now (out .entry)) (now (out .exit)) r ⌝ }
-{
-    let whole = words.len() == WORDS;
-    rows_list(n, SIZE, whole, rows_in_use(words), left, right, weight, out)
 }
 
 // The list of the table that an import wrote into columns of 1,024 rows.
@@ -106,7 +73,14 @@ fn imported_list(s: Sizes, left: &[u8], right: &[u8], weight: &[u8], out: &mut [
 {
     let m = s.m as usize;
     let w = 4 * m;
-    table_list(s.n, &left[..m], &right[..m], &weight[..w], out)
+    table_list(
+        s.n,
+        InUse::plain(m),
+        &left[..m],
+        &right[..m],
+        &weight[..w],
+        out,
+    )
 }
 
 // The list of an STP text's table, or the refusal of the import or of MST1.

@@ -1,7 +1,7 @@
 -- What is written of a list's fields and into the lent text, by whether both are lent as they should be.
 -- Assumes nothing.
 use Prim.Native.Nat.{ℕ, _≤_, _<_}
-use borrow.Author.Tests.{eq-eqb, ne-eqb, le-leb, lt-leb}
+use borrow.Author.Tests.{le-leb, lt-leb}
 use lib.IntN.{pos}
 use lib.ListN.{length, drop}
 use mathlib.Core.Bool.{true, false, and-false}
@@ -28,19 +28,19 @@ module _ (text answer : List ℕ) where
   unfolding listReturns listAnswered listText
   untouched a f e = rw e (refl, (refl, refl))
 
-  pub no-answer : (a : ListAnswer) (f : Fields) → (length answer ≡ 16 → ⊥) → Untouched a f
-  unfolding lentBoth wellLent
-  no-answer a f h = untouched a f (rw (ne-eqb (length answer) 16 h))
+  pub no-answer : (a : ListAnswer) (f : Fields) → wellLent answer ≡ false → Untouched a f
+  unfolding lentBoth
+  no-answer a f h = untouched a f (rw h)
 
   pub no-room : (a : ListAnswer) (f : Fields) → length text < 6370 → Untouched a f
   unfolding lentBoth
   no-room a f h = untouched a f (rw (lt-leb 6370 (length text) h) (and-false (wellLent answer)))
 
   -- what is listed where both are
-  module _ (a : ListAnswer) (after : List ℕ) (h : length answer ≡ 16) (room : 6370 ≤ length text) where
+  module _ (a : ListAnswer) (after : List ℕ) (h : wellLent answer ≡ true) (room : 6370 ≤ length text) where
     lent : lentBoth text answer ≡ true
-    unfolding lentBoth wellLent
-    lent = rw (eq-eqb (length answer) 16 h, le-leb 6370 (length text) room)
+    unfolding lentBoth
+    lent = rw (h, le-leb 6370 (length text) room)
 
     -- the number that is told stands for the list's length
     length-bits : {size : ℕ} {list : List ℕ} → Prints text after size list → fromBits 64 size ≡ pos (length list)
@@ -63,8 +63,8 @@ module _ (text answer : List ℕ) where
 
     told : {written : List ℕ} (f g : Fields) (l : Listed) → Lists a text after l → written ≡ answerAfter answer f → f ≡ g
         → (1 ≡ listReturns text answer) × ((written ≡ listAnswered text answer g) × (after ≡ listText a text answer))
-    unfolding listReturns listAnswered listText answerAfter wellLent
-    told f g l p w e = rw lent (refl, ((rw (eq-eqb (length answer) 16 h, e) at w), as-listed l p))
+    unfolding listReturns listAnswered listText answerAfter
+    told f g l p w e = rw lent (refl, ((rw (h, e) at w), as-listed l p))
 
     pub table-told : {written : List ℕ} {f : Fields} (l : Listed) → Lists a text after l → written ≡ answerAfter answer f → f ≡ tableFields l
         → (1 ≡ listReturns text answer) × ((written ≡ listAnswered text answer (listFields a)) × (after ≡ listText a text answer))

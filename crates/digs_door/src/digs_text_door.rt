@@ -1,5 +1,6 @@
 // The dig list of an STP text for C.
 use crate::fields::of_text_list;
+use answer::well_lent;
 use answer::write_answer;
 use digs::LIST_BYTES;
 ghost use mathlib.Core.Path.{_≡_};
@@ -19,7 +20,7 @@ pub extern "C" fn star_digs_text(stp: &[u8], text: &mut [u8], answer: &mut [u8])
         ⌜ now (text .exit) ≡ listText a (now (text .entry)) (now (answer .entry)) ⌝ }
     ensures means { λ r. ⌜ DigsTextCall (now (stp .entry)) (now (text .entry)) (now (answer .entry)) (now (text .exit)) (now (answer .exit)) r ⌝ }
 {
-    if answer.len() != 16 {
+    if !well_lent(answer) {
         return 0;
     }
     if text.len() < LIST_BYTES {

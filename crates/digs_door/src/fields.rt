@@ -1,5 +1,6 @@
 // The fields of what was listed.
 use answer::Record;
+use answer::of_refusal;
 use digs::Listed;
 ghost use mathlib.Core.Path.{_≡_};
 ghost use Rattle.answer.specs.Records.{fieldsOf};
@@ -18,14 +19,7 @@ pub fn of_list(l: Listed) -> Record
             only: 0,
             amount: size as u64,
         },
-        Listed::Refused(r) => Record {
-            kind: 0,
-            number: r.number,
-            out: r.place,
-            into: 0,
-            only: 0,
-            amount: 0,
-        },
+        Listed::Refused(r) => of_refusal(r),
     }
 }
 

@@ -1,7 +1,9 @@
 // The dig list of a working table for C.
 use crate::fields::of_list;
+use answer::well_lent;
 use answer::write_answer;
 use digs::LIST_BYTES;
+use in_use::InUse;
 ghost use mathlib.Core.Path.{_≡_};
 ghost use Rattle.digs_spec.specs.Bytes.{DigsCall};
 ghost use Rattle.digs_spec.specs.DigList.{tableList};
@@ -30,13 +32,13 @@ pub extern "C" fn star_work_digs(
         let c = workOf n (now (words .entry)) (now (left .entry)) (now (right .entry)) (now (weight .entry)) (now (left .entry)) in
         ⌜ DigsCall c (now (text .entry)) (now (answer .entry)) (now (text .exit)) (now (answer .exit)) r ⌝ }
 {
-    if answer.len() != 16 {
+    if !well_lent(answer) {
         return 0;
     }
     if text.len() < LIST_BYTES {
         return 0;
     }
-    let list = digs::work_list(n, words, left, right, weight, text);
+    let list = digs::table_list(n, InUse::working(words), left, right, weight, text);
     let x = of_list(list);
     write_answer(answer, x);
     1
