@@ -21,6 +21,7 @@ use Rattle.star_spec.proofs.Accepted.{none-nil, some-cons, some-cause, some-cau
 use Rattle.star_spec.specs.Door.{Fields, bytesOf, fieldBytes, readBack, wellLent, doorReturns, answerAfter}
 use Rattle.star_spec.specs.Refusals.{cause, causeAt, badVertices, tooManyRows, badRow, repeatedRow, orElse, refusal}
 use Rattle.stp_spec.proofs.Accepted.{import-holds}
+use Rattle.stp_spec.proofs.Places.{places-hold}
 use Rattle.stp_spec.specs.Accepted.{ImportTaken}
 use Rattle.stp_spec.specs.Door.{importFields, importDoor, leftDoor, rightDoor, weightDoor}
 use Rattle.stp_spec.specs.Import.{badColumns, badEdges, importCauses, ImportAnswer, untaken, taken, sizes, answered, imported, readText, leftAfter, rightAfter, weightAfter}
@@ -198,7 +199,7 @@ import-door-means text left right weight answer =
       told = λ e. (kind-taken text left right weight answer e, λ h. let (n, m, q) = h in ap (λ x. x .kind) (taken-written text left right weight answer e n m q .fields) ∙ taken-kind n m);
       read = λ e k. let (n, m, q) = kind-taken text left right weight answer e k in reads e n m q;
       refused = λ e r q. untaken-kind-number text left right weight answer e r q;
-      place = λ e r q h. places e r q h;
+      place = places;
       kept = λ e n. keeps e n (importOf text left right weight) refl;
     }
   where
@@ -213,9 +214,10 @@ import-door-means text left right weight answer =
         rw (first, second, lent-well answer (leftAfter text left right weight) left e, lent-well answer (rightAfter text left right weight) right e, lent-well answer (weightAfter text left right weight) weight e)
         (read-means text left right weight answer e n m q)
 
-    places : (e : length answer ≡ 16) (r : Refusal) → importOf text left right weight ≡ untaken r → r .place < 9223372036854775808
+    places : (e : length answer ≡ 16) (r : Refusal) → importOf text left right weight ≡ untaken r
         → readBack (after text left right weight answer e) .amount ≡ pos (r .place)
-    places e r q h =
+    places e r q =
+        let h : r .place < 9223372036854775808 = omega (arith, places-hold text (length left) (length right) (length weight) r q .few-bytes) in
         rw q (ap (λ x. x .amount) (read-back answer (importFields (untaken r)) (untaken-fits r (import-number text left right weight r q) h) e .fields) ∙ untaken-place r)
 
     keeps : (e : length answer ≡ 16) → (readBack (after text left right weight answer e) .kind ≡ 1 → ⊥) → (x : ImportAnswer) → importOf text left right weight ≡ x

@@ -1,7 +1,7 @@
 -- From the sixteen bytes of an answer to the table that was read: what a call through the door star_import returns and leaves, and what that means.
 -- The door's contract states it of itself. left, right and weight are the columns that are lent, and left′, right′ and weight′ what they are afterwards.
 -- Cites definitions alone; the proof is proofs/Bytes.antt. Assumes nothing.
-use Prim.Native.Nat.{ℕ, _*_, _≤_, _<_}
+use Prim.Native.Nat.{ℕ, _*_, _≤_}
 use lib.IntN.{pos}
 use lib.ListN.{length, take, drop}
 use mathlib.Core.List.{List}
@@ -45,9 +45,9 @@ pub record ImportCall (text left right weight answer after left′ right′ weig
   -- kind 1 exactly where the text is taken; then n and m are told, and what was read is an accepted table
   pub told : length answer ≡ 16 → (readBack after .kind ≡ 1) ↔ ((n m : ℕ) × (importOf text left right weight ≡ taken n m))
   pub read : length answer ≡ 16 → readBack after .kind ≡ 1 → ReadMeans text left right weight left′ right′ weight′ (readBack after .out) (readBack after .into)
-  -- kind 0 with the number of the refusal, and its place in bytes 8 to 15, where they hold it; no column is changed
+  -- kind 0 with the number of the refusal, and its place in bytes 8 to 15; no column is changed
   pub refused : length answer ≡ 16 → (r : Refusal) → importOf text left right weight ≡ untaken r → (readBack after .kind ≡ 0) × (readBack after .number ≡ r .number)
-  pub place : length answer ≡ 16 → (r : Refusal) → importOf text left right weight ≡ untaken r → r .place < 9223372036854775808 → readBack after .amount ≡ pos (r .place)
+  pub place : length answer ≡ 16 → (r : Refusal) → importOf text left right weight ≡ untaken r → readBack after .amount ≡ pos (r .place)
   pub kept : length answer ≡ 16 → (readBack after .kind ≡ 1 → ⊥) → (left′ ≡ left) × (right′ ≡ right) × (weight′ ≡ weight)
 
 -- the theorem: of every call through the door, whatever the text, the columns and the lent answer hold

@@ -140,6 +140,11 @@ fits-text text = go (ltb maxText (length text))
     go true = tt
     go false = fits-from (length text) opening nothingRead (words text) fit-nothing
 
+-- the columns of a text that is read whole have 1,024 rows at most
+pub rows-few : (text : List ℕ) (t : Read) → readText text ≡ whole t → length (t .left) ≤ maxRows
+unfolding FitsRead
+rows-few text t e = let f : Fit t = rw e at (fits-text text) in omega (arith, f .lefts)
+
 -- a text that is read whole is not too long
 whole-short : (text : List ℕ) (t : Read) → readText text ≡ whole t → length text ≤ maxText
 unfolding readText bounded

@@ -1,5 +1,6 @@
 -- What an import is worth: a text that is taken gives columns whose first m rows, with any claim of m bytes, are an accepted table; a text that is refused changes nothing.
--- The proof is `import-holds` of proofs/Accepted.antt.
+-- The place of a refusal is at most 65,536.
+-- The proofs are `import-holds` of proofs/Accepted.antt and `places-hold` of proofs/Places.antt.
 -- Assumes nothing.
 use Prim.Native.Nat.{ℕ, _*_, _≤_}
 use mathlib.Core.List.{List}
@@ -52,3 +53,12 @@ pub record ImportRefused (text left right weight : List ℕ) : Type 0 where
 pub record ImportHolds (text left right weight : List ℕ) : Type 0 where
   pub takes : (n m : ℕ) → imported text (length left) (length right) (length weight) ≡ taken n m → ImportTaken text left right weight n m
   pub refuses : (r : Refusal) → imported text (length left) (length right) (length weight) ≡ untaken r → ImportRefused text left right weight
+
+-- the place of a refused import: at most 65,536, and at most the text's length where the layout is broken
+pub record ImportPlace (text : List ℕ) (r : Refusal) : Type 0 where
+  pub few-bytes : r .place ≤ maxText
+  pub in-text : r .number ≡ 12 → r .place ≤ length text
+
+-- the theorem, for every text and all lengths of the lent columns
+abbrev pub PlacesHold : Type 0
+PlacesHold = (text : List ℕ) (l r w : ℕ) (q : Refusal) → imported text l r w ≡ untaken q → ImportPlace text q
