@@ -11,7 +11,7 @@ use mathlib.Core.Option.{Option, none, some}
 use mathlib.Core.Path.{_≡_, refl, sym, ap, _∙_, subst}
 use native.Mathlib.Decide.{ℕ-discrete}
 use native.Mathlib.Omega.{arith}
-use Rattle.star_meaning.proofs.Bytes.{Fits, returns-one, returns-zero, after-kept, read-back}
+use Rattle.star_meaning.proofs.Bytes.{Fits, lent-well, lent-ill, returns-one, returns-zero, after-kept, read-back, kind-none, none-kind}
 use Rattle.star_meaning.specs.Bytes.{Written}
 use Rattle.path_matrix.proofs.Laws.{length-wordsFrom}
 use Rattle.change_meaning.proofs.Packing.{merging-keeps, adding-keeps}
@@ -36,16 +36,6 @@ use Rattle.change_spec.specs.Tables.{Working, inUse, wrongWords, badSizes, tabl
 
 -- ── What is lent and read back ──
 
--- what is left where the answer has sixteen bytes, and where it has not
-module _ {A : Type 0} (answer : List ℕ) (new old : A) where
-  lent-well : length answer ≡ 16 → cond (wellLent answer) new old ≡ new
-  unfolding wellLent
-  lent-well e = rw (eq-eqb (length answer) 16 e)
-
-  lent-ill : (length answer ≡ 16 → ⊥) → cond (wellLent answer) new old ≡ old
-  unfolding wellLent
-  lent-ill n = rw (ne-eqb (length answer) 16 n)
-
 -- an outcome is none, or one of few refusals
 done-fits : (o : Option Refusal) → o ≡ none → Fits (outcomeFields o)
 unfolding outcomeFields
@@ -54,15 +44,6 @@ done-fits o e = rw e (record { kind = omega arith; number = omega arith; out = o
 no-fits : (o : Option Refusal) (k : ℕ) → k < 256 → o ≡ no k → Fits (outcomeFields o)
 unfolding outcomeFields fields
 no-fits o k h e = rw e (record { kind = omega arith; number = h; out = omega arith; into = omega arith; only = omega arith; amount = omega arith })
-
-kind-none : (o : Option Refusal) → outcomeFields o .kind ≡ 1 → o ≡ none
-unfolding outcomeFields fields
-kind-none none k = refl
-kind-none (some r) k = absurd (omega arith)
-
-none-kind : (o : Option Refusal) → o ≡ none → outcomeFields o .kind ≡ 1
-unfolding outcomeFields
-none-kind o e = rw e
 
 -- the bytes of an outcome: done exactly where there is no refusal, and a refusal by its number
 module _ (answer : List ℕ) (o : Option Refusal) (f : Fits (outcomeFields o)) (e : length answer ≡ 16) where

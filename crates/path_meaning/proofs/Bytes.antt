@@ -11,7 +11,7 @@ use mathlib.Core.Logic.{⊎-elim}
 use mathlib.Core.Option.{Option, none, some}
 use mathlib.Core.Path.{_≡_, refl, sym, ap, _∙_, subst}
 use native.Mathlib.Omega.{arith}
-use Rattle.star_meaning.proofs.Bytes.{Fits, TableRefusal, table-refusal, refused-first, Standing, accepted, turned, standing, table-fits, returns-one, returns-zero, after-kept, read-back}
+use Rattle.star_meaning.proofs.Bytes.{Fits, TableRefusal, table-refusal, refused-first, Standing, accepted, turned, standing, table-fits, lent-well, lent-ill, returns-one, returns-zero, after-kept, read-back, kind-none, none-kind}
 use Rattle.star_meaning.proofs.Demand3.{apart, ok}
 use Rattle.star_meaning.specs.Bytes.{Written}
 use Rattle.star_meaning.specs.Demand3.{ClaimTree, ZeroOrOne}
@@ -41,24 +41,6 @@ use Rattle.star_spec.specs.MatrixPath.{pathColumn, matrixPath, matrixOr, matrix
 use Rattle.star_spec.specs.Refusals.{Accepted, cause, causeAt, wrongByte, badClaim, badSource, shortMatrix, badCount, unjoined, tableCauses, matrixPathCauses, orElse, refusal}
 
 -- ── What is lent and read back ──
-
-module _ {A : Type 0} (answer : List ℕ) (new old : A) where
-  lent-well : length answer ≡ 16 → cond (wellLent answer) new old ≡ new
-  unfolding wellLent
-  lent-well e = rw (eq-eqb (length answer) 16 e)
-
-  lent-ill : (length answer ≡ 16 → ⊥) → cond (wellLent answer) new old ≡ old
-  unfolding wellLent
-  lent-ill n = rw (ne-eqb (length answer) 16 n)
-
-kind-none : (o : Option Refusal) → outcomeFields o .kind ≡ 1 → o ≡ none
-unfolding outcomeFields fields
-kind-none none k = refl
-kind-none (some r) k = absurd (omega arith)
-
-none-kind : (o : Option Refusal) → o ≡ none → outcomeFields o .kind ≡ 1
-unfolding outcomeFields
-none-kind o e = rw e
 
 some-kind : (r : Refusal) → outcomeFields (some r) .kind ≡ 0
 unfolding outcomeFields fields

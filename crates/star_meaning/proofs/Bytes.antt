@@ -26,7 +26,7 @@ use Rattle.star_spec.proofs.Accepted.{some-cons, some-cause, some-causeAt, none
 use Rattle.star_spec.specs.Accepted.{AcceptedTable}
 use Rattle.star_spec.specs.Call.{Call, rowsOf, weightOf, claimWeight, withClaim}
 use Rattle.star_spec.specs.Cst.{Answer, refused, passed, lighter, verdict, cst, equalRows}
-use Rattle.star_spec.specs.Door.{Fields, fields, builtFields, fieldsBeside, otherFields, bytesOf, fieldBytes, readBack, wellLent, doorReturns, answerAfter, cstDoor, mst1Door, otherDoor, mst1DoorMarks}
+use Rattle.star_spec.specs.Door.{Fields, fields, outcomeFields, builtFields, fieldsBeside, otherFields, bytesOf, fieldBytes, readBack, wellLent, doorReturns, answerAfter, cstDoor, mst1Door, otherDoor, mst1DoorMarks}
 use Rattle.star_spec.specs.Mst1.{BuildAnswer, unbuilt, treeBuilt, built, mst1, builtMarks, mst1Marks}
 use Rattle.star_spec.specs.Refusals.{maxRows, cause, causeAt, badVertices, tooManyRows, badLengths, badEnds, badRow, repeats, repeatedRow, tableCauses, cstCauses, mst1Causes, orElse, refusal, Accepted}
 
@@ -39,7 +39,7 @@ pub record Fits (f : Fields) : Type 0 where
   pub only : f .only < 256
   pub amount : mag (f .amount) < 9223372036854775808
 
-one-byte : (x : ℕ) → x < 256 → x % 256 + 256 * 0 ≡ x
+pub one-byte : (x : ℕ) → x < 256 → x % 256 + 256 * 0 ≡ x
 one-byte x h = omega arith
 
 two-bytes : (x : ℕ) → x < 65536 → x % 256 + 256 * (x / 256 % 256 + 256 * 0) ≡ x
@@ -400,26 +400,44 @@ ill-lent : (answer : List ℕ) → (length answer ≡ 16 → ⊥) → wellLent a
 unfolding wellLent
 ill-lent answer n = ne-eqb _ _ n
 
+-- what is left where the answer has sixteen bytes, and where it has not
+module _ {A : Type 0} (answer : List ℕ) (new old : A) where
+  pub lent-well : length answer ≡ 16 → cond (wellLent answer) new old ≡ new
+  lent-well e = rw (well-lent answer e)
+
+  pub lent-ill : (length answer ≡ 16 → ⊥) → cond (wellLent answer) new old ≡ old
+  lent-ill n = rw (ill-lent answer n)
+
 module _ (answer : List ℕ) where
   pub returns-one : length answer ≡ 16 → doorReturns answer ≡ 1
   unfolding doorReturns
-  returns-one e = ap (λ b. cond b 1 0) (well-lent answer e)
+  returns-one e = lent-well answer 1 0 e
 
   pub returns-zero : (length answer ≡ 16 → ⊥) → doorReturns answer ≡ 0
   unfolding doorReturns
-  returns-zero n = ap (λ b. cond b 1 0) (ill-lent answer n)
+  returns-zero n = lent-ill answer 1 0 n
 
-  after-written : (f : Fields) → length answer ≡ 16 → answerAfter answer f ≡ fieldBytes f
+  pub after-written : (f : Fields) → length answer ≡ 16 → answerAfter answer f ≡ fieldBytes f
   unfolding answerAfter
-  after-written f e = ap (λ b. cond b (fieldBytes f) answer) (well-lent answer e)
+  after-written f e = lent-well answer (fieldBytes f) answer e
 
   pub after-kept : (f : Fields) → (length answer ≡ 16 → ⊥) → answerAfter answer f ≡ answer
   unfolding answerAfter
-  after-kept f n = ap (λ b. cond b (fieldBytes f) answer) (ill-lent answer n)
+  after-kept f n = lent-ill answer (fieldBytes f) answer n
 
   -- what was written is read back
   pub read-back : (f : Fields) → Fits f → length answer ≡ 16 → Written (answerAfter answer f) f
   read-back f h e = rw (after-written f e) (field-bytes f h)
+
+-- an outcome of kind 1 is none, which is done
+pub kind-none : (o : Option Refusal) → outcomeFields o .kind ≡ 1 → o ≡ none
+unfolding outcomeFields fields
+kind-none none k = refl
+kind-none (some r) k = absurd (omega arith)
+
+pub none-kind : (o : Option Refusal) → o ≡ none → outcomeFields o .kind ≡ 1
+unfolding outcomeFields
+none-kind o e = rw e
 
 -- the fields fit, whatever the table
 cst-fits-all : (c : Call) → Fits (fields (cst c))
@@ -479,7 +497,7 @@ pub mst1-door-means : Mst1DoorMeans
 unfolding mst1Door mst1DoorMarks
 mst1-door-means c answer =
     record {
-      declined = λ n. (returns-zero answer n, after-kept answer (builtFields (mst1 c)) n, ap (λ b. cond b (mst1Marks c) (c .mark)) (ill-lent answer n));
+      declined = λ n. (returns-zero answer n, after-kept answer (builtFields (mst1 c)) n, lent-ill answer (mst1Marks c) (c .mark) n);
       returns = returns-one answer;
       written = back;
       means = λ e t. rw (back e .fields, well-lent answer e) (built-means c (accepted-means c .1 t));

@@ -11,7 +11,7 @@ use mathlib.Core.Logic.{⊎-elim}
 use mathlib.Core.Option.{Option, none, some}
 use mathlib.Core.Path.{_≡_, refl, sym, ap, _∙_, subst}
 use native.Mathlib.Omega.{arith}
-use Rattle.star_meaning.proofs.Bytes.{Fits, returns-one, returns-zero, after-kept, read-back}
+use Rattle.star_meaning.proofs.Bytes.{Fits, one-byte, lent-well, lent-ill, returns-one, returns-zero, after-written, after-kept, read-back}
 use Rattle.star_meaning.proofs.Demand3.{apart}
 use Rattle.star_meaning.specs.Bytes.{Written}
 use Rattle.stp_meaning.specs.Bytes.{importOf, ReadMeans, ImportCall, ImportDoorMeans}
@@ -29,18 +29,6 @@ use Rattle.stp_spec.specs.Reader.{Read, Reading, broken, whole}
 
 -- ── What is lent and read back ──
 
-module _ {A : Type 0} (answer : List ℕ) (new old : A) where
-  lent-well : length answer ≡ 16 → cond (wellLent answer) new old ≡ new
-  unfolding wellLent
-  lent-well e = rw (eq-eqb (length answer) 16 e)
-
-  lent-ill : (length answer ≡ 16 → ⊥) → cond (wellLent answer) new old ≡ old
-  unfolding wellLent
-  lent-ill n = rw (ne-eqb (length answer) 16 n)
-
-one-byte : (x : ℕ) → x < 256 → x % 256 + 256 * 0 ≡ x
-one-byte x h = omega arith
-
 -- kind and number are read back whatever the amount is
 module _ (f : Fields) where
   kind-back : f .kind < 256 → readBack (fieldBytes f) .kind ≡ f .kind
@@ -54,10 +42,6 @@ module _ (f : Fields) where
   bytes-sixteen : length (fieldBytes f) ≡ 16
   unfolding fieldBytes bytesOf
   bytes-sixteen = refl
-
-written : (answer : List ℕ) (f : Fields) → length answer ≡ 16 → answerAfter answer f ≡ fieldBytes f
-unfolding answerAfter
-written answer f e = lent-well answer (fieldBytes f) answer e
 
 -- ── The answers ──
 
@@ -160,7 +144,7 @@ module _ (text left right weight answer : List ℕ) (e : length answer ≡ 16) w
 
   untaken-kind-number : (r : Refusal) → importOf text left right weight ≡ untaken r → (readBack after .kind ≡ 0) × (readBack after .number ≡ r .number)
   untaken-kind-number r q =
-      rw (q, written answer (importFields (untaken r)) e) (
+      rw (q, after-written answer (importFields (untaken r)) e) (
         kind-back (importFields (untaken r)) (rw (untaken-kind r) (omega arith)) ∙ untaken-kind r,
         number-back (importFields (untaken r)) (rw (untaken-number r) (import-number text left right weight r q)) ∙ untaken-number r,
       )
@@ -195,7 +179,7 @@ unfolding importDoor leftDoor rightDoor weightDoor
 import-door-means text left right weight answer =
     record {
       declined = λ n. (returns-zero answer n, after-kept answer _ n, lent-ill answer _ left n, lent-ill answer _ right n, lent-ill answer _ weight n);
-      returns = λ e. (returns-one answer e, ap length (written answer _ e) ∙ bytes-sixteen _);
+      returns = λ e. (returns-one answer e, ap length (after-written answer _ e) ∙ bytes-sixteen _);
       told = λ e. (kind-taken text left right weight answer e, λ h. let (n, m, q) = h in ap (λ x. x .kind) (taken-written text left right weight answer e n m q .fields) ∙ taken-kind n m);
       read = λ e k. let (n, m, q) = kind-taken text left right weight answer e k in reads e n m q;
       refused = λ e r q. untaken-kind-number text left right weight answer e r q;
