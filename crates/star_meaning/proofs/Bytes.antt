@@ -39,7 +39,7 @@ pub record Fits (f : Fields) : Type 0 where
   pub only : f .only < 256
   pub amount : mag (f .amount) < 9223372036854775808
 
-pub one-byte : (x : ℕ) → x < 256 → x % 256 + 256 * 0 ≡ x
+one-byte : (x : ℕ) → x < 256 → x % 256 + 256 * 0 ≡ x
 one-byte x h = omega arith
 
 two-bytes : (x : ℕ) → x < 65536 → x % 256 + 256 * (x / 256 % 256 + 256 * 0) ≡ x
@@ -417,7 +417,7 @@ module _ (answer : List ℕ) where
   unfolding doorReturns
   returns-zero n = lent-ill answer 1 0 n
 
-  pub after-written : (f : Fields) → length answer ≡ 16 → answerAfter answer f ≡ fieldBytes f
+  after-written : (f : Fields) → length answer ≡ 16 → answerAfter answer f ≡ fieldBytes f
   unfolding answerAfter
   after-written f e = lent-well answer (fieldBytes f) answer e
 

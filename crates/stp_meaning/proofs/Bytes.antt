@@ -11,7 +11,7 @@ use mathlib.Core.Logic.{⊎-elim}
 use mathlib.Core.Option.{Option, none, some}
 use mathlib.Core.Path.{_≡_, refl, sym, ap, _∙_, subst}
 use native.Mathlib.Omega.{arith}
-use Rattle.star_meaning.proofs.Bytes.{Fits, one-byte, lent-well, lent-ill, returns-one, returns-zero, after-written, after-kept, read-back}
+use Rattle.star_meaning.proofs.Bytes.{Fits, lent-well, lent-ill, returns-one, returns-zero, after-kept, read-back}
 use Rattle.star_meaning.proofs.Demand3.{apart}
 use Rattle.star_meaning.specs.Bytes.{Written}
 use Rattle.stp_meaning.specs.Bytes.{importOf, ReadMeans, ImportCall, ImportDoorMeans}
@@ -26,22 +26,6 @@ use Rattle.stp_spec.specs.Accepted.{ImportTaken}
 use Rattle.stp_spec.specs.Door.{importFields, importDoor, leftDoor, rightDoor, weightDoor}
 use Rattle.stp_spec.specs.Import.{badColumns, badEdges, importCauses, ImportAnswer, untaken, taken, sizes, answered, imported, readText, leftAfter, rightAfter, weightAfter}
 use Rattle.stp_spec.specs.Reader.{Read, Reading, broken, whole}
-
--- ── What is lent and read back ──
-
--- kind and number are read back whatever the amount is
-module _ (f : Fields) where
-  kind-back : f .kind < 256 → readBack (fieldBytes f) .kind ≡ f .kind
-  unfolding fieldBytes bytesOf readBack little
-  kind-back h = one-byte (f .kind) h
-
-  number-back : f .number < 256 → readBack (fieldBytes f) .number ≡ f .number
-  unfolding fieldBytes bytesOf readBack little
-  number-back h = one-byte (f .number) h
-
-  bytes-sixteen : length (fieldBytes f) ≡ 16
-  unfolding fieldBytes bytesOf
-  bytes-sixteen = refl
 
 -- ── The answers ──
 
@@ -107,54 +91,36 @@ untaken-fits : (r : Refusal) → r .number < 256 → r .place < 9223372036854775
 unfolding importFields
 untaken-fits r h k = record { kind = omega arith; number = h; out = omega arith; into = omega arith; only = omega arith; amount = omega arith }
 
-taken-kind : (n m : ℕ) → importFields (taken n m) .kind ≡ 1
-unfolding importFields
-taken-kind n m = refl
-
-taken-n : (n m : ℕ) → importFields (taken n m) .out ≡ n
-unfolding importFields
-taken-n n m = refl
-
-taken-m : (n m : ℕ) → importFields (taken n m) .into ≡ m
-unfolding importFields
-taken-m n m = refl
-
-untaken-kind : (r : Refusal) → importFields (untaken r) .kind ≡ 0
-unfolding importFields
-untaken-kind r = refl
-
-untaken-number : (r : Refusal) → importFields (untaken r) .number ≡ r .number
-unfolding importFields
-untaken-number r = refl
-
-untaken-place : (r : Refusal) → importFields (untaken r) .amount ≡ pos (r .place)
-unfolding importFields
-untaken-place r = refl
-
 -- ── The door ──
 
 module _ (text left right weight answer : List ℕ) (e : length answer ≡ 16) where
   abbrev after : List ℕ
   after = answerAfter answer (importFields (importOf text left right weight))
 
-  taken-written : (n m : ℕ) → importOf text left right weight ≡ taken n m → Written after (importFields (taken n m))
-  taken-written n m q =
-      let t = import-holds text left right weight .takes n m q in
-      rw q (read-back answer (importFields (taken n m)) (taken-fits n m (t .few-vertices) (t .few-rows)) e)
+  fits : (x : ImportAnswer) → importOf text left right weight ≡ x → Fits (importFields x)
+  fits (taken n m) q = let t = import-holds text left right weight .takes n m q in taken-fits n m (t .few-vertices) (t .few-rows)
+  fits (untaken r) q =
+      untaken-fits r (import-number text left right weight r q) (omega (arith, places-hold text (length left) (length right) (length weight) r q .few-bytes))
 
-  untaken-kind-number : (r : Refusal) → importOf text left right weight ≡ untaken r → (readBack after .kind ≡ 0) × (readBack after .number ≡ r .number)
-  untaken-kind-number r q =
-      rw (q, after-written answer (importFields (untaken r)) e) (
-        kind-back (importFields (untaken r)) (rw (untaken-kind r) (omega arith)) ∙ untaken-kind r,
-        number-back (importFields (untaken r)) (rw (untaken-number r) (import-number text left right weight r q)) ∙ untaken-number r,
-      )
+  -- what is written is the answer
+  back : (x : ImportAnswer) → importOf text left right weight ≡ x → Written after (importFields x)
+  back x q = subst (λ y. Written after (importFields y)) q (read-back answer _ (fits _ refl) e)
+
+  taken-written : (n m : ℕ) → importOf text left right weight ≡ taken n m → (readBack after .kind ≡ 1) × (readBack after .out ≡ n) × (readBack after .into ≡ m)
+  unfolding importFields
+  taken-written n m q = let f = back (taken n m) q .fields in (ap (λ x. x .kind) f, ap (λ x. x .out) f, ap (λ x. x .into) f)
+
+  untaken-written : (r : Refusal) → importOf text left right weight ≡ untaken r
+      → (readBack after .kind ≡ 0) × (readBack after .number ≡ r .number) × (readBack after .amount ≡ pos (r .place))
+  unfolding importFields
+  untaken-written r q = let f = back (untaken r) q .fields in (ap (λ x. x .kind) f, ap (λ x. x .number) f, ap (λ x. x .amount) f)
 
   kind-taken : readBack after .kind ≡ 1 → (n m : ℕ) × (importOf text left right weight ≡ taken n m)
   kind-taken k = go (importOf text left right weight) refl
     where
       go : (x : ImportAnswer) → importOf text left right weight ≡ x → (n m : ℕ) × (importOf text left right weight ≡ taken n m)
       go (taken n m) q = (n, m, q)
-      go (untaken r) q = let z = untaken-kind-number r q .0 in absurd (omega arith)
+      go (untaken r) q = let z = untaken-written r q .0 in absurd (omega arith)
 
   read-means : (n m : ℕ) → importOf text left right weight ≡ taken n m
       → ReadMeans text left right weight (leftAfter text left right weight) (rightAfter text left right weight) (weightAfter text left right weight) n m
@@ -179,11 +145,11 @@ unfolding importDoor leftDoor rightDoor weightDoor
 import-door-means text left right weight answer =
     record {
       declined = λ n. (returns-zero answer n, after-kept answer _ n, lent-ill answer _ left n, lent-ill answer _ right n, lent-ill answer _ weight n);
-      returns = λ e. (returns-one answer e, ap length (after-written answer _ e) ∙ bytes-sixteen _);
-      told = λ e. (kind-taken text left right weight answer e, λ h. let (n, m, q) = h in ap (λ x. x .kind) (taken-written text left right weight answer e n m q .fields) ∙ taken-kind n m);
+      returns = λ e. (returns-one answer e, back text left right weight answer e _ refl .sixteen);
+      told = λ e. (kind-taken text left right weight answer e, λ h. let (n, m, q) = h in taken-written text left right weight answer e n m q .0);
       read = λ e k. let (n, m, q) = kind-taken text left right weight answer e k in reads e n m q;
-      refused = λ e r q. untaken-kind-number text left right weight answer e r q;
-      place = places;
+      refused = λ e r q. let w = untaken-written text left right weight answer e r q in (w .0, w .1);
+      place = λ e r q. untaken-written text left right weight answer e r q .2;
       kept = λ e n. keeps e n (importOf text left right weight) refl;
     }
   where
@@ -192,23 +158,15 @@ import-door-means text left right weight answer =
         (cond (wellLent answer) (weightAfter text left right weight) weight)
         (readBack (after text left right weight answer e) .out) (readBack (after text left right weight answer e) .into)
     reads e n m q =
-        let f = taken-written text left right weight answer e n m q .fields in
-        let first : readBack (after text left right weight answer e) .out ≡ n = ap (λ x. x .out) f ∙ taken-n n m in
-        let second : readBack (after text left right weight answer e) .into ≡ m = ap (λ x. x .into) f ∙ taken-m n m in
+        let (kind, first, second) = taken-written text left right weight answer e n m q in
         rw (first, second, lent-well answer (leftAfter text left right weight) left e, lent-well answer (rightAfter text left right weight) right e, lent-well answer (weightAfter text left right weight) weight e)
         (read-means text left right weight answer e n m q)
-
-    places : (e : length answer ≡ 16) (r : Refusal) → importOf text left right weight ≡ untaken r
-        → readBack (after text left right weight answer e) .amount ≡ pos (r .place)
-    places e r q =
-        let h : r .place < 9223372036854775808 = omega (arith, places-hold text (length left) (length right) (length weight) r q .few-bytes) in
-        rw q (ap (λ x. x .amount) (read-back answer (importFields (untaken r)) (untaken-fits r (import-number text left right weight r q) h) e .fields) ∙ untaken-place r)
 
     keeps : (e : length answer ≡ 16) → (readBack (after text left right weight answer e) .kind ≡ 1 → ⊥) → (x : ImportAnswer) → importOf text left right weight ≡ x
         → (cond (wellLent answer) (leftAfter text left right weight) left ≡ left)
         × (cond (wellLent answer) (rightAfter text left right weight) right ≡ right)
         × (cond (wellLent answer) (weightAfter text left right weight) weight ≡ weight)
-    keeps e n (taken k m) q = absurd (n (ap (λ x. x .kind) (taken-written text left right weight answer e k m q .fields) ∙ taken-kind k m))
+    keeps e n (taken k m) q = absurd (n (taken-written text left right weight answer e k m q .0))
     keeps e n (untaken r) q =
         let h = import-holds text left right weight .refuses r q in
         (lent-well answer _ left e ∙ h .left-kept, lent-well answer _ right e ∙ h .right-kept, lent-well answer _ weight e ∙ h .weight-kept)
