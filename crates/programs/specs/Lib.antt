@@ -1,0 +1,2 @@
+pub mod Readstp
+pub mod Trials
