@@ -69,8 +69,7 @@ text-below text = go (ltb maxText (length text)) refl
     go : (b : Bool) → ltb maxText (length text) ≡ b → Below (length text) (bounded b text) × Below maxText (bounded b text)
     go true e = let h = ltb-true maxText (length text) e in (omega arith, omega arith)
     go false e =
-        let h = ltb-false maxText (length text) e in
-        (
+        let h = ltb-false maxText (length text) e in (
           from-below (length text) (length text) opening nothingRead _ (omega arith) (words-within (length text) atStart 0 text (omega arith)),
           from-below maxText (length text) opening nothingRead _ h (words-within maxText atStart 0 text (omega arith)),
         )

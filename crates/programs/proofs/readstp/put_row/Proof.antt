@@ -7,10 +7,9 @@ use Rattle.programs.proofs.readstp.put_row.Tie as tie
 
 returns : tie.Need-returns
 returns c =
-    let s = c .before .before .before .before .before .before .before .before .before .before .before .before .before .before .before .before in
-    (
+    let s = c .before .before .before .before .before .before .before .before .before .before .before .before .before .before .before .before in (
       ends-put _ _ _ _ (s .before .before .row-byte .ensures) (s .before .row-byte2 .ensures) (s .row-weight .ensures)
-      (c .before .before .before .before .before .before .before .before .before .before .before .before .before .before .number .ensures) (c .before .before .before .before .before .before .before .before .before .before .number2 .ensures) (c .before .before .before .before .before .before .put-price .ensures) (c .before .before .put-byte .ensures),
+          (c .before .before .before .before .before .before .before .before .before .before .before .before .before .before .number .ensures) (c .before .before .before .before .before .before .before .before .before .before .number2 .ensures) (c .before .before .before .before .before .before .put-price .ensures) (c .before .before .put-byte .ensures),
       ends-few _ _ _ _ (omega (arith, s .before .before .row-byte .ensures)) (omega (arith, s .before .row-byte2 .ensures)),
     )
 
