@@ -134,29 +134,22 @@ $(BUILD)/star: $(LIBRARY) $(CONSOLE) $(wildcard console/*.h) include/star.h
 
 # The tests of the doors, over one harness: each over the doors, and over doors with a fault each, which it has to find.
 DOOR_TESTS := door work quote breaking which digs districts mend outlets
-HARNESS := $(patsubst %,$(BUILD)/tests/%.o,shared lent rows plain plain_work plain_asked plain_mend plain_outlets)
-BESIDE_door := tests/doors.c
-BESIDE_work := tests/doors.c tests/work_cases.c
-BESIDE := $(BESIDE_work)
-TESTING = $(CC) -std=c99 $(CFLAGS) -Iinclude -Itests
-
-$(HARNESS): $(BUILD)/tests/%.o: tests/%.c $(wildcard tests/*.h) include/star.h
+HARNESS := shared lent rows plain plain_work plain_asked plain_mend plain_outlets doors work_cases
+$(BUILD)/tests/%.o: tests/%.c $(wildcard tests/*.h) include/star.h
 	@mkdir -p $(@D)
-	$(TESTING) -c -o $@ $<
+	$(CC) -std=c99 $(CFLAGS) -Iinclude -Itests -c -o $@ $<
 
-$(DOOR_TESTS:%=$(BUILD)/%_test): $(BUILD)/%_test: tests/%_test.c $(BESIDE) $(HARNESS) $(ARCHIVE)
-	$(TESTING) -o $@ $< $(BESIDE_$*) $(HARNESS) $(ARCHIVE) -pthread
+.PRECIOUS: $(BUILD)/tests/%.o
 
-# The doors that a test is given faulty ones for.
-FAULTY_door := cst other mst1 paths
-FAULTY_work := strike add merge carry work_cst work_other work_mst1 work_paths
-FAULTY = $(or $(FAULTY_$*),$* work_$* $*_text)
-$(DOOR_TESTS:%=$(BUILD)/%_test_faulty): $(BUILD)/%_test_faulty: tests/%_test.c tests/faulty_%.c $(BESIDE) $(HARNESS) $(ARCHIVE)
-	$(TESTING) -c -o $(BUILD)/tests/faulty_$*.o tests/faulty_$*.c
-	$(TESTING) $(foreach door,$(FAULTY),-Dstar_$(door)=faulty_$(door)) -o $@ $< $(BESIDE_$*) $(BUILD)/tests/faulty_$*.o $(HARNESS) $(ARCHIVE) -pthread
+# Of an archive the linker takes what a test asks for alone.
+$(BUILD)/libharness.a: $(HARNESS:%=$(BUILD)/tests/%.o)
+	@rm -f $@
+	$(AR) rcs $@ $^
 
-$(BUILD)/import_test: tests/import_test.c $(HARNESS) $(ARCHIVE)
-	$(TESTING) -o $@ $< $(HARNESS) $(ARCHIVE) -pthread
+$(BUILD)/%_test: $(BUILD)/tests/%_test.o $(BUILD)/tests/faultless.o $(BUILD)/libharness.a $(ARCHIVE)
+	$(CC) $(CFLAGS) -o $@ $^ -pthread
+$(BUILD)/%_test_faulty: $(BUILD)/tests/%_test.o $(BUILD)/tests/faulty_%.o $(BUILD)/libharness.a $(ARCHIVE)
+	$(CC) $(CFLAGS) -o $@ $^ -pthread
 
 PLAIN := $(BUILD)/tests/plain.o $(BUILD)/tests/plain_work.o $(BUILD)/tests/plain_asked.o
 $(BUILD)/bench: $(ARCHIVE) $(wildcard bench/*.[ch]pp) $(PLAIN) include/star.h

@@ -22,7 +22,10 @@ static uint32_t plain(struct lent *t) {
     return plain_digs(lent_in_use(t), &c, t->text, t->len[TEXT], t->answer, t->len[ANSWER]);
 }
 
-static void one(struct lent *t) { lent_ended(t, lent_agree(t, "digs", door, plain)); }
+static void one(struct lent *t) {
+    t->door = 0;
+    lent_ended(t, lent_agree(t, "digs", door, plain));
+}
 
 /* The STP text that the next two calls are about. */
 static char stp[STAR_MAX_TEXT];
@@ -72,6 +75,7 @@ static uint32_t text_plain(struct lent *t) {
 
 static void from_text(struct lent *t) {
     put_stp(t);
+    t->door = 1;
     from_texts += (unsigned long)lent_ended(t, lent_agree(t, "digs_text", text_door, text_plain));
 }
 

@@ -1,61 +1,49 @@
-/* The doors with a fault each: a control of door_test, which has to fail over every one of them and
- * to pass over the fault 'none'. door_test is compiled with the doors' names replaced by those
- * below; the environment's FAULT names the fault. */
+/* Faults of the doors of plain tables. */
+#include "doors.h"
 #include "faulty.h"
 
-/* Spoils an answer of star_cst or star_other that is written. */
-static void spoil(uint8_t *answer) {
-    int pass = answer[0] == STAR_PASSED;
-    if (fault("always-only") && pass) answer[6] = 1;
-    if (fault("never-only") && pass) answer[6] = 0;
-    if (fault("only-swapped") && pass) answer[6] ^= 1;
-    if (fault("only-and-lighter") && answer[0] == STAR_LIGHTER) answer[6] = 1;
-    if (fault("only-and-refused") && answer[0] == STAR_REFUSED) answer[6] = 1;
-    if (fault("repeat-at-an-end") && answer[1] == STAR_REPEATED_ROW) answer[1] = STAR_BAD_END;
-    if (fault("repeat-above") && answer[1] == STAR_REPEATED_ROW) answer[2]--;
+const int has_faults = 1;
+
+void fault_before(struct lent *t) {
+    if (fault("paths-from-one") && t->door == PATHS && t->at > 1 && t->at <= t->n) t->at = 1;
 }
 
-uint32_t faulty_cst(uint32_t n, COLUMNS, CLAIM, ANSWER);
-uint32_t faulty_other(uint32_t n, COLUMNS, CLAIM, ANSWER);
-uint32_t faulty_mst1(uint32_t n, COLUMNS, MARK, ANSWER);
-uint32_t faulty_paths(uint32_t n, COLUMNS, CLAIM, uint32_t s, uint64_t *matrix, size_t words,
-                      ANSWER);
-
-uint32_t faulty_cst(uint32_t n, COLUMNS, CLAIM, ANSWER) {
-    uint32_t said = star_cst(n, LENT, mark, mark_len, answer, answer_len);
-    if (said) spoil(answer);
-    return said;
+/* An answer of star_cst or star_other, spoilt. */
+static void spoil(struct lent *t) {
+    if (fault("always-only") && is_passed(t)) t->answer[6] = 1;
+    if (fault("never-only") && is_passed(t)) t->answer[6] = 0;
+    if (fault("only-swapped") && is_passed(t)) t->answer[6] ^= 1;
+    if (fault("only-and-lighter") && t->answer[0] == STAR_LIGHTER) t->answer[6] = 1;
+    if (fault("only-and-refused") && t->answer[0] == STAR_REFUSED) t->answer[6] = 1;
+    if (fault("repeat-at-an-end") && is_refused(t, STAR_REPEATED_ROW)) t->answer[1] = STAR_BAD_END;
+    if (fault("repeat-above") && is_refused(t, STAR_REPEATED_ROW)) t->answer[2]--;
 }
 
-uint32_t faulty_other(uint32_t n, COLUMNS, CLAIM, ANSWER) {
-    uint32_t said = star_other(n, LENT, mark, mark_len, answer, answer_len);
-    uint8_t out;
+/* The exchange that star_other names, spoilt. */
+static void spoil_exchange(struct lent *t) {
+    uint8_t out = t->answer[2];
+    if (!is_passed(t) || t->answer[6]) return;
+    if (fault("other-rows-lacking")) memset(t->answer + 2, 0, 4);
+    if (fault("other-next-row")) t->answer[4]++;
+    if (fault("other-rows-swapped")) {
+        t->answer[2] = t->answer[4];
+        t->answer[4] = out;
+    }
+}
+
+static void spoil_paths(struct lent *t) {
+    size_t used = STAR_COLUMN_WORDS * (size_t)t->n;
+    if (fault("paths-refusal-as-done") && !is_passed(t)) t->answer[0] = STAR_PASSED;
+    else if (fault("paths-last-column") && is_passed(t)) t->matrix[used - STAR_COLUMN_WORDS] ^= 1;
+    else if (fault("paths-past-the-matrix") && is_passed(t)) t->matrix[used] ^= 1;
+}
+
+uint32_t fault_after(struct lent *t, struct lent *before, uint32_t said) {
+    (void)before;
     if (!said) return said;
-    spoil(answer);
-    if (answer[0] != STAR_PASSED || answer[6]) return said;
-    if (fault("other-rows-swapped")) out = answer[2], answer[2] = answer[4], answer[4] = out;
-    if (fault("other-rows-lacking")) memset(answer + 2, 0, 4);
-    if (fault("other-next-row")) answer[4]++;
-    return said;
-}
-
-uint32_t faulty_mst1(uint32_t n, COLUMNS, MARK, ANSWER) {
-    uint32_t said = star_mst1(n, LENT, mark, mark_len, answer, answer_len);
-    if (said && answer[0] == STAR_PASSED && fault("only-and-built")) answer[6] = 1;
-    return said;
-}
-
-uint32_t faulty_paths(uint32_t n, COLUMNS, CLAIM, uint32_t s, uint64_t *matrix, size_t words,
-                      ANSWER) {
-    uint32_t said =
-        star_paths(n, LENT, mark, mark_len, fault("paths-from-one") && s > 1 && s <= n ? 1 : s,
-                   matrix, words, answer, answer_len);
-    size_t used = STAR_COLUMN_WORDS * (size_t)n;
-    if (said && answer[0] == STAR_PASSED && fault("paths-last-column"))
-        matrix[used - STAR_COLUMN_WORDS] ^= 1;
-    if (said && answer[0] == STAR_PASSED && fault("paths-past-the-matrix") && words > used)
-        matrix[used] = 0;
-    if (said && answer[0] == STAR_REFUSED && fault("paths-refusal-as-done"))
-        answer[0] = STAR_PASSED;
+    if (t->door == CST || t->door == OTHER) spoil(t);
+    if (t->door == OTHER) spoil_exchange(t);
+    if (t->door == PATHS) spoil_paths(t);
+    if (t->door == MST1 && fault("only-and-built") && is_passed(t)) t->answer[6] = 1;
     return said;
 }

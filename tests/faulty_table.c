@@ -3,15 +3,7 @@
  * calls' names replaced by those below; the environment's FAULT names the fault. */
 #include "faulty_table.h"
 
-#include <stdlib.h>
-#include <string.h>
-
-/* Whether the environment's FAULT names this fault. */
-static int fault(const char *name) {
-    static const char *chosen;
-    if (!chosen) chosen = getenv("FAULT") ? getenv("FAULT") : "none";
-    return strcmp(chosen, name) == 0;
-}
+#include "fault.h"
 
 void faulty_table_init(struct star_table *t, uint32_t n) {
     uint32_t number = t->numbers[0];

@@ -1,54 +1,54 @@
-/* The doors that say which plan stands, with a fault each: a control of which_test, which has to
- * fail over every one of them and to pass over the fault 'none'. which_test is compiled with the
- * doors' names replaced by those below; the environment's FAULT names the fault. */
+/* Faults of the doors that say which plan stands. */
 #include "faulty.h"
+#include "plain_asked.h"
 
-#define PLANS \
-    const uint8_t *first, size_t first_len, const uint8_t *second, size_t second_len, ANSWER
+const int has_faults = 1;
 
-uint32_t faulty_which(uint32_t n, COLUMNS, PLANS);
-uint32_t faulty_work_which(uint32_t n, IN_USE, COLUMNS, PLANS);
+void fault_before(struct lent *t) {
+    if (fault("written-without-an-answer")) write_unasked(t);
+    if (fault("all-rows-in-use")) memset(t->in_use, 255, 8 * STAR_COLUMN_WORDS);
+}
 
-/* What a faulty door makes of an answer and of what is returned. */
-static uint32_t spoil(uint32_t said, uint8_t *answer, size_t answer_len) {
-    if (answer_len != STAR_ANSWER_BYTES) return fault("one-without-an-answer") ? 1 : said;
-    if (fault("one-on-a-refusal") && answer[0] == STAR_REFUSED) return 1;
-    if (fault("refusal-as-done") && answer[0] == STAR_REFUSED) answer[0] = STAR_PASSED;
-    if (fault("byte-6-set") && said) answer[6] = 1;
-    if (fault("weight-lost") && said) memset(answer + 8, 0, 8);
-    if (fault("a-byte-past-the-answer")) answer[STAR_ANSWER_BYTES] ^= 1;
-    if (fault("the-heavier") && said) return 3 - said;
-    if (fault("always-the-first") && said) return 1;
+/* What is said of the two plans the other way about. */
+static uint32_t turned(struct lent *t, uint8_t *answer) {
+    struct call c = lent_call(t);
+    struct marks first = {t->second, t->len[SECOND]}, second = {t->mark, t->len[MARK]};
+    return plain_which(lent_in_use(t), &c, first, second, answer, STAR_ANSWER_BYTES);
+}
+
+/* Faults in which plan is asked about first. */
+static uint32_t misordered(struct lent *t, uint32_t said) {
+    uint8_t other[STAR_ANSWER_BYTES];
+    uint32_t stands = turned(t, other);
+    if (fault("refusals-of-the-second-first") && stands == 0) {
+        memcpy(t->answer, other, sizeof other);
+        return 0;
+    }
+    if (fault("the-second-on-a-tie") && stands == 1) {
+        memcpy(t->answer, other, sizeof other);
+        return 2;
+    }
+    if (fault("passed-demanded") && lent_judged(t).kind != STAR_PASSED) {
+        t->answer[0] = (uint8_t)lent_judged(t).kind;
+        return 0;
+    }
+    if (fault("lengths-first") && t->len[SECOND] != t->len[MARK]) {
+        put_refusal(t, STAR_BAD_LENGTHS, 0);
+        return 0;
+    }
     return said;
 }
 
-uint32_t faulty_which(uint32_t n, COLUMNS, PLANS) {
-    uint8_t other[STAR_ANSWER_BYTES];
-    uint32_t said;
-    if (fault("written-without-an-answer") && answer && answer_len != STAR_ANSWER_BYTES)
-        answer[0] ^= 1;
-    if (fault("refusals-of-the-second-first")) {
-        said = star_which(n, LENT, second, second_len, first, first_len, other, sizeof other);
-        if (said == 0 && answer_len == STAR_ANSWER_BYTES)
-            return memcpy(answer, other, sizeof other), 0;
-    }
-    if (fault("the-second-on-a-tie")) {
-        said = star_which(n, LENT, second, second_len, first, first_len, answer, answer_len);
-        if (said == 1) return 2;
-    }
-    if (fault("passed-demanded") && answer_len == STAR_ANSWER_BYTES) {
-        star_cst(n, LENT, first, first_len, other, sizeof other);
-        if (other[0] != STAR_PASSED) return memcpy(answer, other, sizeof other), 0;
-    }
-    if (fault("lengths-first") && second_len != first_len && answer_len == STAR_ANSWER_BYTES)
-        return memset(answer, 0, STAR_ANSWER_BYTES), answer[1] = STAR_BAD_LENGTHS, 0;
-    said = star_which(n, LENT, first, first_len, second, second_len, answer, answer_len);
-    return spoil(said, answer, answer_len);
-}
-
-uint32_t faulty_work_which(uint32_t n, IN_USE, COLUMNS, PLANS) {
-    if (fault("all-rows-in-use")) in_use = all_rows(in_use, in_use_words);
-    return spoil(star_work_which(n, in_use, in_use_words, LENT, first, first_len, second,
-                                 second_len, answer, answer_len),
-                 answer, answer_len);
+uint32_t fault_after(struct lent *t, struct lent *before, uint32_t said) {
+    restore_rows(t, before);
+    if (t->len[ANSWER] != STAR_ANSWER_BYTES) return fault("one-without-an-answer") ? 1 : said;
+    said = misordered(t, said);
+    if (fault("a-byte-past-the-answer")) t->answer[STAR_ANSWER_BYTES] ^= 1;
+    if (fault("one-on-a-refusal") && !is_passed(t)) return 1;
+    if (fault("refusal-as-done")) t->answer[0] = STAR_PASSED;
+    if (!said) return said;
+    if (fault("byte-6-set")) t->answer[6] = 1;
+    if (fault("weight-lost")) put_amount(t, 0);
+    if (fault("the-heavier")) return 3 - said;
+    return fault("always-the-first") ? 1 : said;
 }

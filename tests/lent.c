@@ -300,30 +300,44 @@ struct star_answer lent_least(const struct lent *t, enum column as_long) {
     return t->len[as_long] == lent_m(t) ? a : refusal(STAR_BAD_LENGTHS, 0);
 }
 
-struct star_answer lent_judged(const struct lent *t) {
-    static struct lent copy;
+/* What is handed over without a fault: the columns where they stand. */
+static struct handed pointers(const struct lent *t) {
     struct handed p;
+    enum column c;
+    for (c = 0; c < COLUMNS; c++) p.at[c] = is_lent(c) && t->len[c] ? bytes_of(t, c) : NULL;
+    return p;
+}
+
+struct star_answer lent_judged(const struct lent *t) {
+    struct handed p = pointers(t);
     uint8_t answer[STAR_ANSWER_BYTES];
-    lent_copy(&copy, t);
-    p = lent_hand(&copy);
-    lent_back(&copy, p, ASK(&copy, p, cst, HANDED(&copy, p, MARK), answer, sizeof answer));
+    ASK(t, p, cst, HANDED(t, p, MARK), answer, sizeof answer);
     return star_read_answer(answer);
 }
+
+/* The table as it was lent, where doors have faults. */
+static struct lent unspoilt;
 
 struct handed lent_hand(struct lent *t) {
     struct handed p;
     enum column c;
-    for (c = 0; c < COLUMNS; c++) {
-        p.at[c] = is_lent(c) ? lend(bytes_of(t, c), t->len[c] * COLUMN_OF[c].unit) : NULL;
+    if (has_faults) {
+        lent_copy(&unspoilt, t);
+        fault_before(t);
     }
+    p = pointers(t);
+    for (c = 0; c < COLUMNS; c++)
+        if (p.at[c]) p.at[c] = lend(p.at[c], t->len[c] * COLUMN_OF[c].unit);
     return p;
 }
 
 uint32_t lent_back(struct lent *t, struct handed p, uint32_t said) {
     enum column c;
     for (c = 0; c < COLUMNS; c++)
-        if (is_lent(c)) back(bytes_of(t, c), p.at[c], t->len[c] * COLUMN_OF[c].unit);
-    return said;
+        if (p.at[c]) back(bytes_of(t, c), p.at[c], t->len[c] * COLUMN_OF[c].unit);
+    if (!has_faults) return said;
+    memcpy(t, &unspoilt, offsetof(struct lent, before_in_use));
+    return fault_after(t, &unspoilt, said);
 }
 
 void lent_copy(struct lent *to, const struct lent *from) {

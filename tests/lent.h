@@ -130,6 +130,13 @@ struct handed {
 struct handed lent_hand(struct lent *t);
 uint32_t lent_back(struct lent *t, struct handed p, uint32_t said);
 
+/* Faults of the doors of a test, which it has to find: what such a door makes of what it is lent,
+   and of what it leaves and returns; before is the table as it was lent. A test is linked with
+   faultless.c, which has none, or with a file of faults. */
+extern const int has_faults;
+void fault_before(struct lent *t);
+uint32_t fault_after(struct lent *t, struct lent *before, uint32_t said);
+
 #define HANDED(t, p, column) (p).at[column], (t)->len[column]
 #define TABLE(t, p) HANDED(t, p, LEFT), HANDED(t, p, RIGHT), HANDED(t, p, WEIGHT)
 

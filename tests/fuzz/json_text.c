@@ -47,7 +47,7 @@ static int escape(void) {
 
 /* A character above ASCII: its shortest form, no surrogate, and not above U+10FFFF. */
 static int character(void) {
-    unsigned first = *at++, more = first >= 0xF0 ? 3 : first >= 0xE0 ? 2 : 1;
+    unsigned first = *at++, more = 1 + (first >= 0xE0) + (first >= 0xF0);
     unsigned long code = first & (0x3Fu >> more);
     static const unsigned long least[] = {0, 0x80, 0x800, 0x10000};
     unsigned k;
