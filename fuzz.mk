@@ -11,10 +11,11 @@ $(FUZZ)/commands: $(FUZZ_NEEDS) tools/keeping.sh
 $(FUZZ)/commands-replay: $(FUZZ_NEEDS)
 	CC='$(CC)' sh tests/fuzz/replays.sh $(FUZZ) $(ARCHIVE)
 
-# The page's program, for the command page: the place of the table alone.
-$(FUZZ)/star.html: fuzz.mk
+# The page's program, for the command page: its version and the place of the table alone.
+$(FUZZ)/star.html: fuzz.mk include/star.h
 	@mkdir -p $(FUZZ)
-	@echo 'before<div hidden id="table" data-name=""></div>behind' >$@
+	@printf '%s\n' '<meta name="generator" content="star $(VERSION)">' \
+	  '<div hidden id="table" data-name=""></div>' >$@
 
 # A text that ends a run is left in $(FUZZ): mended, it becomes one of the corpus.
 FOUND := $(CURDIR)/$(FUZZ)/found
