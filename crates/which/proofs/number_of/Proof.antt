@@ -2,7 +2,7 @@
 use borrow.Author.Needs.{needs}
 use mathlib.Core.Path.{refl}
 use Rattle.which_spec.specs.Door.{planNumber}
-use Rattle.which.specs.Answers.{answerOf}
+use Rattle.which_decide.specs.Answers.{answerOf}
 use Rattle.which.proofs.number_of.Statement.{statement}
 use Rattle.which.proofs.number_of.Tie as tie
 

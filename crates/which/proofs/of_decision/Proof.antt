@@ -4,7 +4,7 @@ use mathlib.Core.Path.{refl}
 use Rattle.answer.specs.Records.{fieldsOf}
 use Rattle.which_spec.specs.Door.{whichFields}
 use Rattle.star_spec.specs.Door.{fields}
-use Rattle.which.specs.Answers.{answerOf}
+use Rattle.which_decide.specs.Answers.{answerOf}
 use Rattle.which.proofs.of_decision.Statement.{statement}
 use Rattle.which.proofs.of_decision.Tie as tie
 

@@ -1,10 +1,10 @@
--- `which::decide` meets its contract in each of its three cases: the first plan is refused, or the second, or the weights decide. Assumes nothing.
+-- `which_decide::decide` meets its contract in each of its three cases: the first plan is refused, or the second, or the weights decide. Assumes nothing.
 use borrow.Author.Needs.{needs}
 use mathlib.Core.Path.{_∙_}
-use Rattle.which.proofs.Laws.{first-declined, second-declined, decided}
-use Rattle.which.specs.Answers.{answerOf}
-use Rattle.which.proofs.decide.Statement.{statement}
-use Rattle.which.proofs.decide.Tie as tie
+use Rattle.which_decide.proofs.Laws.{first-declined, second-declined, decided}
+use Rattle.which_decide.specs.Answers.{answerOf}
+use Rattle.which_decide.proofs.decide.Statement.{statement}
+use Rattle.which_decide.proofs.decide.Tie as tie
 
 returns : tie.Need-returns
 unfolding answerOf

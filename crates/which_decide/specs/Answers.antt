@@ -2,8 +2,8 @@
 -- Assumes nothing.
 use Rattle.which_spec.specs.Which.{Standing, neither, firstPlan, secondPlan}
 use Rattle.rowset.specs.Integers.{fromBits}
-use Rattle.which.specs.declared.Decision.{Decision}
-use Rattle.which.specs.declared.Decision.the-variants.{First, Second, Refused}
+use Rattle.which_decide.specs.declared.Decision.{Decision}
+use Rattle.which_decide.specs.declared.Decision.the-variants.{First, Second, Refused}
 
 unfoldable pub answerOf : Decision → Standing
 answerOf (First weight) = firstPlan (fromBits 64 weight)

@@ -1,8 +1,8 @@
--- `which::plan_weight` meets its contract: the weight of the rows that the bytes mark is the plan's where it is not refused. Assumes nothing.
+-- `which_decide::plan_weight` meets its contract: the weight of the rows that the bytes mark is the plan's where it is not refused. Assumes nothing.
 use borrow.Author.Needs.{needs}
-use Rattle.which.proofs.Laws.{marked-weight}
-use Rattle.which.proofs.plan_weight.Statement.{statement}
-use Rattle.which.proofs.plan_weight.Tie as tie
+use Rattle.which_decide.proofs.Laws.{marked-weight}
+use Rattle.which_decide.proofs.plan_weight.Statement.{statement}
+use Rattle.which_decide.proofs.plan_weight.Tie as tie
 
 returns : tie.Need-returns
 returns c n whole left right e = rw (c .weigh .ensures, c .before .claim-rows .ensures, c .before .before .rows-among .ensures) (marked-weight _ e)

@@ -1,9 +1,9 @@
--- `which::lighter` meets its contract, by its one test. Assumes nothing.
+-- `which_decide::lighter` meets its contract, by its one test. Assumes nothing.
 use borrow.Author.Needs.{needs}
-use Rattle.which.specs.Answers.{answerOf}
-use Rattle.which.proofs.Laws.{second-stands, first-stands}
-use Rattle.which.proofs.lighter.Statement.{statement}
-use Rattle.which.proofs.lighter.Tie as tie
+use Rattle.which_decide.specs.Answers.{answerOf}
+use Rattle.which_decide.proofs.Laws.{second-stands, first-stands}
+use Rattle.which_decide.proofs.lighter.Statement.{statement}
+use Rattle.which_decide.proofs.lighter.Tie as tie
 
 returns : tie.Need-returns
 unfolding answerOf

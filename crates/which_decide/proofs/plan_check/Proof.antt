@@ -1,9 +1,9 @@
--- `which::plan_check` meets its contract: MatrixPath from vertex 1 on a matrix of 4,080 words refuses what CST refuses. Assumes nothing.
+-- `which_decide::plan_check` meets its contract: MatrixPath from vertex 1 on a matrix of 4,080 words refuses what CST refuses. Assumes nothing.
 use borrow.Author.Needs.{needs}
 use mathlib.Core.Path.{refl}
 use Rattle.cst.proofs.Refused.{own-refusal}
-use Rattle.which.proofs.plan_check.Statement.{statement}
-use Rattle.which.proofs.plan_check.Tie as tie
+use Rattle.which_decide.proofs.plan_check.Statement.{statement}
+use Rattle.which_decide.proofs.plan_check.Tie as tie
 
 returns : tie.Need-returns
 returns c = own-refusal _ _ (c .before .path-own .ensures .0) refl
