@@ -17,7 +17,7 @@ use Rattle.graph_theory.specs.Tree.{SpanningTree, onPath}
 use Rattle.path_matrix.specs.Matrix.{matrixColumn}
 use Rattle.mst1.proofs.Answers.{loaded-weights, loaded-graph}
 use Rattle.mst1.specs.steps.Growth.{loadedGraph, Grows}
-use Rattle.path.specs.steps.Walks.{walk}
+use Rattle.path_walk.specs.steps.Walks.{walk}
 use Rattle.price_theory.proofs.Lacking.{lacking-sound, lacking-tree}
 use Rattle.price_theory.specs.Breaking.{lacking, heaviestBetween, breaking}
 use Rattle.refusal.specs.Outcomes.{refusalOf}
@@ -42,7 +42,7 @@ use Rattle.price_spec.proofs.Means.{last-cause}
 use Rattle.price_spec.specs.Breaking.{unanswered, breaksAt, neverBreaks, breakingTold, breakingOr, breakingPrice}
 use Rattle.price_spec.specs.Quote.{rowAsked}
 use Rattle.breaking.proofs.Paths.{path-heaviest}
-use Rattle.path.proofs.Trees.{walked-path}
+use Rattle.path_walk.proofs.Trees.{walked-path}
 
 -- a call that the checks refuse
 pub call-refused : (c : Call) (k : ℕ) {o : Outcome} {r : Refusal} → refusalOf o ≡ refusal (rowAsked c k) → o ≡ Refused r → unanswered r ≡ breakingPrice c k

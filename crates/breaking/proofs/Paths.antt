@@ -8,7 +8,7 @@ use mathlib.Core.Path.{_≡_, fun-ext}
 use native.Mathlib.Omega.{arith}
 use Rattle.graph_theory.specs.Graph.{Graph, Sound}
 use Rattle.graph_theory.specs.Tree.{SpanningTree, onPath}
-use Rattle.path.proofs.Trees.{path-bounds}
+use Rattle.path_walk.proofs.Trees.{path-bounds}
 use Rattle.rowset.proofs.Laws.{refuted, clash, any-cut, uppermost-cut}
 use Rattle.rowset.proofs.Searches.{largest-in}
 use Rattle.rowset.specs.Searches.{largest}

@@ -4,7 +4,7 @@ ghost use Prim.Native.Nat.{ℕ};
 ghost use mathlib.Core.Bool.{Bool};
 ghost use mathlib.Core.Path.{_≡_};
 ghost use Rattle.path_matrix.specs.Matrix.{matrixColumn};
-ghost use Rattle.path.specs.steps.Walks.{walk};
+ghost use Rattle.path_walk.specs.steps.Walks.{walk};
 ghost use Rattle.rowset.specs.Bytes.{inRow};
 ghost use Rattle.rowset.specs.Integers.{signed};
 ghost use Rattle.rowset.specs.Searches.{largest};
@@ -47,7 +47,7 @@ fn path_between(
 ) -> Slice
     ensures { λ r. ⌜ component r ≡ matrixColumn (walk (loadedRow 1 (now (left .entry))) (loadedRow 1 (now (right .entry))) (component tree) u (now (own .entry)) n .words) v ⌝ }
 {
-    path::walk(left, right, tree, u, n, own);
+    path_walk::walk(left, right, tree, u, n, own);
     path_matrix::read_column(own, v)
 }
 

@@ -1,13 +1,10 @@
 // CST, the tree checker: its verdict on the claim that a table's marked rows are a least spanning tree.
 ghost use mathlib.Core.Bool.{Bool, true};
 ghost use mathlib.Core.Path.{_≡_};
-ghost use Prim.Native.Nat.{ℕ, _-_, _*_, _≤_};
+ghost use Prim.Native.Nat.{ℕ, _*_, _≤_};
 ghost use lib.ListN.{length};
 ghost use lib.Signed.{_≤ℤ_};
 ghost use Rattle.rowset.specs.Bytes.{inRow};
-ghost use Rattle.rowset.specs.Columns.{width};
-ghost use Rattle.rowset.specs.Integers.{fromBits};
-ghost use Rattle.rowset.specs.Searches.{greaterThan, sameAs};
 ghost use Rattle.rowset.specs.Words.{columnWords};
 ghost use Rattle.in_use.specs.Tables.{tableIn};
 ghost use Rattle.slice.specs.Slices.{size, component};
@@ -15,20 +12,18 @@ ghost use Rattle.star_spec.specs.Cst.{cst, equalRows};
 ghost use Rattle.star_spec.specs.Call.{Call, tableOf};
 ghost use Rattle.star_spec.specs.Refusals.{maxVertices};
 ghost use Rattle.table.specs.Loads.{loadedRow};
-ghost use Rattle.search_columns.specs.steps.Integers.{integersAfter};
-ghost use Rattle.cst.specs.steps.Paths.{weightIn, foundOn, exchangeOf, remembered, firstLighter, firstEqual, Walked};
+ghost use Rattle.cst.specs.steps.Paths.{weightIn, exchangeOf, firstLighter, firstEqual, Walked};
 ghost use Rattle.cst.specs.steps.Records.{recordOf};
 ghost use Rattle.cst.specs.Verdicts.{answerOf, equalRowsOf};
 use claim::flipped_weight;
+use cst_compare::compared_rows;
+use cst_compare::remember;
 use in_use::InUse;
 use refusal::Outcome;
 use refusal::Refusal;
-use search_great::Compared;
 use slice::Slice;
 use slice::difference;
 use slice::rows::rows_among;
-use table_checks::row_byte;
-use table_checks::row_weight;
 
 // Two numbers of vertices that many tables do not exceed, and the words of a path matrix for as many.
 const FEW: u32 = 16;
@@ -78,29 +73,6 @@ struct Found {
     equal: Equal,
 }
 
-// The rows on the tree path between row i's ends that are heavier than row i, and those that weigh as much. `weights` has the words of the weight column as a table, of which the first columns are left out, and of row i's weight as many bits.
-fn compared_rows(
-    matrix: &[u64],
-    weights: &[u64],
-    first: usize,
-    left: &[u8],
-    right: &[u8],
-    weight: &[u8],
-    i: usize,
-) -> Compared
-    ensures greater { λ r. ⌜ component (r .greater) ≡ foundOn greaterThan (integersAfter (now (weights .entry)) first) (fromBits (width - first) (inRow 4 (now (weight .entry)) i)) (now (matrix .entry)) (now (left .entry)) (now (right .entry)) i ⌝ }
-    ensures equal { λ r. ⌜ component (r .equal) ≡ foundOn sameAs (integersAfter (now (weights .entry)) first) (fromBits (width - first) (inRow 4 (now (weight .entry)) i)) (now (matrix .entry)) (now (left .entry)) (now (right .entry)) i ⌝ }
-{
-    let node1 = row_byte(left, i) as usize;
-    let node2 = row_byte(right, i) as usize;
-    let w = row_weight(weight, i);
-    let x = slice::xor(
-        path_matrix::read_column(matrix, node1),
-        path_matrix::read_column(matrix, node2),
-    );
-    search_great::great_from(weights, first, w, x)
-}
-
 // The exchange of row out for row into, which is not heavier. The difference of their weights is that of their flipped weights.
 fn exchange_of(weight: &[u8], out: usize, into: usize) -> Exchange
     requires { ⌜ (out ≤ size) × (into ≤ size) × (weightIn (now weight) into ≤ℤ weightIn (now weight) out) ⌝ }
@@ -111,16 +83,6 @@ fn exchange_of(weight: &[u8], out: usize, into: usize) -> Exchange
         into: into as u32,
         saving: flipped_weight(weight, out) - flipped_weight(weight, into),
     }
-}
-
-// The row that was found already to have an equal row on its path; else row i, if there are rows equal to it; 0 where there is none.
-fn remember(found: usize, equal: Slice, i: usize) -> usize
-    ensures { λ r. ⌜ r ≡ remembered found (component equal) i ⌝ }
-{
-    if found != 0 {
-        return found;
-    }
-    if slice::zero(equal) { 0 } else { i }
 }
 
 // The rows, of which none is past row m, are taken from the top: the first that has a heavier row on the path between its ends comes in, and the uppermost such row goes out. All is 0 where none has; then the first

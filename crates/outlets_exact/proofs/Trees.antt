@@ -24,7 +24,7 @@ use Rattle.graph_theory.specs.Tree.{SpanningTree}
 use Rattle.mst1.proofs.Answers.{loaded-weights}
 use Rattle.mst1.proofs.Cut.{over, tree-cut}
 use Rattle.outlets_kept.proofs.Offers.{Priced}
-use Rattle.path.proofs.Trees.{walked-path, walked-room}
+use Rattle.path_walk.proofs.Trees.{walked-path, walked-room}
 use Rattle.outlets_swaps.proofs.Swaps.{Ready, first-ready, ends-swaps}
 use Rattle.outlets_swaps.specs.steps.Columns.{priceIn}
 use Rattle.outlets_swaps.specs.steps.Exchanges.{Given, found, firstState, exchangesTo, isMade, rowsLeft, Ends}

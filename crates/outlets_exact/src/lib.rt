@@ -43,7 +43,7 @@ fn reduce(
     }
     let rest = slice::difference::without(used, at);
     let mut own = [0u64; path::ALL_WORDS];
-    path::walk(left, right, tree, r, n, &mut own);
+    path_walk::walk(left, right, tree, r, n, &mut own);
     outlets_swaps::reduce(
         n as usize,
         left,

@@ -23,8 +23,8 @@ use Rattle.star_spec.specs.Call.{Call, used, graphOf, marked, claimed}
 use Rattle.star_spec.specs.MatrixPath.{pathColumn}
 use Rattle.star_spec.specs.Refusals.{badCount, unjoined}
 use Rattle.star_spec.proofs.Accepted.{Taken, sound, cause-none, causeAt-none}
-use Rattle.path.specs.steps.Walks.{State, walk}
-use Rattle.path.proofs.Walks.{Shows, walk-shows}
+use Rattle.path_walk.specs.steps.Walks.{State, walk}
+use Rattle.path_walk.proofs.Walks.{Shows, walk-shows}
 
 -- the walk of n steps from s over the marked rows
 abbrev pub walked : Call → ℕ → List ℕ → State

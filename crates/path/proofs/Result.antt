@@ -24,7 +24,8 @@ use Rattle.star_spec.proofs.Accepted.{Taken, taken, none-head, none-tail, cause
 use Rattle.table.specs.Loads.{loadedRow}
 use Rattle.table.proofs.Loads.{load-taken, loaded-taken}
 use Rattle.claim.proofs.Laws.{claimRows-marked}
-use Rattle.path.specs.steps.Walks.{State, callWalk, ownPath, ownAfter}
+use Rattle.path_walk.specs.steps.Walks.{State}
+use Rattle.path.specs.steps.Walks.{callWalk, ownPath, ownAfter}
 use Rattle.table_checks.proofs.Laws.{refusal-both, refusal-one, refused-first, done-next}
 use Rattle.path.proofs.Paths.{walked, walked-joined, walked-paths, joined-tree}
 

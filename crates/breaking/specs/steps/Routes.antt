@@ -5,7 +5,7 @@ use mathlib.Core.Bool.{Bool, true, false}
 use mathlib.Core.List.{List}
 use mathlib.Core.Path.{_≡_}
 use Rattle.path_matrix.specs.Matrix.{matrixColumn}
-use Rattle.path.specs.steps.Walks.{walk}
+use Rattle.path_walk.specs.steps.Walks.{walk}
 use Rattle.price_spec.specs.Breaking.{BreakingAnswer, breaksAt, breakingPrice}
 use Rattle.rowset.specs.Bytes.{inRow}
 use Rattle.rowset.specs.Integers.{signed}

@@ -1,37 +1,27 @@
--- What CST reads from a path matrix: the rows on the tree path between a row's ends that are heavier than that row, or weigh as much, and the first exchange that they allow.
+-- What CST reads from a path matrix: the first exchange that the rows on the tree path between a row's ends allow.
 -- Assumes nothing.
 use Prim.Native.Nat.{ℕ, _≤_}
-use mathlib.Core.Bool.{Bool, cond}
+use mathlib.Core.Bool.{Bool}
 use mathlib.Core.List.{List}
 use mathlib.Core.Option.{none}
 use mathlib.Core.Path.{_≡_}
-use lib.Dec.{eqb}
 use lib.IntN.{ℤ, natAbs, _-ℤ_}
 use Rattle.rowset.specs.Bytes.{inRow}
 use Rattle.rowset.specs.Integers.{signed}
 use Rattle.rowset.specs.Searches.{greaterThan, sameAs}
-use Rattle.rowset.specs.Sets.{both, oneOf, any, uppermost}
+use Rattle.rowset.specs.Sets.{both, any, uppermost}
 use Rattle.path_matrix.specs.Matrix.{matrixColumn}
 use Rattle.slice.specs.Slices.{size}
 use Rattle.star_spec.specs.Call.{Call}
 use Rattle.star_spec.specs.MatrixPath.{pathColumn}
 use Rattle.star_spec.specs.Refusals.{cstCauses, refusal}
+use Rattle.cst_compare.specs.Compared.{Search, foundOn}
 use Rattle.cst.specs.declared.Equal.{Equal}
 use Rattle.cst.specs.declared.Exchange.{Exchange}
 
 -- the weight of row i in the bytes of a weight column
 abbrev pub weightIn : List ℕ → ℕ → ℤ
 weightIn weight i = signed (inRow 4 weight i)
-
--- one of GREAT's two slices, of the rows whose weights are given, compared with a weight, among the selected ones
-abbrev pub Search : Type 0
-Search = (ℕ → ℤ) → ℤ → (ℕ → Bool) → ℕ → Bool
-
--- what it finds in the xor of the columns of row i's ends, where f has the weights and w is compared with
-unfoldable pub foundOn : Search → (f : ℕ → ℤ) → (w : ℤ) → (matrix left right : List ℕ) → ℕ → ℕ → Bool
-foundOn search f w matrix left right i =
-    search f w
-    (oneOf (matrixColumn matrix (inRow 1 left i)) (matrixColumn matrix (inRow 1 right i)))
 
 -- whether it finds a row there, compared with row i's own weight, and the uppermost that it finds
 unfoldable pub someOn : Search → (matrix left right weight : List ℕ) → ℕ → Bool
@@ -59,10 +49,6 @@ unfoldable pub firstEqual : (matrix left right weight : List ℕ) → (ℕ → B
 firstEqual matrix left right weight rows =
     let i = rowWith sameAs matrix left right weight rows in
     record { out = firstOn sameAs matrix left right weight i; into = i }
-
--- the row found already, else row i, if E has a row; 0 where there is none
-unfoldable pub remembered : ℕ → (ℕ → Bool) → ℕ → ℕ
-remembered found E i = cond (eqb found 0) (cond (any size E) i 0) found
 
 -- a call that CST does not refuse, and a matrix with its path columns from vertex 1
 pub record Walked (c : Call) (matrix : List ℕ) : Type 0 where

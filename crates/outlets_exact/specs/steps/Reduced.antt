@@ -10,7 +10,7 @@ use mathlib.Core.Option.{Option, none}
 use mathlib.Core.Path.{_≡_}
 use Rattle.outlets_theory.specs.Degree.{touches, start}
 use Rattle.graph_theory.specs.Graph.{Graph}
-use Rattle.path.specs.steps.Walks.{walk}
+use Rattle.path_walk.specs.steps.Walks.{walk}
 use Rattle.outlets_swaps.specs.steps.Columns.{priceIn}
 use Rattle.outlets_swaps.specs.steps.Exchanges.{Given, State, exchangesTo, firstState, Ends}
 use Rattle.rowset.specs.Integers.{signed}

@@ -1,11 +1,11 @@
--- `path::walk` meets its contract: words of 0 are blank, and as many are taken as the rows ask. Assumes nothing.
+-- `path_walk::walk` meets its contract: words of 0 are blank, and as many are taken as the rows ask. Assumes nothing.
 use native.Mathlib.Omega.{arith}
 use borrow.Author.Needs.{needs}
 use Rattle.incidence.proofs.Laws.{two-tables}
 use Rattle.rowset.specs.Words.{inWords}
 use Rattle.slice.specs.Slices.{component, bit}
-use Rattle.path.proofs.walk.Statement.{statement}
-use Rattle.path.proofs.walk.Tie as tie
+use Rattle.path_walk.proofs.walk.Statement.{statement}
+use Rattle.path_walk.proofs.walk.Tie as tie
 
 walk-in-requires : tie.Need-walk-in-requires
 unfolding inWords component bit

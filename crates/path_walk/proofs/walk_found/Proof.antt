@@ -1,7 +1,7 @@
--- `path::walk_found` meets its contract. The loop's invariant: over whatever rows the columns have what MATCH gives, the state is that after `k` steps from where the loop begins. The measure is what is left of the steps.
+-- `path_walk::walk_found` meets its contract. The loop's invariant: over whatever rows the columns have what MATCH gives, the state is that after `k` steps from where the loop begins. The measure is what is left of the steps.
 -- Assumes nothing.
 use Prim.Native.Nat.{ℕ, _-_, _^_, _≤_, _<_}
-use Rattle.path.specs.steps.Walks.{State, step, steps}
+use Rattle.path_walk.specs.steps.Walks.{State, step, steps}
 use Rattle.incidence.specs.steps.Rows.{EachMatch}
 use Rattle.slice_words.proofs.Laws.{component-words}
 use Rattle.rowset.specs.Sets.{either}
@@ -13,9 +13,9 @@ use mathlib.Core.Bool.{Bool}
 use mathlib.Core.Path.{_≡_, refl, ap, _∙_}
 use native.Mathlib.Numerals.{add-one}
 use native.Mathlib.Omega.{arith}
-use Rattle.path.proofs.Steps.{state, step-taken, step-none, steps-stay, begun}
-use Rattle.path.proofs.walk_found.Statement.{statement}
-use Rattle.path.proofs.walk_found.Tie as tie
+use Rattle.path_walk.proofs.Steps.{state, step-taken, step-none, steps-stay, begun}
+use Rattle.path_walk.proofs.walk_found.Statement.{statement}
+use Rattle.path_walk.proofs.walk_found.Tie as tie
 
 abbrev Inv-loop : tie.InvT-loop
 Inv-loop left right words left-at right-at s n own₀ lefts₀ rights₀ reached₀ k₀ own lefts rights reached k =

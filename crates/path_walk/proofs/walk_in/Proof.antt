@@ -1,10 +1,10 @@
--- `path::walk_in` meets its contract: each column of rows has what MATCH gives, and so the walk is that over these rows. Assumes nothing.
+-- `path_walk::walk_in` meets its contract: each column of rows has what MATCH gives, and so the walk is that over these rows. Assumes nothing.
 use borrow.Author.Needs.{needs}
 use Rattle.incidence.proofs.Laws.{each-match, from-one}
 use Rattle.rowset.specs.Words.{inWords}
 use Rattle.slice.specs.Slices.{component, bit}
-use Rattle.path.proofs.walk_in.Statement.{statement}
-use Rattle.path.proofs.walk_in.Tie as tie
+use Rattle.path_walk.proofs.walk_in.Statement.{statement}
+use Rattle.path_walk.proofs.walk_in.Tie as tie
 
 returns : tie.Need-returns
 unfolding inWords component bit

@@ -16,8 +16,8 @@ use Rattle.path_matrix.specs.Matrix.{matrixColumn}
 use Rattle.rowset.proofs.Laws.{both-inside}
 use Rattle.rowset.specs.Words.{columnWords, columnWordsFrom}
 use Rattle.slice.specs.Slices.{size}
-use Rattle.path.proofs.Walks.{walk-shows}
-use Rattle.path.specs.steps.Walks.{walk}
+use Rattle.path_walk.proofs.Walks.{walk-shows}
+use Rattle.path_walk.specs.steps.Walks.{walk}
 
 module _ (g : Graph) (ok : Sound g) (T : ℕ → Bool) (tree : SpanningTree g T) (few : g .n ≤ size) (short : g .m ≤ size) where
   -- a row of a tree path is a row of the table

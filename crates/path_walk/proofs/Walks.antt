@@ -20,7 +20,7 @@ use Rattle.rowset.proofs.Laws.{clash, put-other, in-upTo, uppermost-cut, upperm
 use Rattle.path_matrix.specs.Matrix.{columnOf, withColumn}
 use Rattle.slice.specs.Slices.{size, written}
 use Rattle.path_matrix.proofs.Laws.{matrixColumn-words, columnOf-same, columnOf-other, length-withColumn}
-use Rattle.path.specs.steps.Walks.{State, nowhere, arrive, pass, along, step, steps, walk}
+use Rattle.path_walk.specs.steps.Walks.{State, nowhere, arrive, pass, along, step, steps, walk}
 
 -- the rows of T whose end in the column e is a vertex of Q
 pub ends : (ℕ → Bool) → (ℕ → ℕ) → (ℕ → Bool) → ℕ → Bool

@@ -1,4 +1,4 @@
--- `cst::remember` meets its contract, in each of its cases. Assumes nothing.
+-- `cst_compare::remember` meets its contract, in each of its cases. Assumes nothing.
 use Prim.Native.Nat.{ℕ}
 use mathlib.Core.Bool.{Bool, true, false}
 use mathlib.Core.Path.{_≡_, sym, _∙_}
@@ -6,9 +6,9 @@ use borrow.Author.Needs.{needs}
 use borrow.Author.Tests.{eq-eqb, ne-eqb, not-true, not-false}
 use Rattle.rowset.specs.Sets.{any}
 use Rattle.slice.specs.Slices.{size}
-use Rattle.cst.specs.steps.Paths.{remembered}
-use Rattle.cst.proofs.remember.Statement.{statement}
-use Rattle.cst.proofs.remember.Tie as tie
+use Rattle.cst_compare.specs.Compared.{remembered}
+use Rattle.cst_compare.proofs.remember.Statement.{statement}
+use Rattle.cst_compare.proofs.remember.Tie as tie
 
 module _ (e : ℕ) (E : ℕ → Bool) (i : ℕ) where
   found-stays : (e ≡ 0 → ⊥) → e ≡ remembered e E i

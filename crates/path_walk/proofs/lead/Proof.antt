@@ -1,9 +1,9 @@
--- `path::lead` meets its contract, by what its calls ensure: the column of u is written as that of v, and row i is put in it. Assumes nothing.
+-- `path_walk::lead` meets its contract, by what its calls ensure: the column of u is written as that of v, and row i is put in it. Assumes nothing.
 use borrow.Author.Needs.{needs}
 use mathlib.Core.Path.{_∙_}
 use Rattle.path_matrix.proofs.Components.{withColumn-put}
-use Rattle.path.proofs.lead.Statement.{statement}
-use Rattle.path.proofs.lead.Tie as tie
+use Rattle.path_walk.proofs.lead.Statement.{statement}
+use Rattle.path_walk.proofs.lead.Tie as tie
 
 returns : tie.Need-returns
 returns c =

@@ -1,8 +1,8 @@
--- `cst::compared_rows` meets its contract: what each call ensures, put together. Assumes nothing.
+-- `cst_compare::compared_rows` meets its contract: what each call ensures, put together. Assumes nothing.
 use borrow.Author.Needs.{needs}
-use Rattle.cst.specs.steps.Paths.{foundOn}
-use Rattle.cst.proofs.compared_rows.Statement.{statement}
-use Rattle.cst.proofs.compared_rows.Tie as tie
+use Rattle.cst_compare.specs.Compared.{foundOn}
+use Rattle.cst_compare.proofs.compared_rows.Statement.{statement}
+use Rattle.cst_compare.proofs.compared_rows.Tie as tie
 
 returns : tie.Need-returns
 unfolding foundOn

@@ -15,8 +15,8 @@ use Rattle.slice_words.proofs.Joining.{zeros-none}
 use Rattle.slice_words.proofs.Laws.{words-component}
 use Rattle.path_matrix.specs.Matrix.{matrixColumn, withColumn}
 use Rattle.slice.specs.Slices.{size, written}
-use Rattle.path.proofs.Walks.{along-none, along-ahead, along-back}
-use Rattle.path.specs.steps.Walks.{State, nowhere, arrive, pass, along, step, steps, walk}
+use Rattle.path_walk.proofs.Walks.{along-none, along-ahead, along-back}
+use Rattle.path_walk.specs.steps.Walks.{State, nowhere, arrive, pass, along, step, steps, walk}
 
 -- the state of four parts
 abbrev pub state : (L R Q : ℕ → Bool) → List ℕ → State
