@@ -4,7 +4,7 @@ use Prim.Native.Nat.{ℕ, zero, suc, _-_, _≤_, _<_}
 use borrow.Author.Tests.{lt-ltb, le-ltb}
 use lib.Dec.{ltb}
 use lib.ListN.{length, take, drop, replicate}
-use mathlib.Core.Bool.{Bool, true, false, not, cond, _&&_, false≢true}
+use mathlib.Core.Bool.{Bool, true, false, not, cond, _&&_, _||_, false≢true}
 use mathlib.Core.List.{List, [], _∷_}
 use mathlib.Core.Logic.{_≢_, _⊎_, inl, inr, ⊎-elim}
 use mathlib.Core.Option.{none, some}
@@ -28,6 +28,18 @@ pub and-none : (a b : Bool) → (a ≡ false) ⊎ (b ≡ false) → (a && b) ≡
 and-none true b (inl e) = cc
 and-none true b (inr e) = e
 and-none false b q = refl
+
+pub and-both : (a b : Bool) → (a && b) ≡ true → (a ≡ true) × (b ≡ true)
+and-both true b e = (refl, e)
+and-both false b e = absurd (false≢true e)
+
+pub or-either : (a b : Bool) → (a || b) ≡ true → (a ≡ true) ⊎ (b ≡ true)
+or-either true b e = inl refl
+or-either false b e = inr e
+
+pub or-neither : (a b : Bool) → (a || b) ≡ false → (a ≡ false) × (b ≡ false)
+or-neither true b e = absurd (false≢true (sym e))
+or-neither false b e = (refl, e)
 
 -- ── What a step and a heading say ──
 
@@ -143,10 +155,10 @@ module _ {text : List ℕ} {at : ℕ} {first : Bool} {x : Span} (n : NextWord te
         go true = refl
         go false = rw (e, g)
 
-    pub name-taken : (g : Bool) → g ≡ same (part text x) (bytes "Graph") → x .first ≡ false → x .from ≢ x .to → (g ≡ false) ⊎ (r .graph ≡ false) →
+    pub name-taken : (g : Bool) → g ≡ same (part text x) (bytes "Graph") → x .first ≡ false → x .from ≢ x .to → (g && r .graph) ≡ false →
         readFrom (length text) naming r (wordsAt text at first) ≡ readFrom (length text) (lineStand g) (lineRead g r) (wordsAt text (x .to) false)
     unfolding next named when is lineStand lineRead
-    name-taken g e f d o = read-taken n naming r (⊎-elim (λ q. absurd (d q)) (λ q. q) (empty-or n)) (rw (f, ← e) (go g (r .graph) (and-none g (r .graph) o)))
+    name-taken g e f d o = read-taken n naming r (⊎-elim (λ q. absurd (d q)) (λ q. q) (empty-or n)) (rw (f, ← e) (go g (r .graph) o))
       where
         go : (a b : Bool) → (a && b) ≡ false → _≡_ {A = Next} (cond a (when (not b) (nodes, withGraph r)) (some (skipping, r))) (some (lineStand a, lineRead a r))
         go true true o = cc

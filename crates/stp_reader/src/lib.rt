@@ -1,9 +1,10 @@
 // The reader of a SteinLib STP text: its words become the columns of a table, or the place where the layout is broken. The section reader and the line reader
 // call each other, once a section, so that what they hand on is what a text of many sections costs in stack.
-ghost use mathlib.Core.Bool.{true, false, cond, _&&_};
+ghost use mathlib.Core.Bool.{true, false, cond, _&&_, _||_};
 ghost use mathlib.Core.List.{[], _++_};
 ghost use mathlib.Core.Path.{_≡_};
 ghost use Prim.Native.Nat.{_-_, _≤_, _<_};
+ghost use lib.Dec.{eqb};
 ghost use lib.ListN.{length, take, drop, replicate};
 ghost use Rattle.stp_spec.specs.Import.{maxText, readText, columnsOf};
 ghost use Rattle.stp_spec.specs.Reader.{Read, opening, sections, naming, closed, readFrom};
@@ -79,6 +80,20 @@ fn close(text: &[u8], at: usize) -> Step
     }
 }
 
+// Whether no name stands on the line: no word is left, or the next is the first of a line.
+fn unnamed(w: Span) -> bool
+    ensures { λ r. ⌜ r ≡ (w .first || eqb (w .from) (w .to)) ⌝ }
+{
+    w.first || w.from == w.to
+}
+
+// Whether a Graph is named once more.
+fn again(graph: bool, seen: bool) -> bool
+    ensures { λ r. ⌜ r ≡ (graph && seen) ⌝ }
+{
+    graph && seen
+}
+
 // After SECTION: the section's name.
 fn section_name(text: &[u8], at: usize, seen: bool) -> Heading
     requires { ⌜ at ≤ length (now text) ⌝ }
@@ -89,11 +104,11 @@ fn section_name(text: &[u8], at: usize, seen: bool) -> Heading
     let from = w.from;
     let to = w.to;
     let no = unopened(lines::broken(from));
-    if w.first || from == to {
+    if unnamed(w) {
         return no;
     }
     let graph = same(&text[from..to], b"Graph");
-    if graph && seen {
+    if again(graph, seen) {
         return no;
     }
     Heading {

@@ -2,13 +2,13 @@
 use borrow.Author.Needs.{needs}
 use borrow.Author.Tests.{eqb-true, eqb-false}
 use mathlib.Core.Bool.{false}
-use mathlib.Core.Logic.{inl, inr, ⊎-elim}
+use mathlib.Core.Logic.{⊎-elim}
 use mathlib.Core.Path.{refl, sym, ap, _∙_}
 use native.Mathlib.Omega.{arith}
 use Rattle.stp_words.specs.Bytes.{bytes}
 use Rattle.stp_reader.specs.steps.Sections.{headed}
 use Rattle.stp_reader.proofs.Reading.{NextWord, next-word}
-use Rattle.stp_reader.proofs.Sections.{Unopened, unopened-step, finished-broken, name-first, name-missing, name-again, name-taken}
+use Rattle.stp_reader.proofs.Sections.{or-either, or-neither, and-both, Unopened, unopened-step, finished-broken, name-first, name-missing, name-again, name-taken}
 use Rattle.stp_reader.proofs.section_name.Statement.{statement}
 use Rattle.stp_reader.proofs.section_name.Tie as tie
 
@@ -24,11 +24,11 @@ refused c =
 
 returns : tie.Need-returns
 returns c =
-    let u = c .before in
+    let u = c .before .before in
     let n = word (u .before .before) in
     let b = u .before .broken .ensures in
     let no = refused u in (
-      (λ r g. ⊎-elim (λ w. name-first n r (w .taken)) (λ w. name-missing n r (eqb-true _ _ (w .1 .taken))) (c .if1 .came) ∙ sym (no .reading r ∙ finished-broken _ r (b .0) (b .1))),
+      (λ r g. ⊎-elim (name-first n r) (λ w. name-missing n r (eqb-true _ _ w)) (or-either _ _ (sym (c .before .unnamed .ensures) ∙ c .if1 .taken)) ∙ sym (no .reading r ∙ finished-broken _ r (b .0) (b .1))),
       (no .low, no .high),
     )
 
@@ -39,18 +39,20 @@ returns-2 c =
     let u = s .before .before .before .before .before in
     let n = word (u .before .before) in
     let b = u .before .broken .ensures in
-    let no = refused u in (
-      (λ r g. name-again n r (sym (s .same .ensures) ∙ c .before .if3 .taken) (g ∙ c .if4 .taken) ∙ sym (no .reading r ∙ finished-broken _ r (b .0) (b .1))),
+    let no = refused u in
+    let two = and-both _ _ (sym (c .before .again .ensures) ∙ c .if2 .taken) in (
+      (λ r g. name-again n r (sym (s .same .ensures) ∙ two .0) (g ∙ two .1) ∙ sym (no .reading r ∙ finished-broken _ r (b .0) (b .1))),
       (no .low, no .high),
     )
 
 returns-3 : tie.Need-returns-3
 unfolding bytes headed
 returns-3 c =
-    let s = c .before in
+    let s = c .before .before in
     let e = s .before .before .before in
-    let n = word (e .before .before .before .before) in (
-      (λ r g. name-taken n r _ (s .same .ensures) (e .before .if1 .left) (eqb-false _ _ (e .if2 .left)) (⊎-elim (λ w. inr (g ∙ w .1 .left)) (λ w. inl (w .left)) (c .if3 .came))),
+    let n = word (e .before .before .before .before) in
+    let neither = or-neither _ _ (sym (e .before .unnamed .ensures) ∙ e .if1 .left) in (
+      (λ r g. name-taken n r _ (s .same .ensures) (neither .0) (eqb-false _ _ (neither .1)) (rw g (sym (c .before .again .ensures) ∙ c .if2 .left))),
       (omega (arith, n .low, n .order), n .high),
     )
 
@@ -61,11 +63,13 @@ section-name-spec =
     (λ c κs. search needs)
     (λ c κs. search needs)
     (λ c κs. search needs)
+    (λ c κs. search needs)
     returns
     (λ c. word (c .before .before .before .before) .order)
     (λ c. let n = word (c .before .before .before .before) in search needs)
     (λ c. let n = word (c .before .before .before .before) in search needs)
     (λ c. search needs)
+    (λ c κs. search needs)
     (λ c κs. search needs)
     returns-2
     returns-3)
