@@ -1,10 +1,10 @@
 // What a planner does with a plan: open, mark, exchange, strike, add, price, mend, undo, save. It
 // knows no document; what is to be shown is told to those who listen.
 import { PASSED } from './core.js';
-import { FileFault, fileAdd, fileBody, fileBytes, fileIsStp } from './file.js';
-import { fileOfRows, fileRead, fileText, fileWrite } from './file.js';
+import { FileFault, fileAdd, fileRead, fileWrite } from './file.js';
 import { History } from './history.js';
 import { judge, judgeExchanged } from './judge.js';
+import { openedText } from './opened.js';
 import { planCopy } from './plan.js';
 
 /** @typedef {import('./plan.js').Plan} Plan */
@@ -61,22 +61,14 @@ export class App {
     for (const listener of this.listeners) listener(told);
   }
 
-  /** Opens a table file or an STP text; the plan before it can be had again by undoing.
+  /** Opens a file; the plan before it can be had again by undoing.
    * @param {Uint8Array} bytes @param {string} name
    * @returns {string} what is wrong with it, or nothing */
   open(bytes, name) {
-    let text = fileText(bytes);
-    let coordinates = null;
     /** @type {State} */
     let state;
     try {
-      if (fileIsStp(text)) {
-        const body = fileBody(text);
-        const read = this.core.stp(fileBytes(body));
-        if (read.kind !== PASSED) return `${name}: ${this.refused(read.number, read.place)}`;
-        coordinates = read.coordinates;
-        text = fileOfRows(read.n, read.rows);
-      }
+      const { text, coordinates } = openedText(this.core, bytes, name);
       state = { ...fileRead(text), name, coordinates };
     } catch (fault) {
       if (fault instanceof FileFault) return fault.message.replace(/^/gm, `${name}:`);
@@ -104,13 +96,6 @@ export class App {
   /** Whether the plan is a question, so that nothing is said of it and nothing changes it. */
   get asked() {
     return this.lesson !== null && this.lesson.open;
-  }
-
-  /** A refusal in the library's words.
-   * @param {number} number @param {number} place */
-  refused(number, place) {
-    const at = place > 0 ? ` (place ${place})` : '';
-    return `Refused (${number}): ${this.core.refusal(number)}${at}.`;
   }
 
   /** @param {string} label @param {(plan: Plan) => void} edit */
@@ -197,7 +182,7 @@ export class App {
     const plan = planCopy(this.plan);
     plan.struck[i] = struck ? 0 : 1;
     const { kind, number } = struck ? this.sound(plan) : this.core.strike(this.plan, i + 1);
-    if (kind !== PASSED) return this.refused(number, i + 1);
+    if (kind !== PASSED) return this.core.refused(number, i + 1);
     const label = `${struck ? 'restore' : 'strike'} trench ${i + 1}`;
     this.keep(label, { ...this.history.now, plan });
     return '';
@@ -231,11 +216,11 @@ export class App {
   add(a, b, price) {
     const { file, plan } = this.history.now;
     const answer = this.core.add(plan, a, b, price);
-    if (answer.kind !== PASSED) return this.refused(answer.number, answer.out);
+    if (answer.kind !== PASSED) return this.core.refused(answer.number, answer.out);
     const text = fileAdd(file, plan, answer.amount, a, b, price);
     const state = { ...this.history.now, ...fileRead(text) };
     const { kind, number, out } = this.sound(state.plan);
-    if (kind !== PASSED) return this.refused(number, out);
+    if (kind !== PASSED) return this.core.refused(number, out);
     this.selected = answer.amount - 1;
     this.keep(`add trench ${answer.amount}`, state);
     return '';
@@ -244,7 +229,7 @@ export class App {
   /** Marks the network that a door has built, or says why it has not.
    * @param {string} label @param {import('./core.js').Answer & {mark: Uint8Array}} answer */
   take(label, answer) {
-    if (answer.kind !== PASSED) return this.refused(answer.number, answer.out);
+    if (answer.kind !== PASSED) return this.core.refused(answer.number, answer.out);
     this.selected = -1;
     this.change(label, (p) => {
       p.mark = answer.mark;

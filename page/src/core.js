@@ -67,6 +67,13 @@ export class Core {
     return this.words(this.doors.star_refusal_text(number));
   }
 
+  /** A refusal by its number, with its place.
+   * @param {number} number @param {number} place */
+  refused(number, place) {
+    const at = place > 0 ? ` (place ${place})` : '';
+    return `Refused (${number}): ${this.refusal(number)}${at}.`;
+  }
+
   version() {
     return this.words(this.doors.star_version());
   }

@@ -1,6 +1,7 @@
 // The table of trenches: a checkbox a row. One row at a time is in the tab order; arrows move, and
 // space marks.
 import { byId, html } from './dom.js';
+import { namesEnds } from './names.js';
 import { planHas, planLeaves } from './plan.js';
 import { count, ends, money } from './words.js';
 
@@ -84,14 +85,14 @@ export class List {
   }
 
   open() {
-    const { plan } = this.app;
+    const { file, plan } = this.app.history.now;
     this.rows = Array.from({ length: plan.m }, (_, i) =>
       html(
         'tr',
         { 'data-row': i, role: 'row' },
         html('td', { role: 'cell' }, html('input', { type: 'checkbox', tabindex: -1 })),
         html('td', { role: 'cell' }, String(i + 1)),
-        html('td', { role: 'cell' }, ends(plan, i)),
+        html('td', { role: 'cell', title: namesEnds(file, plan, i) }, ends(plan, i)),
         html('td', { role: 'cell', class: 'figure' }),
         html('td', { role: 'cell' }),
       ),

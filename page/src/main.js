@@ -258,7 +258,8 @@ class Page {
 
   save() {
     const { app } = this;
-    const name = app.name.replace(/\.(stp|txt)$/i, '').replace(/[\\/:]/g, ' ') || 'plan';
+    const stem = app.name.replace(/\.(stp|txt|csv|tsv|json|geojson)$/i, '');
+    const name = stem.replace(/[\\/:]/g, ' ') || 'plan';
     const text = new Blob([fileBytes(app.text())], { type: 'text/plain' });
     const link = html('a', { href: URL.createObjectURL(text), download: `${name}.txt` });
     link.click();

@@ -64,7 +64,7 @@ export function plansWhich(app, bytes, name) {
   }
   const answer = app.core.which(app.plan, other.mark);
   if (answer.result === 0) {
-    plansSay(pageSays(app.refused(answer.number, answer.out)));
+    plansSay(pageSays(app.core.refused(answer.number, answer.out)));
     return;
   }
   const [own, theirs] = [app.plan.mark, other.mark].map((mark) => app.core.total(app.plan, mark));

@@ -59,7 +59,7 @@ function verdictSavings(one, all) {
 function verdictNone(app) {
   const { verdict, marks, rings } = app.judgement;
   const need = app.plan.n - 1;
-  const words = marks > 0 ? [coreSays(app.refused(verdict.number, 0))] : [];
+  const words = marks > 0 ? [coreSays(app.core.refused(verdict.number, 0))] : [];
   if (marks === need) words.push(pageSays(bold('The count is right, and that is not enough.')));
   else words.push(pageSays(`${count(marks, 'mark', 'marks')}; a network has exactly ${need}.`));
   if (rings && marks > 0) words.push(...verdictRings(rings));
@@ -95,7 +95,7 @@ function verdictRings(rings) {
 function verdictRefused(app) {
   const { verdict } = app.judgement;
   const { file } = app.history.now;
-  const words = [coreSays(app.refused(verdict.number, 0))];
+  const words = [coreSays(app.core.refused(verdict.number, 0))];
   const row = file.rowLine[verdict.out - 1];
   if (verdict.out > 0 && row !== undefined) {
     words.push(pageSays(`Trench ${verdict.out}, line ${row + 1} of the file.`));
@@ -139,7 +139,7 @@ export function verdictShow(app) {
   const said = verdictSaid(app);
   const { least, drawn } = app.judgement;
   if (drawn && least && least.kind !== PASSED) {
-    said.words.push(coreSays(app.refused(least.number, 0)));
+    said.words.push(coreSays(app.core.refused(least.number, 0)));
   }
   byId('verdict').className = `card ${said.look}`;
   byId('head').textContent = said.head;

@@ -12,6 +12,7 @@ import { clicksGroups } from './clicks.mjs';
 import { contrastBelow } from './contrast.mjs';
 import { ROUNDING, apart, drawnBy } from './drawn.mjs';
 import { insideGroups } from './inside.mjs';
+import { kindsGroups } from './kinds.mjs';
 import { movesGroups } from './moves.mjs';
 import { overlaps } from './overlaps.mjs';
 import { paperGroups, paperReadable } from './paper.mjs';
@@ -469,6 +470,7 @@ const GROUPS = {
 
   ...clicksGroups(tools),
   ...insideGroups(tools),
+  ...kindsGroups(tools),
   ...movesGroups(tools),
   ...(paperReadable() ? paperGroups(tools) : {}),
 };

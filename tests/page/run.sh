@@ -70,7 +70,20 @@ drifted() { # EXPRESSION FILE
     sed -i "$1" "$work/console/$2"
     ! cmp -s "console/$2" "$work/console/$2" &&
         ${CC:-cc} -std=c99 -Iinclude -o "$work/star" "$work"/console/*.c "$build/libstar.a" -lm &&
-        ! node tests/page/places.mjs "$work/star" "$build/star.wasm" 5 >"$work/said" 2>&1
+        ! node tests/page/places.mjs "$work/star" "$build/star.wasm" 5 >"$work/said" 2>&1 &&
+        grep -q '^places: ' "$work/said"
+}
+
+# A page that reads CSV or GeoJSON wrongly has to be found.
+misread() { # FILE EXPRESSION
+    rm -rf "$work/copy"
+    mkdir -p "$work/copy/tests"
+    cp -r page python "$work/copy"
+    cp -r tests/page "$work/copy/tests"
+    sed -i "$2" "$work/copy/page/src/$1"
+    ! cmp -s "page/src/$1" "$work/copy/page/src/$1" &&
+        ! node "$work/copy/tests/page/formats.mjs" "$build/star.wasm" 600 >"$work/said" 2>&1 &&
+        grep -q '^formats: ' "$work/said"
 }
 
 want node nodejs || { echo "0 passed, 0 failed"; exit 0; }
@@ -86,6 +99,15 @@ part node tests/page/places.mjs "$build/star" "$build/star.wasm" 30
 clean drifted 's/7919/7907/' places.c
 clean drifted 's/: -bend_of/: bend_of/' bends.c
 clean drifted 's/times_ten(minus/times_ten(0/' coordinates.c
+if want python3 python3; then
+    export STAR_LIBRARY=$build/libstar.so
+    [[ $build = /* ]] || STAR_LIBRARY=$PWD/$STAR_LIBRARY
+    clean make -s shared BUILD="$build"
+    part node tests/page/formats.mjs "$build/star.wasm" 600
+    clean misread csv.js 's/\.replace(\/""\/g, .".)//'
+    clean misread rows.js "s/\.padEnd(point, '0')//"
+    clean misread geojson.js 's/if (places.has(name) /if (false /'
+fi
 part node tests/page/exercises.mjs "$build/star.wasm" 1000
 if want chromium chromium; then
     # The calls of tests/backends that are made again in the browser.
