@@ -1,7 +1,7 @@
 -- The bytes of the doors that change a working table mean what they should: what is read back is the answer's own fields, and the theorems of working tables say what they are worth.
 -- Assumes nothing.
 use Prim.Native.Nat.{ℕ, _<_, _≤_}
-use borrow.Author.Tests.{eqb-false, eq-eqb, ne-eqb, not-false}
+use borrow.Author.Tests.{eqb-false, eq-eqb, not-false}
 use lib.IntN.{pos}
 use lib.ListN.{length}
 use mathlib.Core.Bool.{Bool, true, false, cond}
@@ -23,7 +23,7 @@ use Rattle.rowset.specs.Sets.{count}
 use Rattle.rowset.specs.Words.{columnWords, inWords}
 use Rattle.star_spec.proofs.Accepted.{none-head, none-tail, cause-none}
 use Rattle.star_spec.specs.Cst.{cst}
-use Rattle.star_spec.specs.Door.{Fields, fields, outcomeFields, readBack, wellLent, doorReturns, answerAfter}
+use Rattle.star_spec.specs.Door.{fields, outcomeFields, readBack, wellLent, doorReturns, answerAfter}
 use Rattle.star_spec.specs.Refusals.{maxRows, cause, refusal}
 use Rattle.change_spec.proofs.Carrying.{carry-lengths}
 use Rattle.change_spec.proofs.Meaning.{striking-strikes, merging-merges, adding-adds}

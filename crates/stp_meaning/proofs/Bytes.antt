@@ -1,12 +1,10 @@
 -- The bytes and the columns of star_import mean what they should: what is read back is the answer's own fields, and the theorem of imports says what they are worth.
 -- Assumes nothing.
-use Prim.Native.Nat.{ℕ, _+_, _*_, _/_, _%_, _≤_, _<_}
-use borrow.Author.Tests.{eq-eqb, ne-eqb}
-use lib.IntN.{ℤ, pos}
+use Prim.Native.Nat.{ℕ, _≤_, _<_}
+use lib.IntN.{pos}
 use lib.ListN.{length}
-use lib.Signed.{mag}
 use mathlib.Core.Bool.{Bool, cond}
-use mathlib.Core.List.{List, []}
+use mathlib.Core.List.{List}
 use mathlib.Core.Logic.{⊎-elim}
 use mathlib.Core.Option.{Option, none, some}
 use mathlib.Core.Path.{_≡_, refl, sym, ap, _∙_, subst}
@@ -16,13 +14,11 @@ use Rattle.star_meaning.proofs.Demand3.{apart}
 use Rattle.star_meaning.specs.Bytes.{Written}
 use Rattle.stp_meaning.specs.Bytes.{importOf, ReadMeans, ImportCall, ImportDoorMeans}
 use Rattle.refusal.specs.declared.Refusal.{Refusal}
-use Rattle.rowset.specs.Bytes.{little}
 use Rattle.star_spec.proofs.Accepted.{none-nil, some-cons, some-cause, some-causeAt, accepted-means}
-use Rattle.star_spec.specs.Door.{Fields, bytesOf, fieldBytes, readBack, wellLent, doorReturns, answerAfter}
+use Rattle.star_spec.specs.Door.{readBack, wellLent, doorReturns, answerAfter}
 use Rattle.star_spec.specs.Refusals.{cause, causeAt, badVertices, tooManyRows, badRow, repeatedRow, orElse, refusal}
 use Rattle.stp_spec.proofs.Accepted.{import-holds}
 use Rattle.stp_spec.proofs.Places.{places-hold}
-use Rattle.stp_spec.specs.Accepted.{ImportTaken}
 use Rattle.stp_spec.specs.Door.{importFields, importDoor, leftDoor, rightDoor, weightDoor}
 use Rattle.stp_spec.specs.Import.{badColumns, badEdges, importCauses, ImportAnswer, untaken, taken, sizes, answered, imported, readText, leftAfter, rightAfter, weightAfter}
 use Rattle.stp_spec.specs.Reader.{Read, Reading, broken, whole}

@@ -6,7 +6,7 @@ use mathlib.Core.Bool.{Bool, true, false, cond}
 use mathlib.Core.List.{List, [], _∷_}
 use mathlib.Core.Logic.{⊎-elim}
 use mathlib.Core.Option.{Option, none, some}
-use mathlib.Core.Path.{_≡_, refl, sym, ap, _∙_, subst}
+use mathlib.Core.Path.{_≡_, refl, subst}
 use borrow.Author.Tests.{ltb-true, ltb-false}
 use lib.Dec.{ltb}
 use lib.ListN.{length}
@@ -15,11 +15,10 @@ use Rattle.refusal.specs.declared.Refusal.{Refusal}
 use Rattle.rowset.proofs.Laws.{uppermost-some}
 use Rattle.rowset.specs.Sets.{uppermost}
 use Rattle.star_spec.proofs.Accepted.{none-nil, some-cons, some-cause, some-causeAt}
-use Rattle.star_spec.specs.Call.{rowsOf}
-use Rattle.star_spec.specs.Refusals.{maxRows, cause, causeAt, badVertices, tooManyRows, badEnds, badRow, repeats, repeatedRow, orElse, refusal}
+use Rattle.star_spec.specs.Refusals.{maxRows, cause, causeAt, badVertices, tooManyRows, badRow, repeatedRow, orElse, refusal}
 use Rattle.stp_spec.proofs.Accepted.{rows-few}
 use Rattle.stp_spec.specs.Accepted.{ImportPlace, PlacesHold}
-use Rattle.stp_spec.specs.Import.{maxText, bounded, readText, tableOf, badColumns, badEdges, importCauses, ImportAnswer, untaken, taken, sizes, answered, imported}
+use Rattle.stp_spec.specs.Import.{maxText, bounded, readText, tableOf, badColumns, badEdges, importCauses, untaken, sizes, answered, imported}
 use Rattle.stp_spec.specs.Reader.{Read, opening, nothingRead, Stand, Next, next, Reading, broken, whole, isClosed, follow, readFrom}
 use Rattle.stp_words.specs.Bytes.{classOf}
 use Rattle.stp_words.specs.Text.{Word, Before, atStart, after, begins, prepend, wordsFrom, words}
