@@ -142,13 +142,13 @@ $(BUILD)/tests/%.o: tests/%.c $(wildcard tests/*.h) include/star.h
 .PRECIOUS: $(BUILD)/tests/%.o
 
 # Of an archive the linker takes what a test asks for alone.
-$(BUILD)/libharness.a: $(HARNESS:%=$(BUILD)/tests/%.o)
+$(BUILD)/tests/libharness.a: $(HARNESS:%=$(BUILD)/tests/%.o)
 	@rm -f $@
 	$(AR) rcs $@ $^
 
-$(BUILD)/%_test: $(BUILD)/tests/%_test.o $(BUILD)/tests/faultless.o $(BUILD)/libharness.a $(ARCHIVE)
+$(BUILD)/%_test: $(BUILD)/tests/%_test.o $(BUILD)/tests/faultless.o $(BUILD)/tests/libharness.a $(ARCHIVE)
 	$(CC) $(CFLAGS) -o $@ $^ -pthread
-$(BUILD)/%_test_faulty: $(BUILD)/tests/%_test.o $(BUILD)/tests/faulty_%.o $(BUILD)/libharness.a $(ARCHIVE)
+$(BUILD)/%_test_faulty: $(BUILD)/tests/%_test.o $(BUILD)/tests/faulty_%.o $(BUILD)/tests/libharness.a $(ARCHIVE)
 	$(CC) $(CFLAGS) -o $@ $^ -pthread
 
 PLAIN := $(BUILD)/tests/plain.o $(BUILD)/tests/plain_work.o $(BUILD)/tests/plain_asked.o
