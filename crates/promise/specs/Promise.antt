@@ -1,6 +1,6 @@
 -- What star_cst, star_other and star_mst1 promise of plain tables, and star_work_cst, star_work_other and star_work_mst1 of working ones: demand 3, and every refusal.
--- Document 01 with signed weights (A3), the only cheapest tree (A4), no repeats (A8) and rows in use (A10). The doors' contracts state the calls at the end.
--- Cites the kit's standard library alone: no other file has to be read. Places are counted from 0: row k + 1 stands at place k. Assumes nothing.
+-- Document 01 with signed weights (A3), the only cheapest tree (A4), no repeats (A8), rows in use (A10). The doors state the calls at the end, and beside them which of several exchanges or least trees it is.
+-- Cites the kit's standard library alone. `(d : List ℕ) × P` says that there is such a d. Places are counted from 0: row k + 1 stands at place k. Assumes nothing.
 use Prim.Native.Nat.{ℕ, zero, suc, _+_, _*_, _/_, _%_, _^_, _≤_, _<_}
 use mathlib.Core.Bool.{Bool, true, cond, _&&_}
 use mathlib.Core.List.{List, [], _∷_}
@@ -80,7 +80,7 @@ Same t j k =
     ((at (t .left) j ≡ at (t .left) k) × (at (t .right) j ≡ at (t .right) k)) ⊎ ((at (t .left) j ≡ at (t .right) k) × (at (t .right) j ≡ at (t .left) k))
 
 abbrev pub Uppermost : Table → (ℕ → Type 0) → ℕ → Type 0
-Uppermost t Good k = Row t k × ¬ Good k × ((j : ℕ) → j < k → Row t j → Good j)
+Uppermost t Good k = Row t k × (¬ Good k) × ((j : ℕ) → j < k → Row t j → Good j)
 
 pub data Cause (t : Table) (c : List ℕ) : ℕ → ℕ → Type 0 where
   vertices : ¬ ((1 ≤ t .n) × (t .n ≤ 255)) → Cause t c 1 0
@@ -124,7 +124,7 @@ pub record Checked (t : Table) (c a : List ℕ) : Type 0 where
   pub kinds : (at a 0 ≤ 2) × (at a 6 ≤ 1) × (at a 7 ≡ 0)
   pub passed : (at a 0 ≡ 1) ↔ (Accepted t c × Least t c)
   pub states : at a 0 ≡ 1 → (amount a ≡ weight t c) × (at a 1 ≡ 0)
-  pub only : at a 0 ≡ 1 → (at a 6 ≡ 1) ↔ ((d : List ℕ) → SpanningTree t d → weight t d ≡ weight t c → (k : ℕ) → Row t k → at d k ≡ at c k)
+  pub only : at a 0 ≡ 1 → ((at a 6 ≡ 1) ↔ ((d : List ℕ) → SpanningTree t d → weight t d ≡ weight t c → (k : ℕ) → Row t k → at d k ≡ at c k))
   pub lighter : (at a 0 ≡ 2) ↔ (Accepted t c × SpanningTree t c × ¬ Least t c)
   pub exchange : at a 0 ≡ 2 → (d : List ℕ) × Exchange t c a d × (weight t d +ℤ amount a ≡ weight t c) × (pos 1 ≤ℤ amount a) × (at a 1 ≡ 0) × (at a 6 ≡ 0)
   pub refused : (at a 0 ≡ 0) ↔ ¬ (Accepted t c × SpanningTree t c)
@@ -136,7 +136,7 @@ pub record CstCall (t : Table) (c before after : List ℕ) (returned : ℕ) : Ty
   pub sixteen : length before ≡ 16 → (returned ≡ 1) × (length after ≡ 16) × ((k : ℕ) → at after k < 256)
   pub says : length before ≡ 16 → Checked t c after × (at after 0 ≡ 1 → number after 2 4 ≡ 0)
 
--- star_other: as star_cst; where another tree weighs the same, bytes 2 to 5 name an exchange that gives one
+-- star_other: the same of its own bytes; and where another tree weighs the same, bytes 2 to 5 name an exchange that gives one
 pub record OtherCall (t : Table) (c before after : List ℕ) (returned : ℕ) : Type 0 where
   pub short : ¬ (length before ≡ 16) → (returned ≡ 0) × (after ≡ before)
   pub sixteen : length before ≡ 16 → (returned ≡ 1) × (length after ≡ 16) × ((k : ℕ) → at after k < 256)
