@@ -3,7 +3,7 @@
 use Prim.Native.Nat.{ℕ, _+_, _*_, _≤_}
 use borrow.Author.Tests.{ltb-false}
 use lib.Dec.{ltb}
-use lib.ListN.{length, drop, length-append}
+use lib.ListN.{length, getD, drop, length-append}
 use mathlib.Core.Bool.{Bool, true, false}
 use mathlib.Core.List.{List, [], _∷_, _++_}
 use mathlib.Core.Option.{Option, none, some}
@@ -44,7 +44,7 @@ use Rattle.star_spec.specs.Refusals.{Accepted, maxVertices, cause, isNone, noTr
 use Rattle.table.specs.Loads.{loadedRow}
 use Rattle.mend_groups.proofs.Joining.{Second, passes-shown}
 use Rattle.mend_groups.proofs.Listed.{Shows}
-use Rattle.mend.proofs.Written.{stored-all}
+use Rattle.mend.proofs.Written.{stored-all, numbers-past}
 use Rattle.mend.proofs.Third.{Third, third-after}
 use Rattle.mend_groups.specs.steps.Machine.{State, numbered, visits, twoPasses}
 use Rattle.mend.specs.steps.Machine.{swapAt}
@@ -239,9 +239,11 @@ module _ (c : Call) (records : ℕ) where
               few = omega (arith, third .shows .count, mends g ok (weightOf c) (claimed c) inside (spanned g ok (weightOf c) (claimed c) inside marks spans) .few)
 
               pub mended : (mendedBy (s .count) ≡ mend c records) × (redrawn U (s .marks) (c .mark) ≡ mendMarks c records) × ((l : List Record) → length l ≡ records → storedTo (s .count) (s .list) l ≡ mendList c l)
+                  × ((i : ℕ) → 3 * s .count ≤ i → getD (s .list) i 0 ≡ getD l₀ i 0)
               unfolding mend mendMarks mendList answerOr marksOr listOr numbered
               mended = (
                 rw (last-cause, twelve) (ap mendedBy (third .shows .count)),
                 rw (last-cause, twelve) (ap₂ (λ (p r : ℕ → Bool). redrawn p r (c .mark)) are-used (third .shows .marks)),
                 λ l z. rw (z, last-cause, twelve, third .shows .list, third .shows .count) (stored-all (drawn c .records) (drop (3 * length (drawn c .records)) l₀) l (omega (arith, z, long-list, few, third .shows .count)) (omega (arith, few-rows, few, third .shows .count))),
+                λ i h. rw (third .shows .list) (numbers-past (drawn c .records) l₀ i (omega (arith, third .shows .count))),
               )

@@ -1,11 +1,12 @@
--- The records of the numbers, stored in a list that has room for them, are its first (stored-all).
+-- The records of the numbers, stored in a list that has room for them, are its first (stored-all); past them the numbers are what they were (numbers-past).
 -- Assumes nothing.
-use Prim.Native.Nat.{ℕ, zero, suc, _+_, _*_, _≤_, _<_}
+use Prim.Native.Nat.{ℕ, zero, suc, _+_, _*_, _-_, _≤_, _<_}
 use borrow.Author.Tests.{lt-ltb}
-use lib.ListN.{length, getD, set, drop}
-use lib.Seq.{take-length, paste, paste-zero, paste-suc}
+use lib.ListN.{length, getD, getD-replicate, set, drop, replicate, length-replicate, List·getD-eq-default}
+use lib.Seq.{take-length, getD-drop, getD-append-add, paste, paste-zero, paste-suc}
 use mathlib.Core.List.{List, [], _∷_, _++_}
 use mathlib.Core.Path.{_≡_, refl, sym, _∙_, ap, ap₂}
+use native.Mathlib.Decide.{decLt}
 use native.Mathlib.Nat.{zero-add}
 use native.Mathlib.Omega.{arith}
 use Rattle.mend_spec.specs.Mend.{listed}
@@ -45,3 +46,28 @@ unfolding listed
 stored-all rs numbers l room small =
     stored-records rs numbers l (length rs) (omega arith) room small
     ∙ ap₂ (λ (t : List Record) (n : ℕ). t ++ drop n l) (take-length rs) (zero-add (length rs))
+
+numbers-length : (rs : List Record) → length (numbersOf rs) ≡ 3 * length rs
+unfolding numbersOf
+numbers-length [] = refl
+numbers-length (r ∷ rs) = omega (arith, numbers-length rs)
+
+-- a number past the records is the one that was there
+pub numbers-past : (rs : List Record) (l : List ℕ) (i : ℕ) → 3 * length rs ≤ i → getD (numbersOf rs ++ drop (3 * length rs) l) i 0 ≡ getD l i 0
+numbers-past rs l i h =
+    let j : ℕ = i - 3 * length rs in
+    let all : List ℕ = numbersOf rs ++ drop (3 * length rs) l in
+    let e : i ≡ length (numbersOf rs) + j = omega (arith, numbers-length rs) in
+    let f : 3 * length rs + j ≡ i = omega arith in
+    ap (λ (k : ℕ). getD all k 0) e
+    ∙ getD-append-add (numbersOf rs) (drop (3 * length rs) l) j 0
+    ∙ getD-drop (3 * length rs) l j 0
+    ∙ ap (λ (k : ℕ). getD l k 0) f
+
+-- a number of zeros is 0
+pub all-zero : (n i : ℕ) → getD (replicate {A = ℕ} n 0) i 0 ≡ 0
+all-zero n i =
+    elim (decLt i n) [
+      | yes h ↦ getD-replicate n i 0 0 h
+      | no h ↦ List·getD-eq-default (replicate {A = ℕ} n 0) 0 (omega (arith, length-replicate {A = ℕ} n 0))
+    ]

@@ -3,7 +3,7 @@
 // The claim is written once nothing can be refused any more.
 ghost use Prim.Native.Nat.{ℕ, _+_, _*_, _^_, _-_, _<_, _≤_};
 ghost use lib.Dec.{ltb};
-ghost use lib.ListN.{length};
+ghost use lib.ListN.{length, getD};
 ghost use mathlib.Core.Bool.{Bool, true, cond};
 ghost use mathlib.Core.List.{List};
 ghost use mathlib.Core.Option.{none};
@@ -272,7 +272,7 @@ fn mend_check(
 
 // A refusal: no record is to be written.
 fn refused(r: Refusal) -> Mending
-    ensures { λ z. ⌜ (answerOf (z .answer) ≡ unmended r) × (z .count ≡ 0) ⌝ }
+    ensures { λ z. ⌜ (answerOf (z .answer) ≡ unmended r) × (z .count ≡ 0) × ((i : ℕ) → 3 * z .count ≤ i → getD (z .list) i 0 ≡ 0) ⌝ }
 {
     Mending {
         list: [0u32; NUMBERS],
@@ -283,7 +283,7 @@ fn refused(r: Refusal) -> Mending
 
 // Refused 11: no spanning tree exists.
 fn no_tree() -> Mending
-    ensures { λ z. ⌜ (answerOf (z .answer) ≡ unmended (record { number = 11; place = 0 })) × (z .count ≡ 0) ⌝ }
+    ensures { λ z. ⌜ (answerOf (z .answer) ≡ unmended (record { number = 11; place = 0 })) × (z .count ≡ 0) × ((i : ℕ) → 3 * z .count ≤ i → getD (z .list) i 0 ≡ 0) ⌝ }
 {
     refused(Refusal {
         number: 11,
@@ -306,7 +306,7 @@ fn redraw(
     requires { ⌜ orElse (refusal (claimCauses (tableOf n m whole (component rows) (now left) (now right) (now weight) (now mark)))) (fewRecords m records) ≡ none ⌝ }
     ensures { λ r.
         let c = tableOf n m whole (component rows) (now (left .entry)) (now (right .entry)) (now (weight .entry)) (now (mark .entry)) in
-        ⌜ (answerOf (r .answer) ≡ mend c records) × (now (mark .exit) ≡ mendMarks c records) × ((l : List Record) → length l ≡ records → storedTo (r .count) (r .list) l ≡ mendList c l) × (r .count ≡ countOf (answerOf (r .answer))) ⌝ }
+        ⌜ (answerOf (r .answer) ≡ mend c records) × (now (mark .exit) ≡ mendMarks c records) × ((l : List Record) → length l ≡ records → storedTo (r .count) (r .list) l ≡ mendList c l) × (r .count ≡ countOf (answerOf (r .answer))) × ((i : ℕ) → 3 * r .count ≤ i → getD (r .list) i 0 ≡ 0) ⌝ }
 {
     let used = rows_among(m, rows);
     let marked = claim::claim_rows(mark, used);
@@ -349,7 +349,7 @@ pub fn mend(
 ) -> Mending
     ensures { λ r.
         let c = tableIn n table (now (left .entry)) (now (right .entry)) (now (weight .entry)) (now (mark .entry)) in
-        ⌜ (answerOf (r .answer) ≡ mend c records) × (now (mark .exit) ≡ mendMarks c records) × ((l : List Record) → length l ≡ records → storedTo (r .count) (r .list) l ≡ mendList c l) × (r .count ≡ countOf (answerOf (r .answer))) ⌝ }
+        ⌜ (answerOf (r .answer) ≡ mend c records) × (now (mark .exit) ≡ mendMarks c records) × ((l : List Record) → length l ≡ records → storedTo (r .count) (r .list) l ≡ mendList c l) × (r .count ≡ countOf (answerOf (r .answer))) × ((i : ℕ) → 3 * r .count ≤ i → getD (r .list) i 0 ≡ 0) ⌝ }
 {
     let m = table.m;
     let whole = table.whole;

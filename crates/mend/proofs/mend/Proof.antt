@@ -13,7 +13,8 @@ returns : tie.Need-returns
 unfolding refusalOf storedTo countOf
 returns c =
     let (answer, marks, list) = call-refused _ _ _ (sym (c .before .before .before .before .mend-check .ensures) ∙ ap refusalOf (c .before .before .refusal .given .1)) in
-    (c .refused .ensures .0 ∙ answer, marks, λ l e. rw (c .refused .ensures .1) (list l e), c .refused .ensures .1 ∙ sym (ap countOf (c .refused .ensures .0)))
+    let (untouched, none, zeros) = c .refused .ensures in
+    (untouched ∙ answer, marks, λ l e. rw none (list l e), none ∙ sym (ap countOf untouched), zeros)
 
 redraw-requires : tie.Need-redraw-requires
 unfolding refusalOf

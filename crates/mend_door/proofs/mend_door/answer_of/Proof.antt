@@ -23,7 +23,7 @@ returns-2 c =
     let called = told .before .before .before .before in
     let lent = called .before .before .before in
     let well = sym (lent .well-lent .ensures) ∙ not-false _ (called .before .before .if1 .left) in
-    let (answer, marks, list, count) = called .mend .ensures in
+    let (answer, marks, list, count, rest) = called .mend .ensures in
     let (returned, count′, list′, bytes) = told .tell .ensures in
     rw (well, returned, count′, list′) (refl, bytes ∙ ap (answerAfter _) (ap mendFields answer), marks, list)
 
