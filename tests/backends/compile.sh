@@ -64,8 +64,8 @@ for crate; do
     rm "$work/kept1.bc"
 done
 sed -i 's/^define i32 @main()/define internal i32 @main()/' "$work/program.ll"
-# A check either returns or traps, so that optimisation loses none; with it calls take a tenth of
-# the time.
+# Each check stands before what it checks, and returns or traps: optimisation does not lose the first
+# that fails. Without it the calls take thirty times as long.
 $clang -fPIC -O1 -Werror -x ir -c "$work/program.ll" -o "$work/program.o"
 
 mkdir -p "$out"
