@@ -29,10 +29,10 @@ pub enum Breaks {
 }
 
 // What the trees say of a row: whether there is a route around it, and then the rows of a tree without it; else the answer.
-struct Around {
-    answer: Breaks,
-    route: bool,
-    chosen: Slice,
+pub struct Around {
+    pub answer: Breaks,
+    pub route: bool,
+    pub chosen: Slice,
 }
 
 // The rows by which the walk over the rows of a tree comes from vertex u to vertex v. The walk fills a path matrix that is lent.
@@ -63,7 +63,14 @@ fn heaviest_price(weight: &[u8], x: Slice) -> u32
 
 // What the trees of a table of either kind say of a row: where a tree is built without the row, that there is a route, and the tree's rows; else the answer.
 // Where no tree is built without the row, the tree with the row says whether the table is connected.
-fn around_rows(n: u32, table: InUse, left: &[u8], right: &[u8], weight: &[u8], row: u32) -> Around
+pub fn around_rows(
+    n: u32,
+    table: InUse,
+    left: &[u8],
+    right: &[u8],
+    weight: &[u8],
+    row: u32,
+) -> Around
     ensures { λ r.
         let c = tableIn n table (now (left .entry)) (now (right .entry)) (now (weight .entry)) (now (left .entry)) in
         ⌜ Found c row (answerOf (r .answer)) (r .route) (component (r .chosen)) ⌝ }
@@ -107,7 +114,7 @@ fn around_rows(n: u32, table: InUse, left: &[u8], right: &[u8], weight: &[u8], r
 }
 
 // The answer: where there is a route, the heaviest row on the tree's path between the row's ends has the breaking price.
-fn told(n: u32, left: &[u8], right: &[u8], weight: &[u8], row: u32, around: Around) -> Breaks
+pub fn told(n: u32, left: &[u8], right: &[u8], weight: &[u8], row: u32, around: Around) -> Breaks
     ensures { λ r. ⌜ ((m : ℕ) (whole : Bool) (rows : ℕ → Bool) → Found (tableOf n m whole rows (now (left .entry)) (now (right .entry)) (now (weight .entry)) (now (left .entry))) row (answerOf (around .answer)) (around .route) (component (around .chosen)) → answerOf r ≡ breakingPrice (tableOf n m whole rows (now (left .entry)) (now (right .entry)) (now (weight .entry)) (now (left .entry))) row) ⌝ }
 {
     if !around.route {
@@ -118,14 +125,4 @@ fn told(n: u32, left: &[u8], right: &[u8], weight: &[u8], row: u32, around: Arou
     let mut own = [0u64; path::ALL_WORDS];
     let path = path_between(n, left, right, around.chosen, u, v, &mut own);
     Breaks::At(heaviest_price(weight, path))
-}
-
-// The breaking price over a table of either kind.
-pub fn breaking(n: u32, table: InUse, left: &[u8], right: &[u8], weight: &[u8], row: u32) -> Breaks
-    ensures { λ r.
-        let c = tableIn n table (now (left .entry)) (now (right .entry)) (now (weight .entry)) (now (left .entry)) in
-        ⌜ answerOf r ≡ breakingPrice c row ⌝ }
-{
-    let around = around_rows(n, table, left, right, weight, row);
-    told(n, left, right, weight, row, around)
 }

@@ -75,7 +75,9 @@ pub extern "C" fn star_breaking(
     if !well_lent(answer) {
         return 0;
     }
-    let b = breaking::breaking(n, InUse::plain(left.len()), left, right, weight, row);
+    let table = InUse::plain(left.len());
+    let around = breaking::around_rows(n, table, left, right, weight, row);
+    let b = breaking::told(n, left, right, weight, row, around);
     let x = of_breaks(b);
     write_answer(answer, x);
     1
@@ -103,7 +105,9 @@ pub extern "C" fn star_work_breaking(
     if !well_lent(answer) {
         return 0;
     }
-    let b = breaking::breaking(n, InUse::working(words), left, right, weight, row);
+    let used = InUse::working(words);
+    let around = breaking::around_rows(n, used, left, right, weight, row);
+    let b = breaking::told(n, left, right, weight, row, around);
     let x = of_breaks(b);
     write_answer(answer, x);
     1

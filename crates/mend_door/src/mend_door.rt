@@ -1,5 +1,5 @@
 // The mender's doors: the claim and the list are written where the claim is mended, and stay as they are otherwise.
-// All but the lent list is written by `answer_of`; the doors write the records there through the crate mend_list.
+// All but the lent list is written by `mend_answer` and `work_mend_answer`; the doors write the records there through the crate mend_list.
 use answer::of_refusal;
 use answer::well_lent;
 use answer::write_answer;
@@ -13,7 +13,6 @@ ghost use lib.ListN.{length};
 ghost use mathlib.Core.List.{List};
 ghost use mathlib.Core.Path.{_≡_};
 ghost use Rattle.answer.specs.Records.{fieldsOf};
-ghost use Rattle.in_use.specs.Tables.{tableIn};
 ghost use Rattle.mend_spec.specs.Bytes.{MendCall};
 ghost use Rattle.mend_spec.specs.Door.{mendFields, mendDoor, mendDoorMarks, mendDoorList};
 ghost use Rattle.mend.specs.Answers.{answerOf};
@@ -72,29 +71,7 @@ fn tell(answer: &mut [u8], m: Mending) -> Told
     }
 }
 
-// Mending of a table of either kind through the door, but for the lent list, which has so many records.
-fn answer_of(
-    n: u32,
-    table: InUse,
-    left: &[u8],
-    right: &[u8],
-    weight: &[u8],
-    mark: &mut [u8],
-    records: usize,
-    answer: &mut [u8],
-) -> Told
-    ensures { λ r.
-        let c = tableIn n table (now (left .entry)) (now (right .entry)) (now (weight .entry)) (now (mark .entry)) in
-        ⌜ (r .returned ≡ doorReturns (now (answer .entry))) × (now (answer .exit) ≡ mendDoor c records (now (answer .entry))) × (now (mark .exit) ≡ mendDoorMarks c records (now (answer .entry))) × ((l : List Record) → length l ≡ records → storedTo (r .count) (r .list) l ≡ mendDoorList c l (now (answer .entry))) ⌝ }
-{
-    if !well_lent(answer) {
-        return not_lent();
-    }
-    let m = mend::mend(n, table, left, right, weight, mark, records);
-    tell(answer, m)
-}
-
-// Of a plain table.
+// Mending of a plain table through the door, but for the lent list, which has so many records.
 fn mend_answer(
     n: u32,
     left: &[u8],
@@ -108,11 +85,15 @@ fn mend_answer(
         let c = callOf n (now (left .entry)) (now (right .entry)) (now (weight .entry)) (now (mark .entry)) in
         ⌜ (r .returned ≡ doorReturns (now (answer .entry))) × (now (answer .exit) ≡ mendDoor c records (now (answer .entry))) × (now (mark .exit) ≡ mendDoorMarks c records (now (answer .entry))) × ((l : List Record) → length l ≡ records → storedTo (r .count) (r .list) l ≡ mendDoorList c l (now (answer .entry))) ⌝ }
 {
+    if !well_lent(answer) {
+        return not_lent();
+    }
     let table = InUse::plain(left.len());
-    answer_of(n, table, left, right, weight, mark, records, answer)
+    let m = mend::mend(n, table, left, right, weight, mark, records);
+    tell(answer, m)
 }
 
-// Of a working table.
+// The same of a working table.
 fn work_mend_answer(
     n: u32,
     words: &[u64],
@@ -127,8 +108,12 @@ fn work_mend_answer(
         let c = workOf n (now (words .entry)) (now (left .entry)) (now (right .entry)) (now (weight .entry)) (now (mark .entry)) in
         ⌜ (r .returned ≡ doorReturns (now (answer .entry))) × (now (answer .exit) ≡ mendDoor c records (now (answer .entry))) × (now (mark .exit) ≡ mendDoorMarks c records (now (answer .entry))) × ((l : List Record) → length l ≡ records → storedTo (r .count) (r .list) l ≡ mendDoorList c l (now (answer .entry))) ⌝ }
 {
+    if !well_lent(answer) {
+        return not_lent();
+    }
     let used = InUse::working(words);
-    answer_of(n, used, left, right, weight, mark, records, answer)
+    let m = mend::mend(n, used, left, right, weight, mark, records);
+    tell(answer, m)
 }
 
 // Mending through the door. `means` says what the bytes, the claim and the list are worth.

@@ -13,13 +13,14 @@ returns c = breaking-call (breaking-shut _ _ _ (sym (c .before .well-lent .ensur
 returns-2 : tie.Need-returns-2
 returns-2 c =
     let written = c .before .before in
-    let told = written .before .before in
-    let priced = told .before in
-    let table = priced .before .working .ensures in
-    let lent = priced .before .before in
-    breaking-call
-    (breaking-open _ _ _ (sym (lent .before .well-lent .ensures) ∙ not-false _ (lent .if1 .left)) (written .write-answer .ensures) (told .of-breaks .ensures)
-    (rw (table .0 .0, table .0 .1, table .1) at (priced .breaking .ensures)))
+    let fields = written .before .before in
+    let priced = fields .before in
+    let trees = priced .before in
+    let lent = trees .before .before in
+    let well = sym (lent .before .well-lent .ensures) ∙ not-false _ (lent .if1 .left) in
+    let ((rows, whole), used) = trees .before .working .ensures in
+    let price = rw (rows, whole, used) at (priced .told .ensures _ _ _ (trees .around-rows .ensures)) in
+    breaking-call (breaking-open _ _ _ well (written .write-answer .ensures) (fields .of-breaks .ensures) price)
 
 pub star-work-breaking-spec : {M : Type 1} → statement M
 star-work-breaking-spec =
@@ -28,6 +29,7 @@ star-work-breaking-spec =
     (λ c κs. search needs)
     (λ c. search needs)
     returns
+    (λ c κs. search needs)
     (λ c κs. search needs)
     (λ c κs. search needs)
     (λ c κs. search needs)
