@@ -171,7 +171,7 @@ holds header-names-languages grep -q 'This header is C99, and C++98' "$to/includ
 # Each door over a plain table, and each that changes a working one, lists its refusals above its declaration.
 awk '/^\/\*/ { text = "" }
      { text = text " " $0 }
-     /^uint32_t star_/ && !/^uint32_t star_work_/ && text !~ /refusal is[ *]*[0-9]/ { print; missing = 1 }
+     /^uint32_t star_/ && !/^uint32_t star_work_/ && text !~ /refusal[ *]+is[ *]*[0-9]/ { print; missing = 1 }
      /^$/ { text = "" }
      END { exit missing }' "$to/include/star.h" >"$work/unlisted"
 holds refusals-listed [ ! -s "$work/unlisted" ]
