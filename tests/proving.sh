@@ -118,7 +118,8 @@ last() { tail -n 1 "$work/said"; }
 gate
 holds 'gate: passes' [ $? = 0 ]
 holds 'gate: counts all' [ "$(last)" = "$((crates + 1 + 11 + 100 + 100)) passed, 0 failed" ]
-far="^gate: 1 of $crates crates, 10 of $edits wrong programs, some [0-9]* minutes left$"
+left='\(some [0-9]* minutes*\|less than a minute\) left'
+far="^gate: 1 of $crates crates, 10 of $edits wrong programs, $left$"
 holds 'gate: how far' says "$far"
 parts=$(grep -v version "$at/asked" | paste -sd ' ')
 holds 'gate: its parts' [ "$parts" = 'ci recorded outside' ]
