@@ -76,9 +76,9 @@ extern "C" {
 
 /* The version of this header. star_version gives that of the library that is linked. */
 #define STAR_VERSION_MAJOR 0
-#define STAR_VERSION_MINOR 10
+#define STAR_VERSION_MINOR 11
 #define STAR_VERSION_PATCH 0
-#define STAR_VERSION "0.10.0"
+#define STAR_VERSION "0.11.0"
 
 const char *star_version(void);
 
