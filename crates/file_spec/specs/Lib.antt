@@ -1,0 +1,10 @@
+pub mod Pieces
+pub mod Names
+pub mod Line
+pub mod Reader
+pub mod Table
+pub mod Places
+pub mod Writer
+pub mod Trials
+pub mod TableTrials
+pub mod WriterTrials
