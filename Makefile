@@ -9,6 +9,7 @@
 # make uninstall PREFIX=DIR   removes these files
 # make console   the C anew over the archives that are there
 # make test      the whole gate: proofs, must-fail edits, programs, the record, tests from outside
+# make edits     the wrong programs alone, after make prove
 # make outside   the tests from outside alone
 # make backends  random calls of every door, compiled in four ways, as WebAssembly among them
 # make load SECONDS=n   eight threads, random calls of all doors, for n seconds
@@ -98,6 +99,10 @@ sums:
 recorded:
 	$(PYTHON) tools/prove.py --archives $(DOORS) programs
 	$(PYTHON) tools/record.py check target/staticlib $(DOORS) programs
+
+# The wrong programs and wrong definitions, each of which the prover has to refuse.
+edits:
+	$(PYTHON) tools/edits.py
 
 console: $(BUILD)/star
 
@@ -214,4 +219,4 @@ clean:
 -include library.mk page.mk backends.mk fuzz.mk
 install-library: checked
 
-.PHONY: help all tell checked prove sums recorded console programs manual documents run test outside bench counts install uninstall clean
+.PHONY: help all tell checked prove sums recorded edits console programs manual documents run test outside bench counts install uninstall clean

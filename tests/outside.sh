@@ -137,6 +137,8 @@ bash tests/record.sh | tee "$work/record"
 add "$work/record"
 bash tests/proving.sh | tee "$work/proving"
 add "$work/proving"
+bash tests/edits.sh | tee "$work/edits"
+add "$work/edits"
 bash tests/packaged.sh | tee "$work/packaged"
 add "$work/packaged"
 

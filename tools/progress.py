@@ -1,14 +1,13 @@
 #!/usr/bin/env python3
 """How far a run of the prover is: '37 of 80 crates, some 4 minutes left'.
 
-usage: rt ci | progress.py gate          passes the lines on, and says after each crate and each
-                                         tenth edit how far the run is
+usage: rt check | progress.py gate       passes the lines on, and says after each crate how far the
+                                         run is; its last line is 'N passed, M failed'
        make outside | progress.py outside    the same after each test that counts
        progress.py seconds LOG           the seconds of each crate in a log of rt, for seconds.txt
 
 seconds.txt has the seconds of one run, of each crate and of the tests from outside.
 """
-import glob
 import os
 import re
 import sys
@@ -20,7 +19,8 @@ SECONDS = os.path.join(os.path.dirname(os.path.abspath(__file__)), 'seconds.txt'
 UNKNOWN = 8  # seconds of a crate that seconds.txt does not have
 PROVED = re.compile(r'rt: (\w+) proved \((\d+) s\)$')
 UNCHANGED = re.compile(r'rt: (\w+) proved \(unchanged')
-EDIT = re.compile(r'rt: must-fail (\w+)/')
+RAN = re.compile(r'rt: \w+ ran ')
+FAILED = re.compile(r'rt: FAILED:(.*)$')
 COUNT = re.compile(r'\d+ passed, \d+ failed$')
 
 
@@ -62,27 +62,27 @@ def processors():
     return int(os.environ.get('RT_JOBS') or min(4, len(os.sched_getaffinity(0))))
 
 
+def edit_seconds(crate):
+    """What an edit of a crate is held to take: a part of its check, and the beginning of a run."""
+    return 2 + read_seconds().get(crate, UNKNOWN) / 6
+
+
 def gate():
-    """Follows rt ci: the crates, then the edits that must be refused."""
+    """Follows rt check over an empty target: the crates, then the programs. It ends in a count."""
     seconds, names = read_seconds(), list(crates.listed())
-    parts = {name: seconds.get(name, UNKNOWN) for name in names}
-    edits = [path.split('/')[1] for path in glob.glob('crates/*/must-fail/*.edit')]
-    for number, name in enumerate(edits):
-        parts['edit', number] = seconds.get(name, UNKNOWN)
-    progress, proved, tried = Progress(parts, processors()), 0, 0
+    progress = Progress({name: seconds.get(name, UNKNOWN) for name in names}, processors())
+    proved = ran = failed = 0
     sys.stdin.reconfigure(errors='replace')
     for line in sys.stdin:
         print(line, end='', flush=True)
-        crate, edit = PROVED.match(line), EDIT.match(line)
+        crate, told = PROVED.match(line), FAILED.match(line)
+        ran += bool(RAN.match(line))
+        failed += len(told[1].split()) if told else 0
         if crate:
             proved += 1
             progress.end(crate[1])
-        elif edit:
-            tried += 1
-            progress.end(('edit', tried - 1))
-        if crate or edit and tried % 10 == 0:
-            print(f'gate: {proved} of {len(names)} crates, {tried} of {len(edits)} wrong programs, '
-                  f'{progress.sentence()}', flush=True)
+            print(f'gate: {proved} of {len(names)} crates, {progress.sentence()}', flush=True)
+    print(f'{proved + ran} passed, {failed} failed', flush=True)
 
 
 def outside():

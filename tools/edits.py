@@ -1,0 +1,191 @@
+#!/usr/bin/env python3
+"""Tries the wrong programs and wrong definitions, crates/*/must-fail/*.edit: each must be refused.
+
+usage: edits.py [CRATE..]    those of these crates, or all, after the crates have been proved
+
+A copy of each crate is checked once as it stands; then each edit is made in that copy and checked
+over the folder that this check left (rattle check --incremental), so that the prover goes over what
+the edit reaches and no more. The copy as it stands has to be proved before the first edit and, over
+the same folder, after the last one. `rt must-fail CRATE` tries the same edits from nothing.
+It ends in one line 'N passed, M failed'; the logs are in target/edits.
+"""
+import concurrent.futures
+import glob
+import os
+import re
+import shutil
+import subprocess
+import sys
+import time
+
+import crates
+import progress as told
+
+KIT = subprocess.run(['sh', 'tools/kit.sh'], stdout=subprocess.PIPE, text=True,
+                     check=True).stdout.strip()
+OWN = os.path.join(KIT, 'on', os.uname().machine)
+RLIBS = [os.path.abspath('target/rlib'), os.path.join(OWN, 'rlib')]
+FOLDER = os.path.abspath('target/edits')
+ERROR = re.compile(r'^(\S+): error', re.M)
+NOTE = re.compile(r'^note: (\S+:\d+:\d+):', re.M)
+
+
+class BadEdit(Exception):
+    """An edit that cannot be made."""
+
+
+def lay(crate, copy):
+    """The crate's sources, in a copy of their own."""
+    shutil.rmtree(copy, ignore_errors=True)
+    for folder in crates.FOLDERS:
+        if os.path.isdir(os.path.join('crates', crate, folder)):
+            shutil.copytree(os.path.join('crates', crate, folder), os.path.join(copy, folder))
+
+
+def pairs(lines):
+    """The file, the old and the new text of each exchange."""
+    name = old = None
+    for line in lines:
+        if line.startswith('file: '):
+            name = line[6:]
+        elif line.startswith('old: '):
+            old = line[5:]
+        elif line.startswith('new:'):
+            yield name, old, line[4:].removeprefix(' ')
+            old = None
+
+
+def exchange(copy, name, old, new):
+    top = (name or '').split('/')[0]
+    path = os.path.join(copy, name or '')
+    if top not in crates.FOLDERS or '..' in name.split('/') or not os.path.isfile(path):
+        raise BadEdit('it names no file of the crate')
+    with open(path, encoding='utf-8') as file:
+        text = file.read()
+    if not old or text.count(old) != 1:
+        raise BadEdit(f'its old text does not stand once in {name}')
+    with open(path, 'w', encoding='utf-8') as file:
+        file.write(text.replace(old, new))
+
+
+def make(edit, copy):
+    with open(edit, encoding='utf-8') as file:
+        made = [exchange(copy, *pair) for pair in pairs(file.read().splitlines())]
+    if not made:
+        raise BadEdit('it exchanges nothing')
+
+
+def words_of(crate, named):
+    """What the prover is told of a crate, as rt tells it."""
+    out = []
+    for name in ['std'] + named:
+        own = os.path.isdir(os.path.join('crates', name))
+        out += ['--extern', f'{name}={RLIBS[0 if own else 1]}/{name}.rlib']
+    for folder in RLIBS:
+        out += ['-L', f'dependency={folder}']
+    return out + ['--antt-project', os.path.join(KIT, 'logic/antt-project.json'),
+                  '--logic-built', os.path.join(OWN, 'logic-built')]
+
+
+class Crate:
+    """One crate, its copy, and the folder of its check."""
+
+    def __init__(self, name, named, edits):
+        self.name, self.edits, self.words = name, edits, words_of(name, named)
+        self.at = os.path.join(FOLDER, name)
+        self.copy, self.kept = os.path.join(self.at, 'copy'), os.path.join(self.at, 'kept')
+
+    def check(self, label, kept):
+        """The status of a check of the copy, and what it said; the log is kept."""
+        root = next(path for path in ('src/lib.rt', 'src/main.rt')
+                    if os.path.isfile(os.path.join(self.copy, path)))
+        command = [os.path.join(OWN, 'bin/rattle'), 'check', '--crate-name', self.name,
+                   os.path.join(self.copy, root)] + self.words + ['--incremental', kept]
+        done = subprocess.run(command, stdout=subprocess.PIPE, stderr=subprocess.STDOUT,
+                              text=True, errors='replace', check=False)
+        with open(os.path.join(self.at, label + '.log'), 'w', encoding='utf-8') as file:
+            file.write(done.stdout)
+        return done.returncode, done.stdout
+
+    def stands(self, label):
+        """Whether the crate as it stands is proved, over the folder that is kept."""
+        lay(self.name, self.copy)
+        return self.check(label, self.kept)[0] == 0
+
+    def outcome(self, edit, label):
+        """What became of one edit: whether it was refused, and in words."""
+        lay(self.name, self.copy)
+        try:
+            make(edit, self.copy)
+        except BadEdit as fault:
+            return False, f'BAD EDIT: {fault}'
+        used = os.path.join(self.at, 'used')
+        shutil.rmtree(used, ignore_errors=True)
+        shutil.copytree(self.kept, used)
+        status, said = self.check(label, used)
+        if status == 1 and re.search('^logic=not-proved', said, re.M):
+            short = said.replace(self.copy + '/', '')
+            first = ERROR.search(short) or NOTE.search(short)
+            return True, f"refused, as it must be{' (first at ' + first[1] + ')' if first else ''}"
+        if status == 0:
+            return False, 'NOT REFUSED: the crate is still proved with this edit'
+        return False, f'BAD EDIT: it did not reach the prover (status {status})'
+
+    def run(self, say):
+        """Tries every edit; the number refused and the number of failures."""
+        shutil.rmtree(self.at, ignore_errors=True)
+        os.makedirs(self.kept)
+        if not self.stands('before'):
+            say(f'{self.name} NOT PROVED as it stands')
+            return 0, 1 + len(self.edits)
+        refused = 0
+        for edit in self.edits:
+            began, label = time.monotonic(), os.path.basename(edit)[:-5]
+            right, what = self.outcome(edit, label)
+            refused += right
+            say(f'must-fail {self.name}/{label}: {what}, {time.monotonic() - began:.0f} s', edit)
+        failed = len(self.edits) - refused
+        if not self.stands('after'):
+            say(f'{self.name} NOT PROVED after its edits, as it stands')
+            failed += 1
+        for folder in ('copy', 'kept', 'used'):
+            shutil.rmtree(os.path.join(self.at, folder), ignore_errors=True)
+        return refused, failed
+
+
+def chosen(names):
+    """The crates with edits, those first that take longest."""
+    seconds = told.read_seconds()
+    out = []
+    for name, named in crates.listed().items():
+        edits = sorted(glob.glob(f'crates/{name}/must-fail/*.edit'))
+        if edits and (not names or name in names):
+            out.append(Crate(name, named, edits))
+    return sorted(out, key=lambda crate: -seconds.get(crate.name, told.UNKNOWN)
+                  * (4 + len(crate.edits)))
+
+
+def main(names):
+    run = chosen(names)
+    parts = {edit: told.edit_seconds(crate.name) for crate in run for edit in crate.edits}
+    progress, tried = told.Progress(parts, told.processors()), 0
+
+    def say(line, edit=None):
+        nonlocal tried
+        print(f'edits: {line}', flush=True)
+        if edit:
+            tried += 1
+            progress.end(edit)
+            if tried % 10 == 0:
+                print(f'gate: {tried} of {len(parts)} wrong programs, {progress.sentence()}',
+                      flush=True)
+
+    with concurrent.futures.ThreadPoolExecutor(told.processors()) as pool:
+        results = list(pool.map(lambda crate: crate.run(say), run))
+    refused, failed = (sum(column) for column in zip((0, 0), *results))
+    print(f'{refused} passed, {failed} failed')
+    return failed != 0
+
+
+if __name__ == '__main__':
+    sys.exit(main(sys.argv[1:]))
