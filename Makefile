@@ -184,9 +184,12 @@ format-check:
 	bash tests/format.sh
 
 # What stands outside the proofs: the doors against the plain implementation, the import against the plain reader (python3), both under a
-# memory checker, and the console.
-outside: $(BUILD)/star $(DOOR_TESTS:%=$(BUILD)/%_test) $(DOOR_TESTS:%=$(BUILD)/%_test_faulty) $(BUILD)/import_test $(READSTP) $(DIGLIST)
+# memory checker, the console, the page, and what C and Python programmers get. What they need is built before, since parts of them are made at once.
+outside:
+	@$(MAKE) --no-print-directory -j $(JOBS) outside-built
 	bash tests/outside.sh $(BUILD) $(READSTP) $(DIGLIST)
+
+outside-built: $(BUILD)/star $(DOOR_TESTS:%=$(BUILD)/%_test) $(DOOR_TESTS:%=$(BUILD)/%_test_faulty) $(BUILD)/import_test $(READSTP) $(DIGLIST)
 
 bench: $(BUILD)/bench
 	$(BUILD)/bench $(BUILD)/bench.svg
@@ -219,4 +222,4 @@ clean:
 -include library.mk page.mk backends.mk fuzz.mk
 install-library: checked
 
-.PHONY: help all tell checked prove sums recorded edits console programs manual documents run test outside bench counts install uninstall clean
+.PHONY: help all tell checked prove sums recorded edits console programs manual documents run test outside outside-built bench counts install uninstall clean

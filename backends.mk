@@ -31,6 +31,8 @@ load: $(BACKENDS)/load $(SHARED)
 backends-built: $(BACKENDS)/backends $(LOADED) $(SHARED)
 backends-built: $(BACKENDS)/libstar-O0.so $(BACKENDS)/libstar-checked.so
 
+outside-built: backends-built
+
 backends: backends-built $(PAGE_MODULE)
 	bash tests/backends/run.sh $(BUILD) $(BACKENDS) $(CALLS)
 

@@ -26,6 +26,8 @@ fuzz: $(FUZZ)/commands $(FUZZ)/star.html
 	$(FUZZ)/reader $(LIBFUZZER) $(FOUND)/reader $(CORPORA)/reader console/examples tests/console
 	$(FUZZ)/commands $(LIBFUZZER) -close_fd_mask=2 $(FOUND)/commands $(CORPORA)/commands
 
+outside-built: $(FUZZ)/commands-replay $(FUZZ)/star.html
+
 fuzz-replay: $(FUZZ)/commands-replay $(FUZZ)/star.html
 	bash tests/fuzz/run.sh $(FUZZ)
 

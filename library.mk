@@ -49,7 +49,7 @@ tasks: $(SHARED)
 	$(PYTHON) bench/tasks/compare.py $(BUILD)
 
 all: $(SHARED) $(PAGES)
-outside: $(BUILD)/table_test $(BUILD)/table_test_faulty $(SHARED) $(PAGES)
+outside-built: $(BUILD)/table_test $(BUILD)/table_test_faulty $(SHARED) $(PAGES)
 
 # What is installed beside the header, the static library, the console and star.pc.
 PACKAGE := $(DESTDIR)$(PREFIX)/lib/cmake/star

@@ -16,6 +16,7 @@ $(PAGE): $(PAGE_MODULE) $(PAGE_SOURCES)
 	node page/build.mjs $(PAGE_MODULE) $@
 
 page: $(PAGE)
+outside-built: $(PAGE_MODULE) $(if $(shell command -v node),$(PAGE))
 
 # The console finds it in this folder; one that is older than what is installed does not stay.
 PAGE_FOLDER := $(DESTDIR)$(PREFIX)/share/star

@@ -1,5 +1,6 @@
 // The page in a real browser, held to the console on the same files.
-// usage: node page.mjs CHROMIUM STAR STAR.html [GROUP..]   Ends in one line 'N passed, M failed'.
+// usage: node page.mjs CHROMIUM STAR STAR.html [GROUP.. | -GROUP..]   these groups, or all but these.
+// Ends in one line 'N passed, M failed'.
 // CALLS in the environment names the calls of backends.c for the group doors, and TABLES the table
 // of the group labels, where not all are wanted. The groups of paper.mjs need poppler-utils.
 import { spawnSync } from 'node:child_process';
@@ -480,7 +481,9 @@ async function run() {
   await b.size(1280, 800);
   await b.send('Browser.setDownloadBehavior', { behavior: 'allow', downloadPath: folder });
   await b.go(path.resolve(html));
-  for (const name of asked.length > 0 ? asked : Object.keys(GROUPS)) await GROUPS[name]();
+  const named = asked.filter((name) => !name.startsWith('-'));
+  const rest = Object.keys(GROUPS).filter((name) => !asked.includes(`-${name}`));
+  for (const name of named.length > 0 ? named : rest) await GROUPS[name]();
   check(`no request, no word on the console (${b.log.slice(0, 3)})`, b.log.length === 0);
   await b.close();
   fs.rmSync(folder, { recursive: true, force: true });

@@ -1,10 +1,11 @@
 #!/usr/bin/env bash
 # Tests of the planner's page: its sources, its files against the console's, and the page in a
 # browser, where these programs are installed. The module outside it: tests/backends/run.sh.
-# usage: run.sh BUILD   Ends in one line 'N passed, M failed'.
+# usage: run.sh BUILD [clicks | -clicks]   all, the seconds of a click alone, or all but these.
+# Ends in one line 'N passed, M failed'.
 set -u
 cd "$(dirname "$0")/../.."
-build=$1 passed=0 failed=0 work=$(mktemp -d)
+build=$1 clicks=${2:-} passed=0 failed=0 work=$(mktemp -d)
 trap 'rm -rf "$work"' EXIT
 export NODE_PATH=${NODE_PATH:-/usr/share/nodejs}
 
@@ -87,6 +88,13 @@ misread() { # FILE EXPRESSION
 }
 
 want node nodejs || { echo "0 passed, 0 failed"; exit 0; }
+if [ "$clicks" = clicks ]; then
+    clean make -s page BUILD="$build"
+    want chromium chromium && part node tests/page/page.mjs chromium "$build/star" "$build/star.html" clicks
+    echo "$passed passed, $failed failed"
+    [ "$failed" = 0 ]
+    exit
+fi
 clean make -s page BUILD="$build"
 clean installed
 if want tsc node-typescript; then clean tsc -p page/tsconfig.json; fi
@@ -115,7 +123,8 @@ if want chromium chromium; then
     part target/backends/backends 400 1 "$work/calls" "$build/libstar.so"
     paper=0
     want pdftotext poppler-utils && paper=1
-    CALLS=$work/calls part node tests/page/page.mjs chromium "$build/star" "$build/star.html"
+    CALLS=$work/calls part node tests/page/page.mjs chromium "$build/star" "$build/star.html" \
+        ${clicks:+"$clicks"}
     control "a stale verdict" main.js 's/^      verdictShow(app);$/      if (told === "open") &/' marks
     control "the sum in place of the dearest" why.js 's/p.price\[detour.dearest\]/detour.sum/' card
     control "out and in exchanged" verdict.js \
