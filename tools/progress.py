@@ -19,7 +19,7 @@ SECONDS = os.path.join(os.path.dirname(os.path.abspath(__file__)), 'seconds.txt'
 UNKNOWN = 8  # seconds of a crate that seconds.txt does not have
 PROVED = re.compile(r'rt: (\w+) proved \((\d+) s\)$')
 UNCHANGED = re.compile(r'rt: (\w+) proved \(unchanged')
-RAN = re.compile(r'rt: \w+ ran ')
+RAN = re.compile(r'rt: \w+ ran[ ,]')
 FAILED = re.compile(r'rt: FAILED:(.*)$')
 COUNT = re.compile(r'\d+ passed, \d+ failed$')
 
