@@ -44,11 +44,18 @@ export class Taken {
   }
 }
 
+/** How much wider a text is than figures are, in figures: letters that are as wide as high.
+ * @param {string} text */
+function labelWide(text) {
+  const letters = text.match(/[\u2e80-\uffff]/g);
+  return letters ? 0.8 * letters.length : 0;
+}
+
 /** The box of a text around a point.
  * @param {string} text @param {number} size
  * @param {{x: number, y: number}} at @returns {Box} */
 export function labelBox(text, size, at) {
-  const [wide, high] = [text.length * size * 0.6 + 4, size + 3];
+  const [wide, high] = [(text.length + labelWide(text)) * size * 0.6 + 4, size + 3];
   return { x0: at.x - wide / 2, x1: at.x + wide / 2, y0: at.y - high / 2, y1: at.y + high / 2 };
 }
 
@@ -59,8 +66,10 @@ export function labelsPlace(taken, wanted, sheet) {
   /** @type {Label[]} */
   const shown = [];
   for (const { text, look, size, at } of wanted) {
+    const own = labelBox(text, size, { x: 0, y: 0 });
     for (const point of at) {
-      const box = labelBox(text, size, point);
+      const [x0, x1] = [own.x0 + point.x, own.x1 + point.x];
+      const box = { x0, x1, y0: own.y0 + point.y, y1: own.y1 + point.y };
       if (box.x0 < 0 || box.y0 < 0 || box.x1 > sheet.w || box.y1 > sheet.h) continue;
       if (!taken.free(box)) continue;
       taken.put(box);

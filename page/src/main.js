@@ -9,6 +9,7 @@ import { fileBytes } from './file.js';
 import { Lesson, lessonListen, lessonShow } from './lesson.js';
 import { List } from './list.js';
 import { mendSetOff, mendShow } from './mend.js';
+import { namesOf } from './names.js';
 import { Picture } from './picture.js';
 import { plansDistricts, plansOutlets, plansWhich } from './plans.js';
 import { Pointer } from './pointer.js';
@@ -279,7 +280,7 @@ class Page {
     if (told === 'open') {
       this.found = 0;
       if (drawn) {
-        this.picture.open(app.shown, app.coordinates);
+        this.picture.open(app.shown, app.coordinates, namesOf(app.history.now.file));
         this.list.open();
       }
     }

@@ -2,12 +2,13 @@
 
 /** @typedef {import('./file.js').File} File */
 
+const NAMES_FEW = 3;
 /** @type {WeakMap<File, Map<number, string>>} */
 const NAMES = new WeakMap();
 
 /** The names by the junctions' numbers.
  * @param {File} file */
-function namesOf(file) {
+export function namesOf(file) {
   const known = NAMES.get(file);
   if (known) return known;
   /** @type {Map<number, string>} */
@@ -29,4 +30,20 @@ export function namesEnds(file, p, i) {
   const [left, right] = [p.left[i], p.right[i]].map((v) => names.get(v));
   if (left === undefined && right === undefined) return '';
   return `${left || p.left[i]} \u2013 ${right || p.right[i]}`;
+}
+
+/** The rows that have names, as 'trench 3 is Mill \u2013 Quay'; nothing where none has.
+ * @param {File} file @param {import('./plan.js').Plan} p @param {number[]} rows */
+export function namesRows(file, p, rows) {
+  const named = rows.map((i) => [i, namesEnds(file, p, i)]).filter(([, name]) => name !== '');
+  const words = named.map(([i, name]) => `trench ${Number(i) + 1} is ${name}`).join(', ');
+  return words === '' ? '' : `${words[0].toUpperCase()}${words.slice(1)}.`;
+}
+
+/** The names of a few junctions in brackets; nothing where none has one, or where they are many.
+ * @param {File} file @param {number[]} junctions */
+export function namesFew(file, junctions) {
+  const names = namesOf(file);
+  const words = junctions.map((v) => names.get(v)).filter((name) => name !== undefined);
+  return words.length === 0 || junctions.length > NAMES_FEW ? '' : ` (${words.join(', ')})`;
 }

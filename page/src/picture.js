@@ -23,6 +23,8 @@ const TAG_ASIDE = [[0, -18], [0, 18], [-34, 0], [34, 0], [0, -34], [0, 34], [-50
 const PIECES = 8;
 const OWN_FROM = 40; // pixels of a usual trench from which prices of the plan are shown
 const LEFT_FROM = 62; // and those of trenches that are left out
+const NAME_SIZE = 11;
+const NAME_MOST = 24; // letters of a name that are shown
 const BUTTONS = { w: 56, h: 140 }; // the corner of the zoom buttons
 
 export class Picture {
@@ -39,6 +41,8 @@ export class Picture {
     this.samples = new Float32Array(0);
     this.setOff = setOffNone();
     this.asked = false;
+    /** @type {Map<number, string>} */
+    this.names = new Map();
     this.radius = 5;
     this.usual = 1;
     this.near = 1;
@@ -72,9 +76,11 @@ export class Picture {
     else this.fit();
   }
 
-  /** @param {Plan} p @param {number[][] | null} given coordinates of the junctions, or null */
-  open(p, given) {
+  /** @param {Plan} p @param {number[][] | null} given coordinates of the junctions, or null
+   * @param {Map<number, string>} names of junctions */
+  open(p, given, names) {
     this.measure();
+    this.names = names;
     this.plan = p;
     this.at = layoutOf(this.core, p, given, this.view.w >= this.view.h);
     this.measureTable(p);
@@ -220,10 +226,11 @@ export class Picture {
 
   drawLabels() {
     const taken = new Taken();
-    const { numbers, apart } = this.numbers(taken);
+    const { numbers, apart, named } = this.numbers(taken);
     taken.put({ x0: this.view.w - BUTTONS.w, x1: this.view.w, y0: 0, y1: BUTTONS.h });
     const { tags, prices } = this.wanted();
-    const labels = [...numbers, ...labelsPlace(taken, [...tags, ...apart, ...prices], this.view)];
+    const wanted = [...tags, ...apart, ...prices, ...named];
+    const labels = [...numbers, ...labelsPlace(taken, wanted, this.view)];
     while (this.top.childNodes.length > labels.length) this.top.lastChild.remove();
     while (this.top.childNodes.length < labels.length) this.top.append(svg('text'));
     labels.forEach((label, k) => {
@@ -237,12 +244,15 @@ export class Picture {
   }
 
   /** The numbers of the junctions; where discs are too small for them, of those that are set off.
+   * The names of those that have a number shown.
    * @param {Taken} taken */
   numbers(taken) {
     const { radius, view, setOff } = this;
     const numbers = [];
     /** @type {Wanted[]} */
     const apart = [];
+    /** @type {Wanted[]} */
+    const named = [];
     for (let v = 1; v <= this.discs.length; v++) {
       const { x, y } = view.pixels({ x: this.at.x[v - 1], y: this.at.y[v - 1] });
       if (x < -20 || y < -20 || x > view.w + 20 || y > view.h + 20) continue;
@@ -250,12 +260,27 @@ export class Picture {
       const text = String(v);
       const look = `number ${setOff.spots.get(v) || ''}`;
       const size = Math.min(13, radius * (v > 99 ? 0.95 : 1.1));
-      if (radius >= 7) numbers.push({ x, y, text, look, size });
-      else if (setOff.spots.has(v)) {
+      if (radius >= 7) {
+        numbers.push({ x, y, text, look, size });
+        if (this.names.has(v)) named.push(this.named(v, { x, y }));
+      } else if (setOff.spots.has(v)) {
         apart.push({ text, look: 'number apart', size: 11, at: [{ x, y: y - radius - 8 }] });
       }
     }
-    return { numbers, apart };
+    return { numbers, apart, named };
+  }
+
+  /** The name of a junction, below it, above it or beside it.
+   * @param {number} v @param {{x: number, y: number}} at @returns {Wanted} */
+  named(v, { x, y }) {
+    const letters = [...(/** @type {string} */ (this.names.get(v)))];
+    const cut = letters.length > NAME_MOST;
+    const text = cut ? `${letters.slice(0, NAME_MOST - 1).join('')}\u2026` : letters.join('');
+    const { x1, y1 } = labelBox(text, NAME_SIZE, { x: 0, y: 0 });
+    const [down, aside] = [this.radius + y1 + 1, this.radius + x1 + 1];
+    const places = [[0, down], [0, -down], [aside, 0], [-aside, 0]];
+    const at = places.map(([dx, dy]) => ({ x: x + dx, y: y + dy }));
+    return { text, look: 'name', size: NAME_SIZE, at };
   }
 
   /** The prices to be shown: what is set off, first the row that is chosen; then the plan, then

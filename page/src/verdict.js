@@ -1,6 +1,7 @@
 // The verdict in words: what the core says of the plan, and what the page adds to it.
 import { LIGHTER, PASSED } from './core.js';
 import { bold, button, byId, coreSays, html, pageSays } from './dom.js';
+import { namesFew, namesRows } from './names.js';
 import { count, money, rowNumbers, runs, trench } from './words.js';
 
 /** @typedef {import('./app.js').App} App */
@@ -8,6 +9,13 @@ import { count, money, rowNumbers, runs, trench } from './words.js';
 
 const VERDICT_SHOWN = 9;
 const GROUPS_SHOWN = 6;
+
+/** The names of rows' ends, as the file has them.
+ * @param {App} app @param {number[]} rows */
+function verdictNames(app, rows) {
+  const words = namesRows(app.history.now.file, app.plan, rows);
+  return words === '' ? [] : [pageSays(words)];
+}
 
 /** @param {App} app @returns {Said} */
 function verdictPassed(app) {
@@ -20,6 +28,7 @@ function verdictPassed(app) {
         bold('Another network costs the same'),
         `: take out ${trench(app.plan, other.out - 1)}, put in ${trench(app.plan, other.in - 1)}.`,
       ),
+      ...verdictNames(app, [other.out - 1, other.in - 1]),
       pageSays('Two right answers, no contradiction.'),
     );
   }
@@ -42,6 +51,7 @@ function verdictLighter(app) {
         bold(trench(app.plan, exchange.in), 'in'),
         `: the total is then ${money(after)}.`,
       ),
+      ...verdictNames(app, [exchange.out, exchange.in]),
       pageSays(verdictSavings(exchange.saves, all)),
     );
   }
@@ -62,7 +72,7 @@ function verdictNone(app) {
   const words = marks > 0 ? [coreSays(app.core.refused(verdict.number, 0))] : [];
   if (marks === need) words.push(pageSays(bold('The count is right, and that is not enough.')));
   else words.push(pageSays(`${count(marks, 'mark', 'marks')}; a network has exactly ${need}.`));
-  if (rings && marks > 0) words.push(...verdictRings(rings));
+  if (rings && marks > 0) words.push(...verdictRings(app, rings));
   return {
     look: marks > 0 ? 'no' : 'less',
     head: marks > 0 ? '\u2717 No network' : '\u25cb Nothing is marked yet',
@@ -71,8 +81,9 @@ function verdictNone(app) {
   };
 }
 
-/** @param {import('./rings.js').Rings} rings */
-function verdictRings(rings) {
+/** @param {App} app @param {import('./rings.js').Rings} rings */
+function verdictRings(app, rings) {
+  const { file } = app.history.now;
   const words = [];
   if (rings.rings.length > 0) {
     const more = rings.extra.length - 1;
@@ -81,7 +92,7 @@ function verdictRings(rings) {
     words.push(pageSays(bold('A ring', 'ring'), `: trenches ${rows}.${also}`));
   }
   if (rings.apart.length > 0) {
-    const groups = rings.groups.slice(0, GROUPS_SHOWN).map((g) => runs(g));
+    const groups = rings.groups.slice(0, GROUPS_SHOWN).map((g) => runs(g) + namesFew(file, g));
     const more = rings.groups.length - groups.length;
     const rest = more > 0 ? `; and ${more} more` : '';
     const said = `: ${groups.join('; ')}${rest}.`;

@@ -1,9 +1,14 @@
 // CSV and GeoJSON, chosen and dropped in the browser. What they are read as: formats.mjs.
 import fs from 'node:fs';
 import path from 'node:path';
+import { overlaps } from './overlaps.mjs';
 
 /** @param {import('./page.mjs').Tools} tools @returns {Record<string, () => Promise<void>>} */
 export function kindsGroups({ b, check, choose, example, folder, saved, textOf }) {
+  /** The names that the picture shows, in order. */
+  const names = () => b.value(`[...star.picture.top.childNodes].filter((t) =>
+    t.getAttribute('class') === 'name').map((t) => t.textContent).sort().join()`);
+
   return {
     async formats() {
       const csv = path.join(folder, 'street.csv');
@@ -13,6 +18,9 @@ export function kindsGroups({ b, check, choose, example, folder, saved, textOf }
       await choose(csv);
       check('a CSV file', (await b.value('[...star.app.plan.price].join()')) === '7,5');
       check('its name', (await textOf('name')) === 'street.csv');
+      const groups = '1, 2 (Mill, L\u00e4nge 3); 3 (Quay).';
+      check('names of groups', (await textOf('verdict')).includes(groups));
+      check('names in the picture', (await names()) === 'L\u00e4nge 3,Mill,Quay');
       await b.value('star.app.select(0)');
       await b.frame();
       check('names of junctions', (await textOf('card')).includes('Mill \u2013 L\u00e4nge 3'));
@@ -40,6 +48,24 @@ export function kindsGroups({ b, check, choose, example, folder, saved, textOf }
         'bad.csv: row 1: the price 3.5 is not a whole number');
       check('the plan stays', (await textOf('name')) === 'map.geojson');
       await choose(example('yard.txt'));
+    },
+
+    async names() {
+      const file = path.join(folder, 'named.txt');
+      const long = 'The corner of Mill Lane and the quay';
+      fs.mkdirSync(folder, { recursive: true });
+      fs.writeFileSync(file, ['# junction 1: Mill', `# junction 3: ${long}`,
+        '# junction 4: \u6c34\u8eca', '1 2 9 1', '2 3 5 1', '1 3 4 0', '3 4 7 1', ''].join('\n'));
+      await choose(file);
+      const said = await textOf('verdict');
+      check('names of an exchange',
+        said.includes(`Trench 1 is Mill \u2013 2, trench 3 is Mill \u2013 ${long}.`));
+      const cut = 'The corner of Mill Lane\u2026';
+      check('long names', (await names()) === `Mill,${cut},\u6c34\u8eca`);
+      const { bad } = await b.value(`(${overlaps})()`);
+      check(`names apart: ${bad.slice(0, 3).join(', ')}`, bad.length === 0);
+      await choose(example('yard.txt'));
+      check('no names', (await names()) === '' && !(await textOf('verdict')).includes(' is Mill'));
     },
   };
 }

@@ -1,6 +1,6 @@
 // The page in a real browser, held to the console on the same files.
-// usage: node page.mjs CHROMIUM STAR STAR.html [GROUP.. | -GROUP..]   these groups, or all but these.
-// Ends in one line 'N passed, M failed'.
+// usage: node page.mjs CHROMIUM STAR STAR.html [GROUP.. | -GROUP..]   these groups, or all but
+// these. Ends in one line 'N passed, M failed'.
 // CALLS in the environment names the calls of backends.c for the group doors, and TABLES the table
 // of the group labels, where not all are wanted. The groups of paper.mjs need poppler-utils.
 import { spawnSync } from 'node:child_process';
