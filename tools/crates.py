@@ -67,3 +67,37 @@ def deep_hashes(crates, sources, kit):
     for crate in crates:
         deep(crate)
     return out
+
+
+def work_above(crates, seconds):
+    """The seconds of a crate and of the longest chain of crates that rest on it."""
+    users, out = {crate: [] for crate in crates}, {}
+    for crate, named in crates.items():
+        for name in named:
+            if name in crates:
+                users[name].append(crate)
+
+    def work(crate):
+        if crate not in out:
+            out[crate] = seconds[crate] + max(map(work, users[crate]), default=0)
+        return out[crate]
+
+    for crate in crates:
+        work(crate)
+    return out
+
+
+def stray_files(root='.'):
+    """The files of Rattle or antt that no listed crate has, so that nothing proves them."""
+    own, out = listed(root), []
+    for at, folders, names in os.walk(root):
+        folders[:] = [name for name in folders if name not in ('.git', 'target')]
+        for name in names:
+            path = os.path.relpath(os.path.join(at, name), root)
+            parts = path.split(os.sep)
+            place = len(parts) > 3 and parts[0] == 'crates' and parts[1] in own
+            kinds = {'src': '.rt', 'specs': '.antt', 'proofs': '.antt'}
+            if name.endswith(('.rt', '.antt')) and not (
+                    place and name.endswith(kinds.get(parts[2], ' '))):
+                out.append(path)
+    return sorted(out)

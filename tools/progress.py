@@ -1,9 +1,8 @@
 #!/usr/bin/env python3
 """How far a run of the prover is: '37 of 80 crates, some 4 minutes left'.
 
-usage: rt check | progress.py gate       passes the lines on, and says after each crate how far the
-                                         run is; its last line is 'N passed, M failed'
-       make outside | progress.py outside    the same after each test that counts
+usage: make outside | progress.py outside    passes the lines on, and says after each test that
+                                         counts how far the run is
        progress.py seconds LOG           the seconds of each crate in a log of rt, for seconds.txt
 
 seconds.txt has the seconds of one run, of each crate and of the tests from outside.
@@ -19,8 +18,6 @@ SECONDS = os.path.join(os.path.dirname(os.path.abspath(__file__)), 'seconds.txt'
 UNKNOWN = 8  # seconds of a crate that seconds.txt does not have
 PROVED = re.compile(r'rt: (\w+) proved \((\d+) s\)$')
 UNCHANGED = re.compile(r'rt: (\w+) proved \(unchanged')
-RAN = re.compile(r'rt: \w+ ran[ ,]')
-FAILED = re.compile(r'rt: FAILED:(.*)$')
 COUNT = re.compile(r'\d+ passed, \d+ failed$')
 
 
@@ -67,24 +64,6 @@ def edit_seconds(crate):
     return 2 + read_seconds().get(crate, UNKNOWN) / 6
 
 
-def gate():
-    """Follows rt check over an empty target: the crates, then the programs. It ends in a count."""
-    seconds, names = read_seconds(), list(crates.listed())
-    progress = Progress({name: seconds.get(name, UNKNOWN) for name in names}, processors())
-    proved = ran = failed = 0
-    sys.stdin.reconfigure(errors='replace')
-    for line in sys.stdin:
-        print(line, end='', flush=True)
-        crate, told = PROVED.match(line), FAILED.match(line)
-        ran += bool(RAN.match(line))
-        failed += len(told[1].split()) if told else 0
-        if crate:
-            proved += 1
-            progress.end(crate[1])
-            print(f'gate: {proved} of {len(names)} crates, {progress.sentence()}', flush=True)
-    print(f'{proved + ran} passed, {failed} failed', flush=True)
-
-
 def outside():
     """Follows the tests from outside; nothing is said after their last line, which counts all."""
     seconds, began, counted = read_seconds()['outside'], time.monotonic(), None
@@ -98,9 +77,7 @@ def outside():
 
 
 def main(words):
-    if words == ['gate']:
-        gate()
-    elif words == ['outside']:
+    if words == ['outside']:
         outside()
     elif len(words) == 2 and words[0] == 'seconds':
         with open(words[1], encoding='utf-8') as file:
