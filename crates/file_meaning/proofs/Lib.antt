@@ -1,0 +1,5 @@
+pub mod Meeting
+pub mod Lines
+pub mod Names
+pub mod Extends
+pub mod Means
