@@ -22,6 +22,7 @@
  * star_which  says which of two claims over one table costs less.
  * star_digs   writes the dig list of a least network; it takes no marks.
  * star_digs_text  writes the dig list of an STP text.
+ * star_plan_digs  writes the dig list of a claim that is a tree.
  * star_import reads a SteinLib STP text into columns of 1,024 rows; it has no marks.
  * star_districts  finds the least rows of each run of the rows, and a least network from them.
  * star_mend       turns any claim into a least network, and lists each step.
@@ -32,16 +33,16 @@
  * table, and what stands in the others is not looked at.
  *
  * star_work_X   answers as star_X, over the rows in use (cst, other, mst1, paths, quote, breaking,
- *               which, digs, districts, mend, outlets). What is said below of star_X holds of it
- *               too.
+ *               which, digs, plan_digs, districts, mend, outlets). What is said below of star_X
+ *               holds of it too.
  * star_strike   takes a row out of use.
  * star_add      enters a row after the last one in use.
  * star_merge    packs the rows in use to the top, and says where each one went.
  * star_carry    moves marks to where their rows went.
  *
  * Each returns 1 with the verdict in the sixteen bytes of the answer (star_quote: twenty-four), or
- * 0 if the lent answer has another length (star_digs, star_digs_text: or the lent text fewer than
- * 6,370 bytes); then nothing is written anywhere. star_which returns 1 for the first claim, 2 for
+ * 0 if the lent answer has another length (star_digs, star_digs_text, star_plan_digs: or the lent
+ * text fewer than 6,370 bytes); then nothing is written anywhere. star_which returns 1 for the first claim, 2 for
  * the second, and 0 on a refusal too. Every other input is taken, whatever its bytes and lengths: a
  * fault is told as a refusal with its number and place, and a refused call leaves the marks, the
  * matrix, the columns lent to star_import, the dig list's text, the forests, the records, and the
@@ -110,9 +111,9 @@ enum star_kind {
     STAR_PASSED = 1, /* star_cst, star_other: no cheaper set exists; star_mst1: the network is
                         built; star_paths: the matrix is filled; star_quote: both totals are found;
                         star_breaking: there is such a price; star_which: both claims are trees;
-                        star_digs: the list is written; star_import: the text is read; star_strike,
-                        star_add, star_merge, star_carry, star_districts, star_mend, star_outlets:
-                        done */
+                        star_digs, star_plan_digs: the list is written; star_import: the text is
+                        read; star_strike, star_add, star_merge, star_carry, star_districts,
+                        star_mend, star_outlets: done */
     STAR_LIGHTER = 2 /* star_cst, star_other: a cheaper set exists: the exchange of two rows is
                         one */
 };
@@ -135,15 +136,17 @@ enum star_refusal {
     STAR_BAD_END = 4,            /* place: the uppermost row with an end that is 0 or above n, or
                                     with equal ends */
     STAR_BAD_MARK = 6,           /* place: the uppermost row marked with another byte than 0 and 1
-                                    (star_cst, star_other, star_paths, star_which, star_mend) */
+                                    (star_cst, star_other, star_paths, star_which, star_mend,
+                                    star_plan_digs) */
     STAR_BAD_SOURCE = 7,         /* s (star_paths) or r (star_outlets) is 0 or above n; the row
                                     asked about is 0, above m or not in use (star_quote,
                                     star_breaking) */
     STAR_SHORT_MATRIX = 8,       /* the matrix has fewer than 16 n words (star_paths) */
     STAR_BAD_MARK_COUNT = 9,     /* the marks are not n - 1 (star_cst, star_other, star_paths,
-                                    star_which) */
+                                    star_which, star_plan_digs) */
     STAR_NOT_JOINED = 10,        /* place: the smallest junction that marked rows do not join to 1
-                                    (star_cst, star_other, star_which), or to s (star_paths) */
+                                    (star_cst, star_other, star_which, star_plan_digs), or to s
+                                    (star_paths) */
     STAR_NO_NETWORK = 11,        /* no set of rows joins every junction (star_mst1, star_quote,
                                     star_breaking, star_digs, star_digs_text, star_districts,
                                     star_mend, star_outlets) */
@@ -242,6 +245,14 @@ uint32_t star_digs(uint32_t n, const uint8_t *left, size_t left_len, const uint8
 uint32_t star_digs_text(const uint8_t *stp, size_t stp_len, uint8_t *text, size_t text_len,
                         uint8_t *answer, size_t answer_len);
 
+/* Writes the dig list of a claim that is a tree, least or not, as star_digs writes that of a least
+ * network: what is dug where the claim is built as it is. amount is the list's length. A refusal is
+ * 1, 2, 3, 4, 15, 6, 9 or 10, in this order, as star_cst's, and leaves the text. */
+uint32_t star_plan_digs(uint32_t n, const uint8_t *left, size_t left_len, const uint8_t *right,
+                        size_t right_len, const uint8_t *weight, size_t weight_len,
+                        const uint8_t *mark, size_t mark_len, uint8_t *text, size_t text_len,
+                        uint8_t *answer, size_t answer_len);
+
 /* Whether a row, counted from 1, is on the path to a junction, by a matrix that star_paths has
  * filled. */
 STAR_INLINE int star_on_path(const uint64_t *matrix, uint32_t junction, size_t row) {
@@ -302,6 +313,12 @@ uint32_t star_work_digs(uint32_t n, const uint64_t *in_use, size_t in_use_words,
                         const uint8_t *left, size_t left_len, const uint8_t *right,
                         size_t right_len, const uint8_t *weight, size_t weight_len, uint8_t *text,
                         size_t text_len, uint8_t *answer, size_t answer_len);
+
+uint32_t star_work_plan_digs(uint32_t n, const uint64_t *in_use, size_t in_use_words,
+                             const uint8_t *left, size_t left_len, const uint8_t *right,
+                             size_t right_len, const uint8_t *weight, size_t weight_len,
+                             const uint8_t *mark, size_t mark_len, uint8_t *text, size_t text_len,
+                             uint8_t *answer, size_t answer_len);
 
 uint32_t star_work_which(uint32_t n, const uint64_t *in_use, size_t in_use_words,
                          const uint8_t *left, size_t left_len, const uint8_t *right,
@@ -465,7 +482,8 @@ struct star_answer {
                         has its total; 0 in every other answer */
     int64_t amount;  /* bytes 8 to 15, two's complement: passed: the total; lighter: the saving,
                         above 0 and at most 4,294,967,295; star_breaking: the breaking price;
-                        star_digs: the list's length; star_add: the new row's position; star_mend:
+                        star_digs, star_plan_digs: the list's length; star_add: the new row's
+                        position; star_mend:
                         the number of records */
 };
 

@@ -1,6 +1,7 @@
-/* Compares star_digs and star_work_digs with the plain implementation, and star_digs_text with
- * star_import and the plain implementation of what that reads: the list to its last byte, the bytes
- * behind it, the refusals in their order, the answer, and all that stands around what is lent.
+/* Compares star_digs, star_work_digs, star_plan_digs and star_work_plan_digs with the plain
+ * implementation, and star_digs_text with star_import and the plain implementation of what that
+ * reads: the list to its last byte, the bytes behind it, the refusals in their order, the answer,
+ * and all that stands around what is lent.
  * usage: digs_test [LISTS [exact]]   prints one line 'N passed, M failed' at its end; exact:
  * columns in memory of their own length */
 #include <stdio.h>
@@ -10,7 +11,7 @@
 #include "lent.h"
 #include "plain_asked.h"
 
-static unsigned long from_texts;
+static unsigned long from_texts, of_plans, not_least;
 
 static uint32_t door(struct lent *t) {
     struct handed p = lent_hand(t);
@@ -25,6 +26,37 @@ static uint32_t plain(struct lent *t) {
 static void one(struct lent *t) {
     t->door = 0;
     lent_ended(t, lent_agree(t, "digs", door, plain));
+}
+
+/* A plan's own list: the claim is lent too. A claim that is a tree and not least is listed as it
+ * is. */
+static uint32_t plan_door(struct lent *t) {
+    struct handed p = lent_hand(t);
+    return lent_back(
+        t, p, ASK(t, p, plan_digs, HANDED(t, p, MARK), HANDED(t, p, TEXT), HANDED(t, p, ANSWER)));
+}
+
+static uint32_t plan_plain(struct lent *t) {
+    struct call c = lent_call(t);
+    return plain_plan_digs(lent_in_use(t), &c, t->text, t->len[TEXT], t->answer, t->len[ANSWER]);
+}
+
+static void plan(struct lent *t) {
+    t->door = 2;
+    if (!lent_ended(t, lent_agree(t, "plan_digs", plan_door, plan_plain))) return;
+    of_plans++;
+    not_least += lent_judged(t).kind == STAR_LIGHTER;
+}
+
+/* Marks that are a tree, or near one. */
+static void put_plan(struct lent *t) { lent_mark(t, t->mark); }
+
+static void spoil_plan(struct lent *t) {
+    if (any(8) == 0) t->mark[lent_row(t) - 1] ^= (uint8_t)(any(3) ? 1 : 2 + any(250));
+    if (any(8) == 0) {
+        t->mark[lent_row(t) - 1] = 0;
+        t->mark[lent_row(t) - 1] = 1;
+    }
 }
 
 /* The STP text that the next two calls are about. */
@@ -98,6 +130,44 @@ static void known(const char *in_use) {
     tell(lent_refuses(&t, STAR_NO_NETWORK, 0), "11");
 }
 
+/* Plans of the yard whose lists are known: a dearer tree, a ring, two marks, and a byte 9. */
+static const struct {
+    uint8_t mark[5];
+    unsigned number, place;
+    const char *list;
+} PLAN[] = {
+    {{1, 1, 0, 1, 0}, 0, 0, "1 1 2 5\n2 2 3 3\n4 1 4 4\nTotal 12\n"},
+    {{1, 0, 0, 1, 1}, 0, 0, "1 1 2 5\n4 1 4 4\n5 1 3 6\nTotal 15\n"},
+    {{1, 1, 0, 0, 1}, STAR_NOT_JOINED, 4, ""},
+    {{1, 1, 0, 0, 0}, STAR_BAD_MARK_COUNT, 0, ""},
+    {{1, 1, 0, 9, 9}, STAR_BAD_MARK, 4, ""},
+};
+
+static void known_plans(const char *in_use) {
+    static struct lent t;
+    size_t i;
+    for (i = 0; i < sizeof PLAN / sizeof PLAN[0]; i++) {
+        size_t len = strlen(PLAN[i].list);
+        lent_yard(&t, in_use);
+        memcpy(t.mark, PLAN[i].mark, 5);
+        plan(&t);
+        if (PLAN[i].number) tell(lent_refuses(&t, PLAN[i].number, PLAN[i].place), "a plan refused");
+        else tell(lent_does(&t, (int64_t)len) && !memcmp(t.text, PLAN[i].list, len), "a plan");
+    }
+    memcpy(t.mark, PLAN[0].mark, 5);
+    t.len[TEXT] = STAR_MAX_LIST - 1;
+    plan(&t);
+    t.len[TEXT] = STAR_MAX_LIST;
+    t.len[ANSWER]--;
+    plan(&t);
+}
+
+static void plan_held(struct lent *t) {
+    memcpy(t->mark, PLAN[1].mark, 5);
+    if (t->working) memcpy(t->mark, PLAN[0].mark, 5); /* row 5 is not in use */
+    plan(t);
+}
+
 /* A star at the bottom of the table has the longest lines; its list fits. */
 static void longest(void) {
     static struct lent t;
@@ -113,6 +183,10 @@ static void longest(void) {
     tell(t.answer[0] == STAR_PASSED && star_read_answer(t.answer).amount <= STAR_MAX_LIST &&
              star_read_answer(t.answer).amount > 5900,
          "the longest list");
+    memset(t.mark + STAR_MAX_ROWS - 254, 1, 254);
+    plan(&t);
+    tell(t.answer[0] == STAR_PASSED && star_read_answer(t.answer).amount > 5900,
+         "the longest plan");
 }
 
 static void *ask_text(void *table) {
@@ -125,9 +199,14 @@ static void cases(void) {
     lends = LENDS(TEXT);
     known(NULL);
     known("12345");
-    longest();
     lent_each_length(one);
     lent_small_stacks(door, NULL, STACK);
+    lends = LENDS(TEXT) | LENDS(MARK);
+    longest();
+    known_plans(NULL);
+    known_plans("12345");
+    lent_each_length(plan_held);
+    lent_small_stacks(plan_door, put_plan, STACK);
     lent_make_large(&t, 0);
     tell(on_small_stack(ask_text, &t, STACK_TEXT), "a thread of 1,280 KiB");
 }
@@ -137,6 +216,11 @@ static void table(unsigned long k) {
     lent_make(&t, k);
     if (any(5) == 0) lent_damage(&t);
     one(&t);
+    lent_make(&t, k);
+    put_plan(&t);
+    spoil_plan(&t);
+    if (any(5) == 0) lent_damage(&t);
+    plan(&t);
     if (k % 8 != 0) return;
     lent_make(&t, k);
     if (any(20) == 0) t.len[TEXT] = any(STAR_MAX_LIST);
@@ -145,10 +229,12 @@ static void table(unsigned long k) {
 }
 
 int main(int count, char **words) {
-    static const unsigned numbers[] = {1, 2, 3, 4, 15, 11, 12, 13, 0};
+    static const unsigned numbers[] = {1, 2, 3, 4, 15, 6, 9, 10, 11, 12, 13, 0};
     unsigned long lists = run(count, words, 20000, cases, table);
     share(lent_done[0], 4, lists, "the share of lists of plain tables");
     share(lent_done[1], 4, lists, "the share of lists of working tables");
     share(from_texts, 20, lists, "the share of lists of texts");
+    share(of_plans, 4, lists, "the share of lists of plans");
+    share(not_least, 10, lists, "the share of plans that are not least");
     return lent_told("lists", lists, 1500, numbers);
 }

@@ -140,18 +140,15 @@ uint32_t plain_which(const struct in_use *u, const struct call *c, struct marks 
     return total[1] < total[0] ? 2 : 1;
 }
 
-uint32_t plain_digs(const struct in_use *u, const struct call *c, uint8_t *text, size_t text_len,
-                    uint8_t *answer, size_t answer_len) {
+/* The lines of the rows that are marked, and that of their total. */
+static uint32_t list(const struct in_use *u, const struct call *c, const uint8_t *mark,
+                     int64_t total, uint8_t *text, uint8_t *answer) {
     char line[80];
-    uint8_t mark[ROWS];
     size_t i, len = 0, k;
-    if (answer_len != 16 || text_len < LIST) return 0;
-    mark_tree(u, c, mark, answer);
-    if (answer[0] == 0) return 1;
     for (i = 1; i <= rows_of(u, c) + 1; i++) {
         if (i > rows_of(u, c))
-            k = (size_t)snprintf(line, sizeof line, "Total %" PRId64 "\n", number_at(answer + 8));
-        else if (mark[i - 1] == 1)
+            k = (size_t)snprintf(line, sizeof line, "Total %" PRId64 "\n", total);
+        else if (regarded(u, c, i) && mark[i - 1] == 1)
             k = (size_t)snprintf(line, sizeof line, "%zu %u %u %" PRId64 "\n", i, c->left[i - 1],
                                  c->right[i - 1], price_of(c, i));
         else continue;
@@ -159,4 +156,22 @@ uint32_t plain_digs(const struct in_use *u, const struct call *c, uint8_t *text,
         len += k;
     }
     return put(answer, 1, 0, (int64_t)len);
+}
+
+uint32_t plain_digs(const struct in_use *u, const struct call *c, uint8_t *text, size_t text_len,
+                    uint8_t *answer, size_t answer_len) {
+    uint8_t mark[ROWS];
+    if (answer_len != 16 || text_len < LIST) return 0;
+    mark_tree(u, c, mark, answer);
+    if (answer[0] == 0) return 1;
+    return list(u, c, mark, number_at(answer + 8), text, answer);
+}
+
+uint32_t plain_plan_digs(const struct in_use *u, const struct call *c, uint8_t *text,
+                         size_t text_len, uint8_t *answer, size_t answer_len) {
+    struct marks plan = {c->mark, c->mark_len};
+    int64_t total;
+    if (answer_len != 16 || text_len < LIST) return 0;
+    if (!tree(u, c, plan, answer, &total)) return 1;
+    return list(u, c, plan.at, total, text, answer);
 }

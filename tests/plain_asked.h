@@ -13,7 +13,7 @@ struct marks {
     size_t len;
 };
 
-/* A call's own mark column is not looked at, by none of them. Each is given a number of rows in
+/* A call's own mark column is looked at by plain_plan_digs alone. Each is given a number of rows in
    use, or a null pointer for a plain table. */
 uint32_t plain_quote(const struct in_use *u, const struct call *c, uint32_t row, int32_t price,
                      uint8_t *answer, size_t answer_len);
@@ -22,6 +22,9 @@ uint32_t plain_breaking(const struct in_use *u, const struct call *c, uint32_t r
 /* The dig list of the rows that plain_mst1 marks, put at the start of a text. */
 uint32_t plain_digs(const struct in_use *u, const struct call *c, uint8_t *text, size_t text_len,
                     uint8_t *answer, size_t answer_len);
+/* That of the call's own marks. */
+uint32_t plain_plan_digs(const struct in_use *u, const struct call *c, uint8_t *text,
+                         size_t text_len, uint8_t *answer, size_t answer_len);
 
 uint32_t plain_which(const struct in_use *u, const struct call *c, struct marks first,
                      struct marks second, uint8_t *answer, size_t answer_len);

@@ -1,0 +1,46 @@
+// The dig list of a plan over a plain table for C.
+use answer::well_lent;
+use answer::write_answer;
+use digs::LIST_BYTES;
+use digs_door::fields::of_list;
+use in_use::InUse;
+ghost use mathlib.Core.Path.{_≡_};
+ghost use Rattle.digs_spec.specs.Door.{listFields, listReturns, listAnswered, listText};
+ghost use Rattle.plan_digs_spec.specs.Bytes.{PlanDigsCall};
+ghost use Rattle.plan_digs_spec.specs.PlanList.{planList};
+ghost use Rattle.star_spec.specs.Call.{callOf};
+
+// The list of the marked rows of a plain table, through the door. `means` says what the bytes and the text are worth.
+#[no_mangle]
+pub extern "C" fn star_plan_digs(
+    n: u32,
+    left: &[u8],
+    right: &[u8],
+    weight: &[u8],
+    mark: &[u8],
+    text: &mut [u8],
+    answer: &mut [u8],
+) -> u32
+    ensures returned { λ r. ⌜ r ≡ listReturns (now (text .entry)) (now (answer .entry)) ⌝ }
+    ensures answered { λ r.
+        let a = planList (callOf n (now (left .entry)) (now (right .entry)) (now (weight .entry)) (now (mark .entry))) in
+        ⌜ now (answer .exit) ≡ listAnswered (now (text .entry)) (now (answer .entry)) (listFields a) ⌝ }
+    ensures listed { λ r.
+        let a = planList (callOf n (now (left .entry)) (now (right .entry)) (now (weight .entry)) (now (mark .entry))) in
+        ⌜ now (text .exit) ≡ listText a (now (text .entry)) (now (answer .entry)) ⌝ }
+    ensures means { λ r.
+        let c = callOf n (now (left .entry)) (now (right .entry)) (now (weight .entry)) (now (mark .entry)) in
+        ⌜ PlanDigsCall c (now (text .entry)) (now (answer .entry)) (now (text .exit)) (now (answer .exit)) r ⌝ }
+{
+    if !well_lent(answer) {
+        return 0;
+    }
+    if text.len() < LIST_BYTES {
+        return 0;
+    }
+    let table = InUse::plain(left.len());
+    let list = plan_digs::plan_list(n, table, left, right, weight, mark, text);
+    let x = of_list(list);
+    write_answer(answer, x);
+    1
+}

@@ -1,0 +1,3 @@
+pub mod PlanList
+pub mod Bytes
+pub mod Trials
