@@ -1,10 +1,9 @@
--- The answer in each of its four cases: the call is refused; a tree is built without the row; only with it; or not even so.
+-- What the trees say in each of its four cases (the call is refused; a tree is built without the row; only with it; or not even so), and that the walk then tells the breaking price.
 -- Assumes nothing.
 use Prim.Native.Nat.{ℕ, _≤_}
-use borrow.Author.Tests.{not-true, not-false}
 use lib.Dec.{eqb}
-use lib.IntN.{ℤ}
-use lib.ListN.{length}
+use lib.IntN.{ℤ, pos}
+use lib.ListN.{length, replicate}
 use mathlib.Core.Bool.{Bool, true, false, not, _&&_}
 use mathlib.Core.List.{List}
 use mathlib.Core.Option.{Option, none, some}
@@ -29,7 +28,6 @@ use Rattle.rowset.specs.Bytes.{inRow}
 use Rattle.rowset.specs.Integers.{signed}
 use Rattle.rowset.specs.Searches.{largest}
 use Rattle.rowset.specs.Sets.{upTo, both, takeOut, uppermost}
-use Rattle.slice.specs.Slices.{size}
 use Rattle.star_spec.proofs.Accepted.{Taken, taken, row-used, sound}
 use Rattle.star_spec.specs.Accepted.{Row}
 use Rattle.star_spec.specs.Call.{Call, rowsOf, used, graphOf, weightOf}
@@ -42,14 +40,15 @@ use Rattle.price_spec.proofs.Means.{last-cause}
 use Rattle.price_spec.specs.Breaking.{unanswered, breaksAt, neverBreaks, breakingTold, breakingOr, breakingPrice}
 use Rattle.price_spec.specs.Quote.{rowAsked}
 use Rattle.breaking.proofs.Paths.{path-heaviest}
+use Rattle.breaking.specs.steps.Routes.{Said, answered, byTrees, saidOr, said, wayBetween, heaviestPrice, told}
 use Rattle.path_walk.proofs.Trees.{walked-path}
 
 -- a call that the checks refuse
-pub call-refused : (c : Call) (k : ℕ) {o : Outcome} {r : Refusal} → refusalOf o ≡ refusal (rowAsked c k) → o ≡ Refused r → unanswered r ≡ breakingPrice c k
-unfolding breakingPrice breakingOr refusalOf orElse
+pub call-refused : (c : Call) (k : ℕ) {o : Outcome} {r : Refusal} → refusalOf o ≡ refusal (rowAsked c k) → o ≡ Refused r → answered (unanswered r) ≡ said c k
+unfolding said saidOr refusalOf
 call-refused c k {r = r} e q =
     let h : refusal (rowAsked c k) ≡ some r = sym e ∙ ap refusalOf q in
-    rw (causes-in-order c k, h)
+    rw h
 
 -- taking a row out of the rows in use takes it out of those among the first m
 take-out-both : (p q : ℕ → Bool) (k : ℕ) → both p (takeOut q k) ≡ takeOut (both p q) k
@@ -71,11 +70,14 @@ unfolding isNone
 none-built none e = refl
 none-built (some f) e = clash refl e
 
+pub accepted-call : (c : Call) (k : ℕ) {o : Outcome} → refusalOf o ≡ refusal (rowAsked c k) → o ≡ Done → refusal (rowAsked c k) ≡ none
+unfolding refusalOf
+accepted-call c k checked done = sym checked ∙ ap refusalOf done
+
 -- a call that the checks accept
-module _ (c : Call) (k : ℕ) {o : Outcome} (checked : refusalOf o ≡ refusal (rowAsked c k)) (done : o ≡ Done) where
+module _ (c : Call) (k : ℕ) (asked : refusal (rowAsked c k) ≡ none) where
   accepted : Accepted c × Row c k
-  unfolding refusalOf
-  accepted = row-asked c k (sym checked ∙ ap refusalOf done)
+  accepted = row-asked c k asked
 
   t : Taken c
   t = taken c (accepted .0)
@@ -97,6 +99,58 @@ module _ (c : Call) (k : ℕ) {o : Outcome} (checked : refusalOf o ≡ refusal (
   loaded : (l : List ℕ) → length l ≡ rowsOf c → loadedRow 1 l ≡ inRow 1 l
   loaded l h = loaded-taken 1 l (load-taken 1 l (omega (arith, t .few-rows)) (omega arith))
 
+  -- a tree built without row k: the heaviest row on its path between k's ends
+  module _ (f : Fragment) (built : tree (lacking g k) w ≡ some f) where
+    spans : SpanningTree g (f .chosen)
+    spans = lacking-tree g k (f .chosen) (built-spanning (lacking g k) (lacking-sound g k fine) w f built) .0
+
+    -- the table is connected, so that nothing is refused
+    told-built : breakingPrice c k ≡ breaksAt (w (uppermost (g .m) (largest (g .m) w (onPath g (f .chosen) (g .a k) (g .b k)))))
+    unfolding breakingPrice breakingOr breakingTold breaking heaviestBetween isNone cause
+    told-built = go (tree g w) refl
+      where
+        go : (x : Option Fragment) → tree g w ≡ x → breakingPrice c k ≡ breaksAt (w (uppermost (g .m) (largest (g .m) w (onPath g (f .chosen) (g .a k) (g .b k)))))
+        go none e = absurd (not-built g fine w e (f .chosen) spans)
+        go (some x) e = rw (last-cause c k (accepted .0) (accepted .1), e, built)
+
+    -- what the walk finds between k's ends is the tree's path
+    walked-between : (words : List ℕ) → length words ≡ 4080
+        → matrixColumn (walk (loadedRow 1 (c .left)) (loadedRow 1 (c .right)) (f .chosen) (inRow 1 (c .left) k) words (c .n) .words) (inRow 1 (c .right) k) ≡ onPath g (f .chosen) (g .a k) (g .b k)
+    unfolding graphOf
+    walked-between words long =
+        let (la, ha) = fine .left k row in
+        let (lb, hb) = fine .right k row in
+        rw (loaded (c .left) (t .left-length), loaded (c .right) (t .right-length))
+        (walked-path g fine (f .chosen) spans (omega (arith, t .few-vertices)) (t .few-rows) (g .a k) la ha words (omega (arith, t .few-vertices)) (g .b k) lb hb)
+
+    -- and the heaviest row on it has the breaking price
+    path-price : {P : ℕ → Bool} → P ≡ onPath g (f .chosen) (g .a k) (g .b k) → breaksAt (signed (heaviestPrice (c .weight) P)) ≡ breakingPrice c k
+    unfolding graphOf weightOf heaviestPrice
+    path-price path = rw (path, loaded-weights c t, path-heaviest g fine (f .chosen) spans (omega (arith, t .few-vertices)) (t .few-rows) w (g .a k) (g .b k)) (sym told-built)
+
+    route-told : breaksAt (signed (heaviestPrice (c .weight) (wayBetween (c .n) (c .left) (c .right) k (f .chosen)))) ≡ breakingPrice c k
+    unfolding wayBetween
+    route-told = path-price (walked-between (replicate 4080 0) refl)
+
+  -- a tree is built only with the row
+  never-told : tree (lacking g k) w ≡ none → (f : Fragment) → tree g w ≡ some f → neverBreaks ≡ breakingPrice c k
+  unfolding breakingPrice breakingOr breakingTold breaking heaviestBetween isNone cause
+  never-told e f h = rw (last-cause c k (accepted .0) (accepted .1), h, e)
+
+  -- not even so
+  no-tree-told : tree g w ≡ none → unanswered (record { number = 11; place = 0 }) ≡ breakingPrice c k
+  unfolding breakingPrice breakingOr isNone cause
+  no-tree-told h = rw (last-cause c k (accepted .0) (accepted .1), h)
+
+  accepted-told : told (c .n) (c .left) (c .right) (c .weight) k (said c k) ≡ breakingPrice c k
+  unfolding said saidOr told byTrees
+  accepted-told = rw asked (go (tree (lacking g k) w) (tree g w) refl refl)
+    where
+      go : (x y : Option Fragment) → tree (lacking g k) w ≡ x → tree g w ≡ y → told (c .n) (c .left) (c .right) (c .weight) k (byTrees x y) ≡ breakingPrice c k
+      go (some f) y e h = route-told f e
+      go none (some f) e h = never-told e f h
+      go none none e h = no-tree-told h
+
   -- the graph that a tree is grown on where the rows of a set are in use
   abbrev On : (ℕ → Bool) → Graph
   On rows = loadedGraph (c .n) (c .m) rows (c .left) (c .right)
@@ -113,44 +167,20 @@ module _ (c : Call) (k : ℕ) {o : Outcome} (checked : refusalOf o ≡ refusal (
   unfolding graphOf used
   with-row = rw (loaded-weights c t) (loaded-graph c t (c .inUse) (weightOf c))
 
-  -- a tree built without row k: the heaviest row on its path between k's ends
-  module _ (f : Fragment) (built : tree (lacking g k) w ≡ some f) where
-    spans : SpanningTree g (f .chosen)
-    spans = lacking-tree g k (f .chosen) (built-spanning (lacking g k) (lacking-sound g k fine) w f built) .0
-
-    -- the table is connected, so that nothing is refused
-    told-built : breakingPrice c k ≡ breaksAt (w (uppermost (g .m) (largest (g .m) w (onPath g (f .chosen) (g .a k) (g .b k)))))
-    unfolding breakingPrice breakingOr breakingTold breaking heaviestBetween isNone cause
-    told-built = go (tree g w) refl
-      where
-        go : (x : Option Fragment) → tree g w ≡ x → breakingPrice c k ≡ breaksAt (w (uppermost (g .m) (largest (g .m) w (onPath g (f .chosen) (g .a k) (g .b k)))))
-        go none e = absurd (not-built g fine w e (f .chosen) spans)
-        go (some x) e = rw (last-cause c k (accepted .0) (accepted .1), e, built)
-
-    -- what the machine finds between k's ends is the breaking price
-    path-price : (words : List ℕ) → length words ≡ 4080 → {C : ℕ → Bool} → C ≡ f .chosen → {u v : ℕ} → u ≡ inRow 1 (c .left) k → v ≡ inRow 1 (c .right) k
-        → {P : ℕ → Bool} → P ≡ matrixColumn (walk (loadedRow 1 (c .left)) (loadedRow 1 (c .right)) C u words (c .n) .words) v
-        → {x : ℕ} → x ≡ inRow 4 (c .weight) (uppermost size (largest size loadedWeights P)) → breaksAt (signed x) ≡ breakingPrice c k
-    unfolding graphOf weightOf
-    path-price words long rows left right {P = P} path price =
-        let (la, ha) = fine .left k row in
-        let (lb, hb) = fine .right k row in
-        let few : c .n ≤ size = omega (arith, t .few-vertices) in
-        let found : P ≡ onPath g (f .chosen) (g .a k) (g .b k) = path ∙ rw (left, right, rows, loaded (c .left) (t .left-length), loaded (c .right) (t .right-length)) (walked-path g fine (f .chosen) spans few (t .few-rows) (g .a k) la ha words (omega (arith, t .few-vertices)) (g .b k) lb hb) in
-        rw (price, found, loaded-weights c t, path-heaviest g fine (f .chosen) spans few (t .few-rows) w (g .a k) (g .b k)) (sym told-built)
-
   module _ {rows : ℕ → Bool} (others : rows ≡ takeOut (c .inUse) k) {whole : Bool} {chosen : ℕ → Bool} (grown : Grows (On rows) loadedWeights whole chosen) where
     around : not (isNone (tree (lacking g k) w)) ≡ whole
     around = rw (← without-row rows others) (sym (grown .all))
 
+    route-said : (f : Fragment) → tree (lacking g k) w ≡ some f → chosen ≡ f .chosen → record { answer = breaksAt (pos 0); route = true; chosen = chosen } ≡ said c k
+    unfolding said saidOr byTrees
+    route-said f built same = rw (same, asked, built)
+
     -- a tree is built without the row
-    pub route-found : whole ≡ true → (words : List ℕ) → length words ≡ 4080 → {u v : ℕ} → u ≡ inRow 1 (c .left) k → v ≡ inRow 1 (c .right) k
-        → {P : ℕ → Bool} → P ≡ matrixColumn (walk (loadedRow 1 (c .left)) (loadedRow 1 (c .right)) chosen u words (c .n) .words) v
-        → {x : ℕ} → x ≡ inRow 4 (c .weight) (uppermost size (largest size loadedWeights P)) → breaksAt (signed x) ≡ breakingPrice c k
+    pub route-found : whole ≡ true → record { answer = breaksAt (pos 0); route = true; chosen = chosen } ≡ said c k
     unfolding chosenRows
-    route-found e words long left right path price =
+    route-found e =
         let (f, built) = some-built (tree (lacking g k) w) (around ∙ e) in
-        path-price f built words long (grown .rows ∙ ap chosenRows (without-row rows others ∙ built)) left right path price
+        route-said f built (grown .rows ∙ ap chosenRows (without-row rows others ∙ built))
 
     module _ (none-around : whole ≡ false) {whole′ : Bool} {chosen′ : ℕ → Bool} (grown′ : Grows (On (c .inUse)) loadedWeights whole′ chosen′) where
       unbuilt : tree (lacking g k) w ≡ none
@@ -160,15 +190,34 @@ module _ (c : Call) (k : ℕ) {o : Outcome} (checked : refusalOf o ≡ refusal (
       whole-tree = rw (← with-row) (sym (grown′ .all))
 
       -- only with it
-      pub no-route : whole′ ≡ true → neverBreaks ≡ breakingPrice c k
-      unfolding breakingPrice breakingOr breakingTold breaking heaviestBetween cause
+      pub no-route : whole′ ≡ true → answered neverBreaks ≡ said c k
+      unfolding said saidOr byTrees
       no-route e =
-          let q : isNone (tree g w) ≡ false = not-true _ (whole-tree ∙ e) in
-          rw (last-cause c k (accepted .0) (accepted .1), q, unbuilt)
+          let (f, built) = some-built (tree g w) (whole-tree ∙ e) in
+          rw (asked, unbuilt, built)
 
       -- not even so
-      pub no-tree : whole′ ≡ false → unanswered (record { number = 11; place = 0 }) ≡ breakingPrice c k
-      unfolding breakingPrice breakingOr cause
-      no-tree e =
-          let q : isNone (tree g w) ≡ true = not-false _ (whole-tree ∙ e) in
-          rw (last-cause c k (accepted .0) (accepted .1), q)
+      pub no-tree : whole′ ≡ false → answered (unanswered (record { number = 11; place = 0 })) ≡ said c k
+      unfolding said saidOr byTrees
+      no-tree e = rw (asked, unbuilt, none-built (tree g w) (whole-tree ∙ e))
+
+-- what is told by whether there is a route
+module _ (n : ℕ) (left right weight : List ℕ) (k : ℕ) (x : Said) where
+  pub answer-told : x .route ≡ false → x .answer ≡ told n left right weight k x
+  unfolding told
+  answer-told e = rw e
+
+  pub way-told : x .route ≡ true → {u v : ℕ} → u ≡ inRow 1 left k → v ≡ inRow 1 right k
+      → {P : ℕ → Bool} → P ≡ matrixColumn (walk (loadedRow 1 left) (loadedRow 1 right) (x .chosen) u (replicate 4080 0) n .words) v
+      → {price : ℕ} → price ≡ heaviestPrice weight P → breaksAt (signed price) ≡ told n left right weight k x
+  unfolding told wayBetween
+  way-told e from to path heaviest = rw (e, heaviest, path, from, to)
+
+-- what is told of what the trees say is the breaking price, of every call
+pub told-price : (c : Call) (k : ℕ) → told (c .n) (c .left) (c .right) (c .weight) k (said c k) ≡ breakingPrice c k
+unfolding said saidOr told breakingPrice breakingOr orElse
+told-price c k = go (refusal (rowAsked c k)) refl
+  where
+    go : (o : Option Refusal) → refusal (rowAsked c k) ≡ o → told (c .n) (c .left) (c .right) (c .weight) k (said c k) ≡ breakingPrice c k
+    go none e = accepted-told c k e
+    go (some r) e = rw (causes-in-order c k, e)

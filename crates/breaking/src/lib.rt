@@ -1,21 +1,13 @@
 // The breaking price of a row: over all routes between its ends that do not use it, the least possible heaviest row; or none where no such route exists. Nothing lent is written.
 // The trees are built in one step (`around_rows`), the walk is made in another (`told`), so that what one takes of the stack is given back before the other.
-ghost use Prim.Native.Nat.{ℕ};
-ghost use mathlib.Core.Bool.{Bool};
 ghost use mathlib.Core.Path.{_≡_};
 ghost use Rattle.path_matrix.specs.Matrix.{matrixColumn};
 ghost use Rattle.path_walk.specs.steps.Walks.{walk};
-ghost use Rattle.rowset.specs.Bytes.{inRow};
-ghost use Rattle.rowset.specs.Integers.{signed};
-ghost use Rattle.rowset.specs.Searches.{largest};
-ghost use Rattle.rowset.specs.Sets.{uppermost};
-ghost use Rattle.slice.specs.Slices.{size, component};
-ghost use Rattle.star_spec.specs.Call.{tableOf};
+ghost use Rattle.slice.specs.Slices.{component};
 ghost use Rattle.in_use.specs.Tables.{tableIn};
 ghost use Rattle.table.specs.Loads.{loadedRow};
-ghost use Rattle.price_spec.specs.Breaking.{breakingPrice};
 ghost use Rattle.breaking.specs.Answers.{answerOf};
-ghost use Rattle.breaking.specs.steps.Routes.{Found};
+ghost use Rattle.breaking.specs.steps.Routes.{saidOf, said, heaviestPrice, told};
 use in_use::InUse;
 use refusal::Outcome;
 use refusal::Refusal;
@@ -28,7 +20,7 @@ pub enum Breaks {
     Refused(Refusal),
 }
 
-// What the trees say of a row: whether there is a route around it, and then the rows of a tree without it; else the answer.
+// What the trees say of a row: whether there is a route around it, and then the rows of a tree without it; else the answer. What is not said is the price 0, and no row.
 pub struct Around {
     pub answer: Breaks,
     pub route: bool,
@@ -53,7 +45,7 @@ fn path_between(
 
 // The price of the uppermost of a slice's heaviest rows.
 fn heaviest_price(weight: &[u8], x: Slice) -> u32
-    ensures { λ r. ⌜ r ≡ inRow 4 (now (weight .entry)) (uppermost size (largest size (λ i. signed (loadedRow 4 (now (weight .entry)) i)) (component x))) ⌝ }
+    ensures { λ r. ⌜ r ≡ heaviestPrice (now (weight .entry)) (component x) ⌝ }
 {
     let mut weights = [0u64; table_loads::ALL];
     table_loads::put_prices(weight, &mut weights);
@@ -73,7 +65,7 @@ pub fn around_rows(
 ) -> Around
     ensures { λ r.
         let c = tableIn n table (now (left .entry)) (now (right .entry)) (now (weight .entry)) (now (left .entry)) in
-        ⌜ Found c row (answerOf (r .answer)) (r .route) (component (r .chosen)) ⌝ }
+        ⌜ saidOf r ≡ said c row ⌝ }
 {
     let m = table.m;
     let rows = table.rows;
@@ -115,7 +107,7 @@ pub fn around_rows(
 
 // The answer: where there is a route, the heaviest row on the tree's path between the row's ends has the breaking price.
 pub fn told(n: u32, left: &[u8], right: &[u8], weight: &[u8], row: u32, around: Around) -> Breaks
-    ensures { λ r. ⌜ ((m : ℕ) (whole : Bool) (rows : ℕ → Bool) → Found (tableOf n m whole rows (now (left .entry)) (now (right .entry)) (now (weight .entry)) (now (left .entry))) row (answerOf (around .answer)) (around .route) (component (around .chosen)) → answerOf r ≡ breakingPrice (tableOf n m whole rows (now (left .entry)) (now (right .entry)) (now (weight .entry)) (now (left .entry))) row) ⌝ }
+    ensures { λ r. ⌜ answerOf r ≡ told n (now (left .entry)) (now (right .entry)) (now (weight .entry)) row (saidOf around) ⌝ }
 {
     if !around.route {
         return around.answer;

@@ -3,7 +3,9 @@ use Prim.Native.Nat.{ℕ}
 use mathlib.Core.Bool.{true, false}
 use mathlib.Core.List.{List}
 use mathlib.Core.Path.{_≡_, refl, ap, _∙_}
-use Rattle.price_spec.specs.Breaking.{BreakingAnswer, breakingPrice}
+use Rattle.breaking.proofs.Answers.{told-price}
+use Rattle.breaking.specs.steps.Routes.{Said, said, told}
+use Rattle.price_spec.specs.Breaking.{BreakingAnswer}
 use Rattle.price_spec.specs.Door.{breakingFields, breakingDoor}
 use Rattle.star_spec.specs.Call.{Call}
 use Rattle.star_spec.specs.Door.{Fields, answerAfter, wellLent, doorReturns}
@@ -14,8 +16,8 @@ module _ (c : Call) (k : ℕ) (answer : List ℕ) where
   unfolding doorReturns breakingDoor answerAfter
   breaking-shut e = rw e (refl, refl)
 
-  -- the fields of the breaking price are written
-  pub breaking-open : wellLent answer ≡ true → {after : List ℕ} {f : Fields} {b : BreakingAnswer} → after ≡ answerAfter answer f → f ≡ breakingFields b → b ≡ breakingPrice c k
-      → (1 ≡ doorReturns answer) × (after ≡ breakingDoor c k answer)
+  -- the fields of what is told of what the trees say are written
+  pub breaking-open : wellLent answer ≡ true → {after : List ℕ} {f : Fields} {b : BreakingAnswer} {x : Said} → after ≡ answerAfter answer f → f ≡ breakingFields b
+      → b ≡ told (c .n) (c .left) (c .right) (c .weight) k x → x ≡ said c k → (1 ≡ doorReturns answer) × (after ≡ breakingDoor c k answer)
   unfolding doorReturns breakingDoor
-  breaking-open e written told price = (rw e, written ∙ ap (answerAfter answer) (told ∙ ap breakingFields price))
+  breaking-open e written fields price trees = (rw e, written ∙ ap (answerAfter answer) (fields ∙ ap breakingFields (price ∙ ap (told (c .n) (c .left) (c .right) (c .weight) k) trees ∙ told-price c k)))

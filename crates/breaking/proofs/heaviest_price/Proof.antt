@@ -6,6 +6,7 @@ use mathlib.Core.Path.{_≡_}
 use Rattle.table_loads.proofs.Numbers.{zeros, length-put}
 use Rattle.rowset.specs.Columns.{width, inColumns}
 use Rattle.rowset.specs.Integers.{integerIn, signed}
+use Rattle.breaking.specs.steps.Routes.{heaviestPrice}
 use Rattle.breaking.proofs.heaviest_price.Statement.{statement}
 use Rattle.breaking.proofs.heaviest_price.Tie as tie
 
@@ -15,6 +16,7 @@ unfolding integerIn
 all-columns c row e = rw (← e)
 
 returns : tie.Need-returns
+unfolding heaviestPrice
 returns c =
     let f = c .before in
     let m = f .before in

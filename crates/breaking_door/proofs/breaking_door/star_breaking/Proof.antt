@@ -19,8 +19,7 @@ returns-2 c =
     let lent = trees .before .before in
     let well = sym (lent .before .well-lent .ensures) ∙ not-false _ (lent .if1 .left) in
     let ((rows, whole), used) = trees .before .plain .ensures in
-    let price = rw (rows, whole, used) at (priced .told .ensures _ _ _ (trees .around-rows .ensures)) in
-    breaking-call (breaking-open _ _ _ well (written .write-answer .ensures) (fields .of-breaks .ensures) price)
+    breaking-call (breaking-open _ _ _ well (written .write-answer .ensures) (fields .of-breaks .ensures) (priced .told .ensures) (rw (rows, whole, used) at (trees .around-rows .ensures)))
 
 pub star-breaking-spec : {M : Type 1} → statement M
 star-breaking-spec =
