@@ -41,7 +41,7 @@ use Rattle.claim.proofs.Laws.{claimRows-marked}
 use Rattle.claim.specs.Claims.{claimRows}
 use Rattle.cst.proofs.Refused.{causes-refusal, path-refusal}
 use Rattle.cst.proofs.Sets.{passed-over, stopped, exhausted}
-use Rattle.cst_compare.specs.Compared.{Search, foundOn, remembered}
+use Rattle.cst_compare.specs.steps.Compared.{Search, foundOn, remembered}
 use Rattle.cst.specs.steps.Paths.{weightIn, someOn, firstOn, rowWith, exchangeOf, firstLighter, firstEqual, Walked}
 use Rattle.cst.specs.declared.Equal.{Equal}
 use Rattle.cst.specs.declared.Exchange.{Exchange}

@@ -7,7 +7,7 @@ ghost use Rattle.rowset.specs.Integers.{fromBits};
 ghost use Rattle.rowset.specs.Searches.{greaterThan, sameAs};
 ghost use Rattle.search_columns.specs.steps.Integers.{integersAfter};
 ghost use Rattle.slice.specs.Slices.{component};
-ghost use Rattle.cst_compare.specs.Compared.{foundOn, remembered};
+ghost use Rattle.cst_compare.specs.steps.Compared.{foundOn, remembered};
 use search_great::Compared;
 use slice::Slice;
 use table_checks::row_byte;

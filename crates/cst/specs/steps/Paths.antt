@@ -15,7 +15,7 @@ use Rattle.slice.specs.Slices.{size}
 use Rattle.star_spec.specs.Call.{Call}
 use Rattle.star_spec.specs.MatrixPath.{pathColumn}
 use Rattle.star_spec.specs.Refusals.{cstCauses, refusal}
-use Rattle.cst_compare.specs.Compared.{Search, foundOn}
+use Rattle.cst_compare.specs.steps.Compared.{Search, foundOn}
 use Rattle.cst.specs.declared.Equal.{Equal}
 use Rattle.cst.specs.declared.Exchange.{Exchange}
 

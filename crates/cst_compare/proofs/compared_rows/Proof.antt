@@ -1,6 +1,6 @@
 -- `cst_compare::compared_rows` meets its contract: what each call ensures, put together. Assumes nothing.
 use borrow.Author.Needs.{needs}
-use Rattle.cst_compare.specs.Compared.{foundOn}
+use Rattle.cst_compare.specs.steps.Compared.{foundOn}
 use Rattle.cst_compare.proofs.compared_rows.Statement.{statement}
 use Rattle.cst_compare.proofs.compared_rows.Tie as tie
 

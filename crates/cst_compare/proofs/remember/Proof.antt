@@ -6,7 +6,7 @@ use borrow.Author.Needs.{needs}
 use borrow.Author.Tests.{eq-eqb, ne-eqb, not-true, not-false}
 use Rattle.rowset.specs.Sets.{any}
 use Rattle.slice.specs.Slices.{size}
-use Rattle.cst_compare.specs.Compared.{remembered}
+use Rattle.cst_compare.specs.steps.Compared.{remembered}
 use Rattle.cst_compare.proofs.remember.Statement.{statement}
 use Rattle.cst_compare.proofs.remember.Tie as tie
 
