@@ -1,6 +1,7 @@
 #!/usr/bin/env bash
 # Builds the Debian packages in a copy of the sources, with the archives of the core that are there,
-# and tries what is in them. It takes some minutes, and is no part of the gate.
+# as proved ones where make prove has proved them, and tries what is in them. It takes some minutes,
+# and is no part of the gate.
 # usage: debian.sh   Ends in one line 'N passed, M failed'; where dpkg-buildpackage is not installed
 # it is told as skipped.
 set -u
@@ -30,7 +31,14 @@ git ls-files -z | tar cf - --null -T - | tar xf - -C "$work/star"
 cp -a target/objects "$work/star/target"
 page=target/c/star.html
 if [ -e "$page" ]; then mkdir "$work/star/target/c" && cp -p "$page" "$work/star/target/c"; fi
+told='the same bytes as the one that the gate proved with this kit'
+if [ -e target/proved.sum ]; then
+    cp -p target/proved.sum "$work/star/target"
+    told='is proved here, with this kit'
+fi
 holds build build
+cp "$work/said" "$work/built"
+holds "told: $told" grep -q "$told" "$work/built"
 for package in libstar0 libstar-dev star-console python3-star; do
     holds "$package" [ -s "$work/$package"_*.deb ]
 done
