@@ -13,6 +13,7 @@ struct options {
     int all;         /* explain: every trench that is left out */
     int steps;       /* mend: each step too */
     int static_page; /* page: the one without its program */
+    int plan;        /* digs: the marked trenches, and not a cheapest network */
     int json;        /* an object in place of words */
     char **words;    /* what follows the file */
     int count;

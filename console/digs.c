@@ -1,4 +1,4 @@
-/* The command digs: the dig list for the site, as the door writes it. A refusal is the list's only
+/* The command digs: the dig list for the site, as a door writes it. A refusal is the list's only
    line, as the program diglist prints it, and stands in words on standard error. */
 #include <inttypes.h>
 #include <stdlib.h>
@@ -13,7 +13,7 @@
 static void digs_json(FILE *to, const struct table *t, const char *list,
                       const struct options *with) {
     struct json j;
-    json_begin(&j, to, with, "built", EXIT_PASSED);
+    json_begin(&j, to, with, with->plan ? "told" : "built", EXIT_PASSED);
     json_open(&j, "rows", '[');
     for (; *list != 'T'; list = strchr(list, '\n') + 1)
         json_trench(&j, NULL, t, strtoul(list, NULL, 10));
@@ -42,7 +42,8 @@ static int refused(struct output *o, const struct table *t, struct star_answer a
 
 int command_digs(struct table *t, const struct options *with, struct output *o) {
     static char text[STAR_MAX_LIST + 1];
-    struct star_answer a = table_digs(t, (uint8_t *)text, STAR_MAX_LIST);
+    struct star_answer a = with->plan ? table_plan_digs(t, (uint8_t *)text, STAR_MAX_LIST)
+                                      : table_digs(t, (uint8_t *)text, STAR_MAX_LIST);
     FILE *to;
     if (a.kind != STAR_PASSED) return refused(o, t, a, with);
     to = output_open(o);

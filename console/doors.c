@@ -85,6 +85,13 @@ struct star_answer table_digs(const struct table *t, uint8_t *text, size_t len) 
     return star_read_answer(answer);
 }
 
+struct star_answer table_plan_digs(const struct table *t, uint8_t *text, size_t len) {
+    uint8_t answer[STAR_ANSWER_BYTES];
+    struct lent as = lent_as(t);
+    ASK(t, as, plan_digs, MARKS(t, as), text, len, answer, sizeof answer);
+    return star_read_answer(answer);
+}
+
 uint32_t table_which(const struct table *first, const struct table *second, struct star_answer *a) {
     uint8_t answer[STAR_ANSWER_BYTES];
     struct lent as = lent_as(first);

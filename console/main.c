@@ -17,7 +17,7 @@ struct command {
     const char *name;
     command *run;
     const char *takes; /* what it takes beside a file: c --certificate, t --table, a --all, s
-                          --steps, p --static, j --json, w words */
+                          --steps, p --static, l --plan, j --json, w words */
     enum needs {
         FILE_ALONE,
         PLAN,
@@ -41,7 +41,7 @@ static const struct command COMMANDS[] = {
     {"dot", command_dot, "", FILE_ALONE, WRITING, NULL},
     {"page", command_page, "p", FILE_ALONE, WRITING, NULL},
     {"table", command_table, "", FILE_ALONE, TABLE, NULL},
-    {"digs", command_digs, "j", TEXT, WRITING, NULL},
+    {"digs", command_digs, "lj", TEXT, WRITING, "list"},
     {"quote", command_quote, "jw", FILE_ALONE, WORDS, NULL},
     {"breaking", command_breaking, "jw", FILE_ALONE, WORDS, NULL},
     {"which", command_which, "jw", PLAN, WORDS, "compare"},
@@ -113,6 +113,7 @@ static int options(struct request *r, char **words) {
         else if (strcmp(word, "--all") == 0 && takes(r, 'a')) r->with.all = 1;
         else if (strcmp(word, "--steps") == 0 && takes(r, 's')) r->with.steps = 1;
         else if (strcmp(word, "--static") == 0 && takes(r, 'p')) r->with.static_page = 1;
+        else if (strcmp(word, "--plan") == 0 && takes(r, 'l')) r->with.plan = 1;
         else if (strcmp(word, "--json") == 0 && takes(r, 'j')) r->with.json = 1;
         else if (strncmp(word, "-o", 2) == 0) {
             status = output_named(r, word[2] ? word + 2 : *++words);
@@ -136,6 +137,7 @@ static int run(struct request *r) {
     struct input in;
     struct message fault = {{0}, 0};
     int status = input_open(&in, r->file, &fault), over;
+    int marks = r->command->needs == PLAN || r->with.plan;
     r->with.file = in.file;
     over = status == 0 ? output_spares(&r->out, in.id, r->command->name,
                                        !in.stp && (r->command->result == TABLE || r->with.table))
@@ -144,7 +146,7 @@ static int run(struct request *r) {
         input_close(&in);
         return over;
     }
-    if (status == 0 && in.stp && (r->command->needs == PLAN || r->command->needs == LINES)) {
+    if (status == 0 && in.stp && (marks || r->command->needs == LINES)) {
         say_place(&fault, in.file, 0);
         if (r->command->needs == LINES)
             say(&fault,

@@ -69,6 +69,7 @@ const struct option OPTIONS[] = {
     {"--certificate", "", "writes what shows the verdict, for another program to check"},
     {"--all", "", "tells of all trenches left out, rings, groups; not of a few"},
     {"--steps", "", "tells each step too"},
+    {"--plan", "", "lists the marked trenches, and not a cheapest network"},
     {"--static", "", "writes the page that needs no script, to read and to print"},
     {"--json", "", "writes one object (JSON) in place of words"},
     {"-o", "OUTPUT", "writes the file OUTPUT, as a whole or not at all"},
@@ -234,12 +235,13 @@ const struct page PAGES[] = {
     {
         .name = "digs",
         .words = "[FILE]",
-        .options = "--json",
+        .options = "--plan --json",
         .line = "write the dig list for the site",
         .does = "Writes the dig list for the site, as the program diglist prints it: a line "
                 "for each trench of the cheapest network that build chooses, from the top of "
                 "the file, with its number, its two junctions and its price, a single space "
-                "between; then a line with Total and the sum.\n\n"
+                "between; then a line with Total and the sum. With --plan it lists the marked "
+                "trenches, cheapest or not, if they are a network.\n\n"
                 "A refusal is the list's only line, Refused with the number and the place, "
                 "and is told in words on standard error.",
         .example = "digs yard.txt",

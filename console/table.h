@@ -70,6 +70,9 @@ struct star_answer table_breaking(const struct table *t, size_t i);
    length as the amount. */
 struct star_answer table_digs(const struct table *t, uint8_t *text, size_t len);
 
+/* The same of the marked trenches. */
+struct star_answer table_plan_digs(const struct table *t, uint8_t *text, size_t len);
+
 /* Which of two marked tables costs less: 1 the first, 2 the second, 0 none where one is refused.
    They are the same but for their marks. */
 uint32_t table_which(const struct table *first, const struct table *second, struct star_answer *a);

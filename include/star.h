@@ -633,6 +633,9 @@ struct star_answer star_table_breaking(const struct star_table *t, uint32_t row)
 /* Writes the dig list of a least network as star_digs does; text has STAR_MAX_LIST bytes. */
 struct star_answer star_table_digs(const struct star_table *t, uint8_t *text);
 
+/* Writes the dig list of the marked rows as star_plan_digs does; text has STAR_MAX_LIST bytes. */
+struct star_answer star_table_plan_digs(const struct star_table *t, uint8_t *text);
+
 /* Fills the path matrix of the plan as star_paths does; matrix has 16 n words. */
 struct star_answer star_table_paths(const struct star_table *t, uint32_t from, uint64_t *matrix);
 

@@ -67,6 +67,13 @@ struct star_answer star_table_digs(const struct star_table *t, uint8_t *text) {
     return star_read_answer(answer);
 }
 
+struct star_answer star_table_plan_digs(const struct star_table *t, uint8_t *text) {
+    uint8_t answer[STAR_ANSWER_BYTES];
+    struct lent as = lent_as(t);
+    ASK(t, as, plan_digs, t->mark, as.len, text, STAR_MAX_LIST, ANSWER(answer));
+    return star_read_answer(answer);
+}
+
 struct star_answer star_table_paths(const struct star_table *t, uint32_t from, uint64_t *matrix) {
     uint8_t answer[STAR_ANSWER_BYTES];
     struct lent as = lent_as(t);

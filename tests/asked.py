@@ -200,11 +200,25 @@ def digs(console, r, n, rows):
     tell((status, out, err) == (0, "".join(lines), ""), f"digs: {out} {text(n, rows)}")
 
 
+def plan_digs(console, r, n, rows):
+    """The list of marks that are any tree; of marks that are none there is no list."""
+    chosen = tree(n, [(*row[:2], r.randint(0, 9), row[3]) for row in rows])
+    if chosen is None:
+        return
+    status, out, err = console.ask("digs", text(n, rows, chosen), "--plan")
+    lines = ["%d %d %d %d\n" % (i, *rows[i - 1][:3]) for i in sorted(chosen)] + ["Total %d\n" % total(rows, chosen)]
+    tell((status, out, err) == (0, "".join(lines), ""), f"digs --plan: {out} {text(n, rows, chosen)}")
+    if n > 1:
+        fewer = sorted(chosen)[1:]
+        status, out, err = console.ask("digs", text(n, rows, fewer), "--plan")
+        tell((status, out) == (2, "Refused 9 0\n") and err.startswith("Refused (9): "), f"digs --plan: {out} {err} {text(n, rows, fewer)}")
+
+
 def main(star):
     r, console = random.Random(11), Console(star)
     for _ in range(250):
         n, rows = table(r)
-        for question in (quote, breaking, stretch, which, digs):
+        for question in (quote, breaking, stretch, which, digs, plan_digs):
             question(console, r, n, rows)
     print(f"{passed} passed, {failed} failed")
     return failed != 0

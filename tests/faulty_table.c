@@ -135,6 +135,14 @@ struct star_answer faulty_table_digs(const struct star_table *t, uint8_t *text) 
     return r;
 }
 
+struct star_answer faulty_table_plan_digs(const struct star_table *t, uint8_t *text) {
+    struct star_answer r;
+    if (fault("plan-digs-of-a-least-one")) return star_table_digs(t, text);
+    r = star_table_plan_digs(t, text);
+    if (fault("plan-digs-zero-behind") && r.kind == STAR_PASSED) text[r.amount] = 0;
+    return r;
+}
+
 struct star_answer faulty_table_paths(const struct star_table *t, uint32_t from, uint64_t *matrix) {
     return star_table_paths(t, fault("paths-from-one") && from <= t->n ? 1 : from, matrix);
 }

@@ -21,6 +21,7 @@ struct star_verdict faulty_table_which(const struct star_table *t, const uint8_t
 struct star_quoted faulty_table_quote(const struct star_table *t, uint32_t row, int32_t price);
 struct star_answer faulty_table_breaking(const struct star_table *t, uint32_t row);
 struct star_answer faulty_table_digs(const struct star_table *t, uint8_t *text);
+struct star_answer faulty_table_plan_digs(const struct star_table *t, uint8_t *text);
 struct star_answer faulty_table_paths(const struct star_table *t, uint32_t from, uint64_t *matrix);
 struct star_imported faulty_table_read(struct star_table *t, const char *text, size_t len);
 size_t faulty_table_write(const struct star_table *t, char *text, size_t size);

@@ -424,6 +424,7 @@ def randomly():
         asked = [["check", "-"], ["build", "-"], ["explain", "-", "--all"], ["explain", "-", i],
                  ["quote", "-", i, str(random.randrange(-99, 99))], ["breaking", "-", i],
                  ["stretch", "-", str(a), str(b)], ["mend", "-", "--steps"], ["digs", "-"],
+                 ["digs", "-", "--plan"],
                  ["add", "-", str(a), str(b), "7"], ["merge", "-"], ["strike", "-", i],
                  ["unstrike", "-", i], ["mark", "-", i, "1"], ["unmark", "-", "1", i],
                  ["price", "-", i, "3"],

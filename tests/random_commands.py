@@ -30,7 +30,7 @@ ENVIRONMENT = dict(os.environ, ASAN_OPTIONS="exitcode=%d" % FAULT,
                    UBSAN_OPTIONS="exitcode=%d:halt_on_error=1" % FAULT)
 NUMBERS = ["0", "1", "2", "3", "4", "5", "8", "007", "255", "256", "1024", "1025", "-1", "-7",
            "2147483647", "-2147483648", "2147483648", "4294967296", "99999999999999999999"]
-OPTIONS = ["--table", "--all", "--steps", "--json", "--certificate", "--help", "--", "-x", "-h"]
+OPTIONS = ["--table", "--all", "--steps", "--json", "--certificate", "--plan", "--help", "--", "-x", "-h"]
 
 
 def table(dice):

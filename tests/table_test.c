@@ -192,6 +192,9 @@ static void ask(void) {
     star_work_digs(ROWS, ours, sizeof ours, answer, 16);
     tell(same_answers(star_table_digs(&t, theirs)), "digs");
     tell(!memcmp(theirs, ours, sizeof ours), "the list");
+    star_work_plan_digs(ROWS, MARK, ours, sizeof ours, answer, 16);
+    tell(same_answers(star_table_plan_digs(&t, theirs)), "the plan's digs");
+    tell(!memcmp(theirs, ours, sizeof ours), "the plan's list");
     star_work_paths(ROWS, MARK, from, columns, 16 * (size_t)own.n, answer, 16);
     tell(same_answers(star_table_paths(&t, from, matrix)), "paths");
     tell(!memcmp(matrix, columns, sizeof matrix) && same_tables(), "the matrix");

@@ -282,12 +282,9 @@ export class App {
     } else this.tell('change');
   }
 
-  /** The dig list of the plan, by the core: the least network of the marked rows alone is the plan
-   * itself. */
+  /** The dig list of the plan, by the core. */
   digs() {
-    const plan = planCopy(this.plan);
-    plan.struck = plan.struck.map((struck, i) => (plan.mark[i] === 1 ? struck : 1));
-    return this.core.digs(plan);
+    return this.core.digs(this.plan);
   }
 
   /** The table file as it stands. */

@@ -209,12 +209,13 @@ export class Core {
     return this.ask('star_work_breaking', p.n, ...this.table(), row);
   }
 
-  /** The dig list of the least network of the rows in use, as a text.
+  /** The dig list of the marks, if they are a network, as a text.
    * @param {Plan} p */
   digs(p) {
     this.put(p);
+    const list = [this.list, BigInt(MAX_LIST)];
     const answer = this.ask(
-      'star_work_digs', p.n, ...this.table(), this.list, BigInt(MAX_LIST));
+      'star_work_plan_digs', p.n, ...this.table(), ...this.marks(), ...list);
     const end = this.list + (answer.kind === PASSED ? answer.amount : 0);
     return { ...answer, text: new TextDecoder().decode(this.memory.slice(this.list, end)) };
   }

@@ -19,10 +19,10 @@ function digsRow(line) {
 /** @param {App} app */
 export function digsShow(app) {
   const answer = app.digs();
-  const listed = answer.kind === PASSED && app.judgement.network;
+  const listed = answer.kind === PASSED;
   byId('digs-note').textContent = listed
     ? 'The trenches of the plan, listed by the proved core.'
-    : `No list: ${app.core.refusal(app.judgement.verdict.number)}.`;
+    : `No list: ${app.core.refusal(answer.number)}.`;
   const lines = listed ? answer.text.trim().split('\n') : [];
   byId('digs-rows').replaceChildren(...lines.map(digsRow));
   const copy = byId('digs-table').cloneNode(true);

@@ -106,8 +106,9 @@ class Questions(Content):
             raise Refused(a.number, a.out)
         return a.amount if a.kind == lib.PASSED else None
 
-    def digs(self) -> str:
-        """The dig list of a least network: a line a row, and the total.
+    def digs(self, plan: bool = False) -> str:
+        """The dig list of a least network: a line a row, and the total. With plan that of the
+        marked rows, least or not; refused (Refused) where they are no network.
 
         >>> print(Table(2, [(1, 2, 7)]).digs(), end="")
         1 1 2 7
@@ -115,7 +116,7 @@ class Questions(Content):
         """
         text = ctypes.create_string_buffer(lib.MAX_LIST)
         with self._lock:
-            a = lib.digs(self._at, text)
+            a = (lib.plan_digs if plan else lib.digs)(self._at, text)
         if a.kind == lib.REFUSED:
             raise Refused(a.number, a.out)
         return ctypes.string_at(text, a.amount).decode()

@@ -325,14 +325,15 @@ const GROUPS = {
   },
 
   async lists() {
-    await choose(example('yard.txt'));
-    await press('digs');
-    const rows = await b.value(`[...document.querySelectorAll('#digs-rows tr')].map((row) =>
-      [...row.cells].slice(0, 4).map((cell) => cell.innerText).join(' ').trim()).join('\\n')`);
-    const others = path.join(folder, 'others.txt');
-    fs.writeFileSync(others, star('strike', example('yard.txt'), '1', '5'));
-    check('the dig list of the plan', rows === star('digs', others).trim());
-    await b.value("document.getElementById('digs').close()");
+    for (const name of ['yard.txt', 'old.txt', 'yard-dear.txt']) {
+      await choose(example(name));
+      await press('digs');
+      const rows = await b.value(`[...document.querySelectorAll('#digs-rows tr')].map((row) =>
+        [...row.cells].slice(0, 4).map((cell) => cell.innerText).join(' ').trim()).join('\\n')`);
+      const told = star('digs', '--plan', example(name)).trim();
+      check(`the dig list of ${name}`, rows === (told.startsWith('Refused') ? '' : told));
+      await b.value("document.getElementById('digs').close()");
+    }
     await choose(example('street.stp'));
     check('an STP text', (await b.value('star.app.plan.m')) > 0);
     check('as a table', (await saved()) === star('table', example('street.stp')));

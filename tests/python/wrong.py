@@ -245,7 +245,7 @@ class Threads(unittest.TestCase):
         "check": lambda t: t.check(), "other": lambda t: t.other(), "build": lambda t: t.build(),
         "which": lambda t: t.which([1, 2, 3], [1, 2, 4]), "paths": lambda t: t.path(1, 3),
         "quote": lambda t: t.quote(4, 9), "breaking": lambda t: t.breaking(4),
-        "digs": lambda t: t.digs(), "mend": lambda t: t.mend(),
+        "digs": lambda t: t.digs(), "plan_digs": lambda t: t.digs(plan=True), "mend": lambda t: t.mend(),
         "outlets": lambda t: t.outlets(1, 2), "districts": lambda t: t.districts([2, 5]),
         "add": lambda t: t.add(2, 4, 9), "strike": lambda t: t.strike(6),
         "merge": lambda t: t.merge(), "mark": lambda t: t.mark(1), "write": lambda t: t.to_text()}
