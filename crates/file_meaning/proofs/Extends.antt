@@ -16,12 +16,7 @@ use Rattle.file_spec.specs.Pieces.{Piece}
 use Rattle.file_spec.specs.Line.{Line, Trench, End, number, name, nothing, counting, trench, wrong, lineOf, mixed, manyRows, manyNames}
 use Rattle.file_spec.specs.Reader.{Read, Reading, broken, read, kindOf, metEnd, numberIn, withTold, withRow, namesAfter, namesAtAfter, otherKind, laid, recount, next, follow, readLines}
 use Rattle.file_meaning.proofs.Names.{number-over, left-known, right-known}
-use Rattle.file_meaning.specs.Means.{trenchIn, trenchesIn, countIn, countsIn, EndOf, here-left, here-right, later, namesOver}
-
--- four bytes a price
-unfoldable pub weightsOf : List Trench → List ℕ
-weightsOf [] = []
-weightsOf (t ∷ ts) = bytesOf 4 (toBits 32 (t .price)) ++ weightsOf ts
+use Rattle.file_meaning.specs.Means.{trenchIn, trenchesIn, countIn, countsIn, EndOf, here-left, here-right, later, namesOver, weightsOf}
 
 -- what is told after lines that say how many junctions there are
 abbrev pub ToldBy : Option ℕ → List ℕ → Option ℕ → Type 0

@@ -15,7 +15,7 @@ use Rattle.stp_words.specs.Numbers.{numberOf, priceOf}
 use Rattle.file_spec.specs.Names.{isName}
 use Rattle.file_spec.specs.Pieces.{Piece, fields}
 use Rattle.file_spec.specs.Line.{Line, Trench, End, number, name, nothing, counting, trench, wrong, lineOf, says, endOf, numbered, digitMark, markOf, marked, whole, row, fielded, counted, count, said}
-use Rattle.file_meaning.specs.Means.{EndSaid, a-number, a-name, markSaid, TrenchSaid}
+use Rattle.file_meaning.specs.Means.{EndSaid, a-number, a-name, markSaid, TrenchSaid, CountSaid}
 
 -- ── Ends and marks ──
 
@@ -80,7 +80,7 @@ record FieldsSaid (fs : List Piece) (t : Trench) : Type 0 where
   m : ℕ
   line : fs ≡ word ++ (a ∷ b ∷ c ∷ d)
   one-mark : length d ≤ 1
-  struck-said : ((t .struck ≡ true) × (f : Piece) × (word ≡ f ∷ []) × (says "struck" f ≡ true)) ⊎ ((t .struck ≡ false) × (word ≡ []) × (says "price" c ≡ false))
+  struck-said : ((t .struck ≡ true) × (f : Piece) × (word ≡ f ∷ []) × (says "struck" f ≡ true)) ⊎ ((t .struck ≡ false) × (word ≡ []) × (says "price" c ≡ false) × (says "struck" a ≡ false) × (says "junctions" a ≡ false))
   left-said : EndSaid (a .letters) (t .left)
   right-said : EndSaid (b .letters) (t .right)
   price-said : priceOf (c .letters) ≡ some (t .price)
@@ -127,17 +127,17 @@ row-said s at a b c m mat t q = go (not s && says "price" c) refl q
     go true h q = let z : _≡_ {A = ℕ} 0 1 = cc in absurd (omega arith)
     go false h q = (h, whole-said s at a b (c .at) (endOf (a .letters)) (endOf (b .letters)) (priceOf (c .letters)) m mat t q)
 
--- the word before a trench: struck, or nothing
-data Word (s : Bool) (word : List Piece) : Type 0 where
-  the-word : s ≡ true → (f : Piece) → word ≡ f ∷ [] → says "struck" f ≡ true → Word s word
-  no-word : s ≡ false → word ≡ [] → Word s word
+-- the word before the fields of a trench: struck; or nothing, and the first field is none of the two words
+data Word (s : Bool) (fs word : List Piece) : Type 0 where
+  the-word : s ≡ true → (f : Piece) → word ≡ f ∷ [] → says "struck" f ≡ true → Word s fs word
+  no-word : s ≡ false → word ≡ [] → ((a : Piece) (gs : List Piece) → fs ≡ a ∷ gs → (says "struck" a ≡ false) × (says "junctions" a ≡ false)) → Word s fs word
 
-word-said : (s : Bool) (word : List Piece) (c : Piece) (t : Trench) → t .struck ≡ s → (not s && says "price" c) ≡ false → Word s word
-    → ((t .struck ≡ true) × (f : Piece) × (word ≡ f ∷ []) × (says "struck" f ≡ true)) ⊎ ((t .struck ≡ false) × (word ≡ []) × (says "price" c ≡ false))
-word-said s word c t e h (the-word z f l u) = inl (e ∙ z, f, l, u)
-word-said s word c t e h (no-word z l) = inr (e ∙ z, l, rw z at h)
+word-said : (s : Bool) (word : List Piece) (a b c : Piece) (d : List Piece) (t : Trench) → t .struck ≡ s → (not s && says "price" c) ≡ false → Word s (a ∷ b ∷ c ∷ d) word
+    → ((t .struck ≡ true) × (f : Piece) × (word ≡ f ∷ []) × (says "struck" f ≡ true)) ⊎ ((t .struck ≡ false) × (word ≡ []) × (says "price" c ≡ false) × (says "struck" a ≡ false) × (says "junctions" a ≡ false))
+word-said s word a b c d t e h (the-word z f l u) = inl (e ∙ z, f, l, u)
+word-said s word a b c d t e h (no-word z l n) = let u = n a (b ∷ c ∷ d) refl in inr (e ∙ z, l, rw z at h, u .0, u .1)
 
-three-said : (s : Bool) (at : ℕ) (word : List Piece) (a b c : Piece) (d : List Piece) (m : Option ℕ) (mat : ℕ) (t : Trench) → length d ≤ 1 → Word s word → markSaid d ≡ m
+three-said : (s : Bool) (at : ℕ) (word : List Piece) (a b c : Piece) (d : List Piece) (m : Option ℕ) (mat : ℕ) (t : Trench) → length d ≤ 1 → Word s (a ∷ b ∷ c ∷ d) word → markSaid d ≡ m
     → ((v : ℕ) → m ≡ some v → v ≤ 1) → row s at a b c m mat ≡ trench t → FieldsSaid (word ++ (a ∷ b ∷ c ∷ d)) t
 three-said s at word a b c d m mat t one w k small q =
     let g = row-said s at a b c m mat t q in
@@ -151,7 +151,7 @@ three-said s at word a b c d m mat t one w k small q =
       m = h .v;
       line = refl;
       one-mark = one;
-      struck-said = word-said s word c t (h .struck) (g .0) w;
+      struck-said = word-said s word a b c d t (h .struck) (g .0) w;
       left-said = end-said (a .letters) (t .left) (h .left);
       right-said = end-said (b .letters) (t .right) (h .right);
       price-said = h .price;
@@ -160,7 +160,7 @@ three-said s at word a b c d m mat t one w k small q =
       mark-kept = h .kept ∙ ap (λ x. marked x (h .v)) (sym (h .struck));
     }
 
-fielded-said : (s : Bool) (at : ℕ) (word fs : List Piece) (t : Trench) → Word s word → fielded s at fs ≡ trench t → FieldsSaid (word ++ fs) t
+fielded-said : (s : Bool) (at : ℕ) (word fs : List Piece) (t : Trench) → Word s fs word → fielded s at fs ≡ trench t → FieldsSaid (word ++ fs) t
 unfolding fielded markSaid
 fielded-said s at word [] t w q = let z : _≡_ {A = ℕ} 0 1 = cc in absurd (omega arith)
 fielded-said s at word (a ∷ []) t w q = let z : _≡_ {A = ℕ} 0 1 = cc in absurd (omega arith)
@@ -184,12 +184,17 @@ counts-none at (a ∷ b ∷ fs) t q = let z : _≡_ {A = ℕ} 0 1 = cc in omega 
 said-said : (fs : List Piece) (t : Trench) → said fs ≡ trench t → FieldsSaid fs t
 unfolding said
 said-said [] t q = let z : _≡_ {A = ℕ} 0 1 = cc in absurd (omega arith)
-said-said (f ∷ fs) t q = go (says "struck" f) (says "junctions" f) refl q
+said-said (f ∷ fs) t q = go (says "struck" f) (says "junctions" f) refl refl q
   where
-    go : (x y : Bool) → says "struck" f ≡ x → cond x (fielded true (f .at) fs) (cond y (count (f .at) fs) (fielded false (f .at) (f ∷ fs))) ≡ trench t → FieldsSaid (f ∷ fs) t
-    go true y h q = fielded-said true (f .at) (f ∷ []) fs t (the-word refl f refl h) q
-    go false true h q = absurd (counts-none (f .at) fs t q)
-    go false false h q = fielded-said false (f .at) [] (f ∷ fs) t (no-word refl refl) q
+    words : says "struck" f ≡ false → says "junctions" f ≡ false → (a : Piece) (gs : List Piece) → f ∷ fs ≡ a ∷ gs → (says "struck" a ≡ false) × (says "junctions" a ≡ false)
+    words h g a gs e =
+        let z : f ≡ a = cc in
+        (ap (says "struck") (sym z) ∙ h, ap (says "junctions") (sym z) ∙ g)
+
+    go : (x y : Bool) → says "struck" f ≡ x → says "junctions" f ≡ y → cond x (fielded true (f .at) fs) (cond y (count (f .at) fs) (fielded false (f .at) (f ∷ fs))) ≡ trench t → FieldsSaid (f ∷ fs) t
+    go true y h g q = fielded-said true (f .at) (f ∷ []) fs t (the-word refl f refl h) q
+    go false true h g q = absurd (counts-none (f .at) fs t q)
+    go false false h g q = fielded-said false (f .at) [] (f ∷ fs) t (no-word refl refl (words h g)) q
 
 pub line-said : (p : Piece) (t : Trench) → lineOf p ≡ trench t → TrenchSaid p t
 unfolding lineOf
@@ -212,3 +217,56 @@ line-said p t q =
       mark-binary = h .mark-binary;
       mark-kept = h .mark-kept;
     }
+
+-- ── Lines that count ──
+
+no-count-whole : (s : Bool) (at : ℕ) (a b : Piece) (c : ℕ) (x y : Option End) (p : Option ℤ) (m : Option ℕ) (mat v w : ℕ) → whole s at a b c x y p m mat ≡ counting v w → ⊥
+unfolding whole
+no-count-whole s at a b c none y p m mat v w q = let z : _≡_ {A = ℕ} 0 1 = cc in omega arith
+no-count-whole s at a b c (some x) none p m mat v w q = let z : _≡_ {A = ℕ} 0 1 = cc in omega arith
+no-count-whole s at a b c (some x) (some y) none m mat v w q = let z : _≡_ {A = ℕ} 0 1 = cc in omega arith
+no-count-whole s at a b c (some x) (some y) (some p) none mat v w q = let z : _≡_ {A = ℕ} 0 1 = cc in omega arith
+no-count-whole s at a b c (some x) (some y) (some p) (some m) mat v w q = let z : _≡_ {A = ℕ} 0 1 = cc in omega arith
+
+no-count-row : (s : Bool) (at : ℕ) (a b c : Piece) (m : Option ℕ) (mat v w : ℕ) → row s at a b c m mat ≡ counting v w → ⊥
+unfolding row
+no-count-row s at a b c m mat v w q = go (not s && says "price" c) q
+  where
+    go : (x : Bool) → cond x nothing (whole s at a b (c .at) (endOf (a .letters)) (endOf (b .letters)) (priceOf (c .letters)) m mat) ≡ counting v w → ⊥
+    go true q = let z : _≡_ {A = ℕ} 0 1 = cc in omega arith
+    go false q = no-count-whole s at a b (c .at) (endOf (a .letters)) (endOf (b .letters)) (priceOf (c .letters)) m mat v w q
+
+no-count-fields : (s : Bool) (at : ℕ) (fs : List Piece) (v w : ℕ) → fielded s at fs ≡ counting v w → ⊥
+unfolding fielded
+no-count-fields s at [] v w q = let z : _≡_ {A = ℕ} 0 1 = cc in omega arith
+no-count-fields s at (a ∷ []) v w q = let z : _≡_ {A = ℕ} 0 1 = cc in omega arith
+no-count-fields s at (a ∷ b ∷ []) v w q = let z : _≡_ {A = ℕ} 0 1 = cc in omega arith
+no-count-fields s at (a ∷ b ∷ c ∷ []) v w q = no-count-row s at a b c (some 0) (c .at) v w q
+no-count-fields s at (a ∷ b ∷ c ∷ d ∷ []) v w q = no-count-row s at a b c (markOf d) (d .at) v w q
+no-count-fields s at (a ∷ b ∷ c ∷ d ∷ e ∷ fs) v w q = let z : _≡_ {A = ℕ} 0 1 = cc in omega arith
+
+counted-is : (at : ℕ) (o : Option ℕ) (v w : ℕ) → counted at o ≡ counting v w → o ≡ some v
+unfolding counted
+counted-is at none v w q = let z : _≡_ {A = ℕ} 0 1 = cc in absurd (omega arith)
+counted-is at (some u) v w q = let z : u ≡ v = cc in ap some z
+
+count-is : (at : ℕ) (fs : List Piece) (v w : ℕ) → count at fs ≡ counting v w → (b : Piece) × (fs ≡ b ∷ []) × (numberOf (b .letters) ≡ some v)
+unfolding count
+count-is at [] v w q = let z : _≡_ {A = ℕ} 0 1 = cc in absurd (omega arith)
+count-is at (b ∷ []) v w q = (b, refl, counted-is at (numberOf (b .letters)) v w q)
+count-is at (b ∷ c ∷ fs) v w q = let z : _≡_ {A = ℕ} 0 1 = cc in absurd (omega arith)
+
+counts-said : (fs : List Piece) (v w : ℕ) → said fs ≡ counting v w → (a b : Piece) × (fs ≡ a ∷ b ∷ []) × (says "junctions" a ≡ true) × (numberOf (b .letters) ≡ some v)
+unfolding said
+counts-said [] v w q = let z : _≡_ {A = ℕ} 0 1 = cc in absurd (omega arith)
+counts-said (f ∷ fs) v w q = go (says "struck" f) (says "junctions" f) refl q
+  where
+    go : (x y : Bool) → says "junctions" f ≡ y → cond x (fielded true (f .at) fs) (cond y (count (f .at) fs) (fielded false (f .at) (f ∷ fs))) ≡ counting v w
+        → (a b : Piece) × (f ∷ fs ≡ a ∷ b ∷ []) × (says "junctions" a ≡ true) × (numberOf (b .letters) ≡ some v)
+    go true y h q = absurd (no-count-fields true (f .at) fs v w q)
+    go false true h q = let (b, e, n) = count-is (f .at) fs v w q in (f, b, ap (λ l. f ∷ l) e, h, n)
+    go false false h q = absurd (no-count-fields false (f .at) (f ∷ fs) v w q)
+
+pub count-line-said : (p : Piece) (v w : ℕ) → lineOf p ≡ counting v w → CountSaid p v
+unfolding lineOf
+count-line-said p v w q = let (a, b, e, h, n) = counts-said (fields p) v w q in record { a = a; b = b; line = e; word-said = h; number-said = n }

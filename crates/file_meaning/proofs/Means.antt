@@ -21,10 +21,10 @@ use Rattle.file_spec.specs.Names.{position}
 use Rattle.file_spec.specs.Pieces.{Piece}
 use Rattle.file_spec.specs.Line.{Line, Trench, End, number, name, nothing, counting, trench, wrong, lineOf}
 use Rattle.file_spec.specs.Reader.{Read, Reading, broken, read, kindOf, numberIn, nothingRead, bodyAt, readLines, readText, largest, toldOr, junctions}
-use Rattle.file_meaning.proofs.Lines.{line-said}
+use Rattle.file_meaning.proofs.Lines.{line-said, count-line-said}
 use Rattle.file_meaning.proofs.Names.{Proper, proper-none, proper-over, Known, all-known, over-from, getD-in, name-found}
-use Rattle.file_meaning.proofs.Extends.{weightsOf, ToldBy, Extended, reads, none-wrong}
-use Rattle.file_meaning.specs.Means.{linesOf, trenchIn, trenchesIn, trenches, countsIn, counts, EndOf, here-left, here-right, later, namesOver, EndSaid, a-number, a-name, TrenchSaid, RowRead, ReadingMeans, ReadingsMean}
+use Rattle.file_meaning.proofs.Extends.{ToldBy, Extended, reads, none-wrong}
+use Rattle.file_meaning.specs.Means.{linesOf, trenchIn, trenchesIn, trenches, countsIn, counts, EndOf, here-left, here-right, later, namesOver, weightsOf, EndSaid, a-number, a-name, TrenchSaid, RowRead, ReadingMeans, ReadingsMean}
 
 -- ── What every trench of a text is ──
 
@@ -56,12 +56,12 @@ end-of ts e (here-left {t = t}) = (0, t, refl, inl refl)
 end-of ts e (here-right {t = t}) = (0, t, refl, inr refl)
 end-of ts e (later {ts = us} h) = let (k, t, g, s) = end-of us e h in (suc k, t, g, s)
 
-left-end : (ts : List Trench) (k : ℕ) (t : Trench) → getElem? ts k ≡ some t → EndOf ts (t .left)
+pub left-end : (ts : List Trench) (k : ℕ) (t : Trench) → getElem? ts k ≡ some t → EndOf ts (t .left)
 left-end [] k t h = let z : _≡_ {A = ℕ} 0 1 = cc in absurd (omega arith)
 left-end (u ∷ ts) zero t h = let q : u ≡ t = cc in subst (λ v. EndOf (u ∷ ts) (v .left)) q here-left
 left-end (u ∷ ts) (suc k) t h = later (left-end ts k t h)
 
-right-end : (ts : List Trench) (k : ℕ) (t : Trench) → getElem? ts k ≡ some t → EndOf ts (t .right)
+pub right-end : (ts : List Trench) (k : ℕ) (t : Trench) → getElem? ts k ≡ some t → EndOf ts (t .right)
 right-end [] k t h = let z : _≡_ {A = ℕ} 0 1 = cc in absurd (omega arith)
 right-end (u ∷ ts) zero t h = let q : u ≡ t = cc in subst (λ v. EndOf (u ∷ ts) (v .right)) q here-right
 right-end (u ∷ ts) (suc k) t h = later (right-end ts k t h)
@@ -309,6 +309,7 @@ module _ (text : List ℕ) (r : Read) (e : readText text ≡ read r) where
       record {
         stands = none-wrong (linesOf text) nothingRead r e;
         fields-said = λ p t m q. line-said p t q;
+        count-said = λ p v at m q. count-line-said p v at q;
         row = row-read;
         few-rows = few-rows;
         lefts = ap length left-column ∙ length-map ts (λ t. numberIn (r .names) (t .left));

@@ -83,7 +83,7 @@ abbrev pub Known : List (List ℕ) → End → Type 0
 Known ns (number v) = Unit {0}
 Known ns (name w) = position w ns < length ns
 
-met-longer-end : (d : End) (ns : List (List ℕ)) → length ns ≤ length (metEnd d ns)
+pub met-longer-end : (d : End) (ns : List (List ℕ)) → length ns ≤ length (metEnd d ns)
 unfolding metEnd
 met-longer-end (number v) ns = omega arith
 met-longer-end (name w) ns = met-longer w ns

@@ -9,7 +9,8 @@ use mathlib.Core.Option.{Option, none, some}
 use mathlib.Core.Path.{_≡_}
 use lib.ListN.{length, drop, getD, getElem?}
 use Rattle.rowset.specs.Bytes.{inRow}
-use Rattle.rowset.specs.Integers.{signed}
+use Rattle.rowset.specs.Integers.{signed, toBits}
+use Rattle.star_spec.specs.Door.{bytesOf}
 use Rattle.stp_words.specs.Numbers.{numberOf, priceOf}
 use Rattle.file_spec.specs.Names.{isName}
 use Rattle.file_spec.specs.Pieces.{Piece, lines, fields}
@@ -59,6 +60,11 @@ unfoldable pub namesOver : List (List ℕ) → List Trench → List (List ℕ)
 namesOver ns [] = ns
 namesOver ns (t ∷ ts) = namesOver (metEnd (t .right) (metEnd (t .left) ns)) ts
 
+-- four bytes a price
+unfoldable pub weightsOf : List Trench → List ℕ
+weightsOf [] = []
+weightsOf (t ∷ ts) = bytesOf 4 (toBits 32 (t .price)) ++ weightsOf ts
+
 -- ── A line ──
 
 -- an end is what its field says: a number from 1 to 255, or else the field's own bytes, which are a name
@@ -81,13 +87,21 @@ pub record TrenchSaid (p : Piece) (t : Trench) : Type 0 where
   pub m : ℕ
   pub line : fields p ≡ word ++ (a ∷ b ∷ c ∷ d)
   pub one-mark : length d ≤ 1
-  pub struck-said : ((t .struck ≡ true) × (f : Piece) × (word ≡ f ∷ []) × (says "struck" f ≡ true)) ⊎ ((t .struck ≡ false) × (word ≡ []) × (says "price" c ≡ false))
+  pub struck-said : ((t .struck ≡ true) × (f : Piece) × (word ≡ f ∷ []) × (says "struck" f ≡ true)) ⊎ ((t .struck ≡ false) × (word ≡ []) × (says "price" c ≡ false) × (says "struck" a ≡ false) × (says "junctions" a ≡ false))
   pub left-said : EndSaid (a .letters) (t .left)
   pub right-said : EndSaid (b .letters) (t .right)
   pub price-said : priceOf (c .letters) ≡ some (t .price)
   pub mark-said : markSaid d ≡ some m
   pub mark-binary : m ≤ 1
   pub mark-kept : t .mark ≡ marked (t .struck) m
+
+-- a line junctions N
+pub record CountSaid (p : Piece) (v : ℕ) : Type 0 where
+  pub a : Piece
+  pub b : Piece
+  pub line : fields p ≡ a ∷ b ∷ []
+  pub word-said : says "junctions" a ≡ true
+  pub number-said : numberOf (b .letters) ≡ some v
 
 -- ── A reading ──
 
@@ -101,9 +115,10 @@ pub record RowRead (r : Read) (k : ℕ) (t : Trench) : Type 0 where
 
 -- what was read of a text
 pub record ReadingMeans (text : List ℕ) (r : Read) : Type 0 where
-  -- no line is passed over: each says nothing, how many junctions there are, or a trench, and a trench is what its fields say
+  -- no line is passed over: each says nothing, how many junctions there are, or a trench, and these are what its fields say
   pub stands : (p : Piece) → List·Memᴰ p (linesOf text) → (reason at : ℕ) → lineOf p ≡ wrong reason at → ⊥
   pub fields-said : (p : Piece) (t : Trench) → List·Memᴰ p (linesOf text) → lineOf p ≡ trench t → TrenchSaid p t
+  pub count-said : (p : Piece) (v at : ℕ) → List·Memᴰ p (linesOf text) → lineOf p ≡ counting v at → CountSaid p v
   -- row i is the i-th trench line, and there are no other rows
   pub row : (k : ℕ) (t : Trench) → getElem? (trenches text) k ≡ some t → RowRead r k t
   pub few-rows : length (trenches text) ≤ 1024

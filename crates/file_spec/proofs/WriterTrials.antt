@@ -17,5 +17,5 @@ use Rattle.file_spec.specs.WriterTrials.{WriterTrialsHold}
 use Rattle.file_spec.specs.Writer as writer
 
 pub writer-trials-hold : WriterTrialsHold
-unfolding bytes within upper same allDigits isEmpty decimal digitsTo numberOf opensBelow below priceOf digitsBy natural integer names.equal names.position names.met names.metAt names.isLetter names.ofNames names.anyLetter names.allOfNames names.isName pieces.endsLine pieces.isBlank pieces.before pieces.isByte pieces.grow pieces.cut pieces.unless pieces.pieces pieces.frontTrimmed pieces.keep pieces.backTrimmed pieces.trimmed pieces.content pieces.holds pieces.separator pieces.unclosed pieces.closes pieces.opensQuote pieces.unquoted pieces.field pieces.isEmpty pieces.full pieces.keepField pieces.endTrimmed pieces.parted pieces.fieldsBy pieces.fields pieces.lines line.says line.numbered line.endOf line.digitMark line.markOf line.marked line.whole line.row line.fielded line.counted line.count line.said line.lineOf reader.nothingRead reader.kindOf reader.metEnd reader.metEndAt reader.numberIn reader.withTold reader.withRow reader.namesAfter reader.namesAtAfter reader.otherKind reader.laid reader.recount reader.next reader.follow reader.readLines reader.opensMarked reader.bodyAt reader.readText reader.largest reader.toldOr reader.junctions writer.nameAt writer.endText writer.struckText writer.rowText writer.rowsText writer.tableText writer.written shown weights toBits bytesOf little inRow fromBits
-writer-trials-hold = record { back-hold = refl }
+unfolding bytes within upper same allDigits isEmpty decimal digitsTo numberOf opensBelow below priceOf digitsBy natural integer names.equal names.position names.met names.metAt names.isLetter names.ofNames names.anyLetter names.allOfNames names.isName pieces.endsLine pieces.isBlank pieces.before pieces.isByte pieces.grow pieces.cut pieces.unless pieces.pieces pieces.frontTrimmed pieces.keep pieces.backTrimmed pieces.trimmed pieces.content pieces.holds pieces.separator pieces.unclosed pieces.closes pieces.opensQuote pieces.unquoted pieces.field pieces.isEmpty pieces.full pieces.keepField pieces.endTrimmed pieces.parted pieces.fieldsBy pieces.fields pieces.lines line.says line.numbered line.endOf line.digitMark line.markOf line.marked line.whole line.row line.fielded line.counted line.count line.said line.lineOf reader.nothingRead reader.kindOf reader.metEnd reader.metEndAt reader.numberIn reader.withTold reader.withRow reader.namesAfter reader.namesAtAfter reader.otherKind reader.laid reader.recount reader.next reader.follow reader.readLines reader.opensMarked reader.bodyAt reader.readText reader.largest reader.toldOr reader.junctions writer.fieldsText writer.linesText writer.countFields writer.struckFields writer.endBytes writer.trenchFields writer.trenchesFields writer.fileText writer.nameAt writer.endText writer.rowFields writer.rowsFields writer.tableText writer.written shown weights toBits bytesOf little inRow fromBits
+writer-trials-hold = record { back-hold = refl; texts-hold = refl }

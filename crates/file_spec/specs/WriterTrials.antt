@@ -1,4 +1,4 @@
--- Trials of the writer: what is written of what was read reads back as the same table.
+-- Trials of the writer: what is written of what was read, and that it reads back as the same table.
 -- Assumes nothing.
 use Prim.Native.Nat.{ℕ}
 use Prim.Native.String.{String}
@@ -21,5 +21,16 @@ written-back =
     ∷ (back "struck,b,a,5,1\na,b,6,1\njunctions,9,,\n", table 9 (1 ∷ 2 ∷ []) (2 ∷ 1 ∷ []) (weights (pos 5 ∷ pos 6 ∷ [])) (0 ∷ 1 ∷ []) (true ∷ false ∷ []) (bytes "b" ∷ bytes "a" ∷ []))
     ∷ []
 
+-- the bytes that are written: the line of junctions first, a line a trench, names for numbers, a struck trench with its word and no mark
+abbrev texts : List (List ℕ × List ℕ)
+texts =
+    (written (readText (bytes "")), bytes "junctions;0\n")
+    ∷ (written (readText (bytes "1 2 5 1\n2 3 -7 0\n")), bytes "junctions;3\n1;2;5;1\n2;3;-7;0\n")
+    ∷ (written (readText (bytes "From,To,Price,Mark\n\"A\",\"B 1\",05,x\n# two\nB 1,C,-7,")), bytes "junctions;3\nA;B 1;5;1\nB 1;C;-7;0\n")
+    ∷ (written (readText (bytes "struck 10 255 -2147483648 1\njunctions 9")), bytes "junctions;9\nstruck;10;255;-2147483648;0\n")
+    ∷ (written (readText (bytes "1 2")), bytes "")
+    ∷ []
+
 pub record WriterTrialsHold : Type 0 where
   pub back-hold : Hold written-back
+  pub texts-hold : Hold texts
