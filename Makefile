@@ -32,7 +32,7 @@ PYTHON ?= python3 -B
 JOBS ?= $(shell nproc 2>/dev/null || echo 2)
 BUILD := target/c
 # The crates whose functions for C the library is made of.
-DOORS := cst_door mst1_door path_door change_door stp_door digs_door plan_digs_door quote_door breaking_door which_door districts_door mend_door outlets_door
+DOORS := cst_door mst1_door path_door change_door stp_door digs_door plan_digs_door quote_door breaking_door which_door districts_door mend_door outlets_door restore_door total_door
 # The archives over which the C is built: compiled without a proof, until make prove puts the proved ones there.
 OBJECTS := target/objects
 ARCHIVES := $(DOORS:%=$(OBJECTS)/lib%.a)

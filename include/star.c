@@ -29,6 +29,7 @@ static const char *const TEXTS[] = {
     [STAR_TABLE_FULL] = "a row is added, and all 1024 are in use",
     [STAR_NOT_IN_USE] = "the row to strike is not in use",
     [STAR_NO_OUTLETS] = "no network has exactly this number of rows at the junction",
+    [STAR_NOT_STRUCK] = "the row to put back is in use, or is none of the table",
 };
 
 const char *star_refusal_text(unsigned number) {

@@ -23,6 +23,7 @@
  * star_digs   writes the dig list of a least network; it takes no marks.
  * star_digs_text  writes the dig list of an STP text.
  * star_plan_digs  writes the dig list of a claim that is a tree.
+ * star_total  adds up the prices of the marked rows, whether they are a tree or not.
  * star_import reads a SteinLib STP text into columns of 1,024 rows; it has no marks.
  * star_districts  finds the least rows of each run of the rows, and a least network from them.
  * star_mend       turns any claim into a least network, and lists each step.
@@ -33,20 +34,22 @@
  * table, and what stands in the others is not looked at.
  *
  * star_work_X   answers as star_X, over the rows in use (cst, other, mst1, paths, quote, breaking,
- *               which, digs, plan_digs, districts, mend, outlets). What is said below of star_X
- *               holds of it too.
+ *               which, digs, plan_digs, total, districts, mend, outlets). What is said below of
+ *               star_X holds of it too.
  * star_strike   takes a row out of use.
+ * star_restore  puts a struck row back into use.
  * star_add      enters a row after the last one in use.
  * star_merge    packs the rows in use to the top, and says where each one went.
  * star_carry    moves marks to where their rows went.
  *
  * Each returns 1 with the verdict in the sixteen bytes of the answer (star_quote: twenty-four), or
  * 0 if the lent answer has another length (star_digs, star_digs_text, star_plan_digs: or the lent
- * text fewer than 6,370 bytes); then nothing is written anywhere. star_which returns 1 for the first claim, 2 for
- * the second, and 0 on a refusal too. Every other input is taken, whatever its bytes and lengths: a
- * fault is told as a refusal with its number and place, and a refused call leaves the marks, the
- * matrix, the columns lent to star_import, the dig list's text, the forests, the records, and the
- * working table and the numbers lent to star_strike, star_add and star_merge, as they were.
+ * text fewer than 6,370 bytes); then nothing is written anywhere. star_which returns 1 for the
+ * first claim, 2 for the second, and 0 on a refusal too. Every other input is taken, whatever its
+ * bytes and lengths: a fault is told as a refusal with its number and place, and a refused call
+ * leaves the marks, the matrix, the columns lent to star_import, the dig list's text, the forests,
+ * the records, and the working table and the numbers lent to star_strike, star_restore, star_add
+ * and star_merge, as they were.
  *
  * The caller owes that each pointer has as many readable bytes behind it as its length says
  * (writable ones behind answer, and behind every other pointer that is not to const), and that a
@@ -112,8 +115,9 @@ enum star_kind {
                         built; star_paths: the matrix is filled; star_quote: both totals are found;
                         star_breaking: there is such a price; star_which: both claims are trees;
                         star_digs, star_plan_digs: the list is written; star_import: the text is
-                        read; star_strike, star_add, star_merge, star_carry, star_districts,
-                        star_mend, star_outlets: done */
+                        read; star_total: the prices are added up; star_strike, star_restore,
+                        star_add, star_merge, star_carry, star_districts, star_mend, star_outlets:
+                        done */
     STAR_LIGHTER = 2 /* star_cst, star_other: a cheaper set exists: the exchange of two rows is
                         one */
 };
@@ -137,7 +141,7 @@ enum star_refusal {
                                     with equal ends */
     STAR_BAD_MARK = 6,           /* place: the uppermost row marked with another byte than 0 and 1
                                     (star_cst, star_other, star_paths, star_which, star_mend,
-                                    star_plan_digs) */
+                                    star_plan_digs, star_total) */
     STAR_BAD_SOURCE = 7,         /* s (star_paths) or r (star_outlets) is 0 or above n; the row
                                     asked about is 0, above m or not in use (star_quote,
                                     star_breaking) */
@@ -165,8 +169,10 @@ enum star_refusal {
     STAR_TABLE_FULL = 17,        /* all 1,024 rows are in use (star_add); told before 3 */
     STAR_NOT_IN_USE = 18,        /* the row is not in use, or none from 1 to 1,024 (star_strike);
                                     told before 3 */
-    STAR_NO_OUTLETS = 19         /* the table is connected, and no network has exactly t rows at r
+    STAR_NO_OUTLETS = 19,        /* the table is connected, and no network has exactly t rows at r
                                     (star_outlets); told after 11 */
+    STAR_NOT_STRUCK = 27         /* the row is in use, or none from 1 to 1,024 (star_restore); told
+                                    before 3 */
 };
 
 /* A refusal in words, such as "no set of rows joins every junction"; never a null pointer, whatever
@@ -253,6 +259,12 @@ uint32_t star_plan_digs(uint32_t n, const uint8_t *left, size_t left_len, const 
                         const uint8_t *mark, size_t mark_len, uint8_t *text, size_t text_len,
                         uint8_t *answer, size_t answer_len);
 
+/* Adds up the prices of the marked rows; amount is their total. They need not be a tree. A refusal
+ * is 1, 2, 3, 4, 15 or 6, in this order. */
+uint32_t star_total(uint32_t n, const uint8_t *left, size_t left_len, const uint8_t *right,
+                    size_t right_len, const uint8_t *weight, size_t weight_len, const uint8_t *mark,
+                    size_t mark_len, uint8_t *answer, size_t answer_len);
+
 /* Whether a row, counted from 1, is on the path to a junction, by a matrix that star_paths has
  * filled. */
 STAR_INLINE int star_on_path(const uint64_t *matrix, uint32_t junction, size_t row) {
@@ -314,6 +326,11 @@ uint32_t star_work_digs(uint32_t n, const uint64_t *in_use, size_t in_use_words,
                         size_t right_len, const uint8_t *weight, size_t weight_len, uint8_t *text,
                         size_t text_len, uint8_t *answer, size_t answer_len);
 
+uint32_t star_work_total(uint32_t n, const uint64_t *in_use, size_t in_use_words,
+                         const uint8_t *left, size_t left_len, const uint8_t *right,
+                         size_t right_len, const uint8_t *weight, size_t weight_len,
+                         const uint8_t *mark, size_t mark_len, uint8_t *answer, size_t answer_len);
+
 uint32_t star_work_plan_digs(uint32_t n, const uint64_t *in_use, size_t in_use_words,
                              const uint8_t *left, size_t left_len, const uint8_t *right,
                              size_t right_len, const uint8_t *weight, size_t weight_len,
@@ -330,6 +347,15 @@ uint32_t star_work_which(uint32_t n, const uint64_t *in_use, size_t in_use_words
  * order. Where nothing is refused the answer's kind is STAR_PASSED and all else is 0. */
 uint32_t star_strike(uint64_t *in_use, size_t in_use_words, uint32_t row, uint8_t *answer,
                      size_t answer_len);
+
+/* Puts a struck row back into use: its bit is set, and it has the ends, the price and the mark that
+ * stand in its place, as before it was struck where nothing was written there. After star_merge,
+ * and after a star_add that packed, other rows stand there. The bytes are not looked at: what is
+ * wrong with them, such as a pair that another row has got since, is told when the table is next
+ * judged or built. A refusal is 27 or 3, in this order. Where nothing is refused the answer's kind
+ * is STAR_PASSED and all else is 0. */
+uint32_t star_restore(uint64_t *in_use, size_t in_use_words, uint32_t row, uint8_t *answer,
+                      size_t answer_len);
 
 /* Enters a row that joins a and b at a price: directly after the last row in use, or at 1 if there
  * is none. Where row 1,024 is in use the table is packed first, as star_merge does. The answer's
@@ -483,8 +509,7 @@ struct star_answer {
     int64_t amount;  /* bytes 8 to 15, two's complement: passed: the total; lighter: the saving,
                         above 0 and at most 4,294,967,295; star_breaking: the breaking price;
                         star_digs, star_plan_digs: the list's length; star_add: the new row's
-                        position; star_mend:
-                        the number of records */
+                        position; star_mend: the number of records */
 };
 
 STAR_INLINE struct star_answer star_read_answer(const uint8_t bytes[16]) {

@@ -15,7 +15,7 @@
 static struct lent t;
 
 /* Passes that were the only cheapest network, and passes that were not. */
-static unsigned long only, not_only;
+static unsigned long only, not_only, totals;
 
 /* Whether the answer's amount is the claim's total, the exchange's saving, or 0. */
 static int amount_holds(struct star_answer a) {
@@ -58,6 +58,7 @@ static void follow(void) {
 /* Every door; star_mst1 last, since it writes the marks. */
 static void all(void) {
     enum door d;
+    totals += doors_agree(&t, TOTAL) == 1 && t.answer[0] == STAR_PASSED;
     for (d = CST; d <= MST1; d++) {
         struct star_answer a;
         int said;
@@ -400,6 +401,7 @@ int main(int count, char **words) {
     share(below_0, 2, tables, "the share of tables with a price below 0");
     share(only, 40, tables, "the share of passes with one cheapest network");
     share(not_only, 40, tables, "the share of passes with more than one");
+    share(totals, 2, tables, "the share of totals");
     printf("%lu tables: %lu with a price below 0, %lu with the least price, %lu with the largest\n",
            made, below_0, least, largest);
     printf("%lu passes of the only cheapest network, %lu of one among others\n", only, not_only);

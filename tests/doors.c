@@ -1,7 +1,7 @@
 #include "doors.h"
 
-static const char *const NAMES[DOORS] = {"cst",    "other", "paths", "mst1",
-                                         "strike", "add",   "merge", "carry"};
+static const char *const NAMES[DOORS] = {"cst",     "other", "paths", "mst1",  "strike",
+                                         "restore", "add",   "merge", "carry", "total"};
 
 #define WORKING_TABLE LENDS(IN_USE) | LENDS(LEFT) | LENDS(RIGHT) | LENDS(WEIGHT)
 const unsigned DOOR_LENDS[DOORS] = {
@@ -10,9 +10,11 @@ const unsigned DOOR_LENDS[DOORS] = {
     WORKING_TABLE | LENDS(MARK) | LENDS(MATRIX) | LENDS(ANSWER),
     WORKING_TABLE | LENDS(MARK) | LENDS(ANSWER),
     LENDS(IN_USE) | LENDS(ANSWER),
+    LENDS(IN_USE) | LENDS(ANSWER),
     WORKING_TABLE | LENDS(NUMBERS) | LENDS(ANSWER),
     WORKING_TABLE | LENDS(NUMBERS) | LENDS(ANSWER),
     LENDS(MARK) | LENDS(NUMBERS) | LENDS(ANSWER),
+    WORKING_TABLE | LENDS(MARK) | LENDS(ANSWER),
 };
 
 #define TO_MARK HANDED(t, p, MARK)
@@ -26,7 +28,9 @@ static uint32_t handed(struct lent *t, struct handed p) {
     case OTHER: return ASK(t, p, other, TO_MARK, TO_ANSWER);
     case MST1: return ASK(t, p, mst1, TO_MARK, TO_ANSWER);
     case PATHS: return ASK(t, p, paths, TO_MARK, t->at, HANDED(t, p, MATRIX), TO_ANSWER);
+    case TOTAL: return ASK(t, p, total, TO_MARK, TO_ANSWER);
     case STRIKE: return star_strike(TO_ROWS, t->at, TO_ANSWER);
+    case RESTORE: return star_restore(TO_ROWS, t->at, TO_ANSWER);
     case ADD: return star_add(TO_ROWS, TABLE(t, p), TO_NUMBERS, t->a, t->b, t->price, TO_ANSWER);
     case MERGE: return star_merge(TO_ROWS, TABLE(t, p), TO_NUMBERS, TO_ANSWER);
     default: return star_carry(TO_NUMBERS, TO_MARK, TO_ANSWER);
@@ -47,7 +51,9 @@ static uint32_t plain_working(struct lent *t, struct call *c, struct in_use u) {
     case OTHER: return plain_work_other(u, c, t->answer, len);
     case MST1: return plain_work_mst1(u, c, t->answer, len);
     case PATHS: return plain_work_paths(u, c, t->at, t->matrix, t->len[MATRIX], t->answer, len);
+    case TOTAL: return plain_work_total(u, c, t->answer, len);
     case STRIKE: return plain_strike(u, t->at, t->answer, len);
+    case RESTORE: return plain_restore(u, t->at, t->answer, len);
     case ADD: return plain_add(u, c, to, t->a, t->b, t->price, t->answer, len);
     case MERGE: return plain_merge(u, c, to, t->answer, len);
     default: return plain_carry(to, t->mark, t->len[MARK], t->answer, len);
@@ -62,6 +68,7 @@ static uint32_t plain(struct lent *t) {
     case CST: return plain_cst(&c, t->answer, len);
     case OTHER: return plain_other(&c, t->answer, len);
     case MST1: return plain_mst1(&c, t->answer, len);
+    case TOTAL: return plain_total(&c, t->answer, len);
     default: return plain_paths(&c, t->at, t->matrix, t->len[MATRIX], t->answer, len);
     }
 }

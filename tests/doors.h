@@ -5,7 +5,7 @@
 
 #include "lent.h"
 
-enum door { CST, OTHER, PATHS, MST1, STRIKE, ADD, MERGE, CARRY, DOORS };
+enum door { CST, OTHER, PATHS, MST1, STRIKE, RESTORE, ADD, MERGE, CARRY, TOTAL, DOORS };
 
 /* The columns that a door is lent, a bit each, and those of all. */
 extern const unsigned DOOR_LENDS[DOORS];

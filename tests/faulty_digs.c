@@ -1,5 +1,5 @@
-/* Faults of the doors of dig lists; those of star_digs_text are its own, and star_plan_digs has some
-   beside those of star_digs. */
+/* Faults of the doors of dig lists; those of star_digs_text are its own, and star_plan_digs has
+   some beside those of star_digs. */
 #include "faulty.h"
 #include "plain_asked.h"
 

@@ -44,6 +44,11 @@ uint32_t fault_after(struct lent *t, struct lent *before, uint32_t said) {
     if (t->door == CST || t->door == OTHER) spoil(t);
     if (t->door == OTHER) spoil_exchange(t);
     if (t->door == PATHS) spoil_paths(t);
+    if (t->door == TOTAL && fault("total-of-the-first-row-lost") && is_passed(t) &&
+        t->len[LEFT] > 0 && t->mark[0] == 1)
+        put_amount(t, star_read_answer(t->answer).amount - star_get_price(t->weight, 0));
+    if (t->door == TOTAL && fault("total-place-lost") && is_refused(t, STAR_BAD_MARK))
+        t->answer[2] ^= 1;
     if (t->door == MST1 && fault("only-and-built") && is_passed(t)) t->answer[6] = 1;
     return said;
 }

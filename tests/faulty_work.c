@@ -48,6 +48,38 @@ static void after_strike(struct lent *t) {
     if (fault("strike-amount")) t->answer[8] = 1;
 }
 
+static void after_restore(struct lent *t) {
+    if (fault("restore-lengths-first") && t->len[IN_USE] != STAR_COLUMN_WORDS)
+        t->answer[1] = STAR_BAD_LENGTHS;
+    if (fault("restore-as-strike") && is_refused(t, STAR_NOT_STRUCK))
+        t->answer[1] = STAR_NOT_IN_USE;
+    if (fault("restore-outside-done") && is_refused(t, STAR_NOT_STRUCK) &&
+        (t->at < 1 || t->at > STAR_MAX_ROWS)) {
+        t->answer[0] = STAR_PASSED;
+        t->answer[1] = 0;
+    }
+    if (!is_passed(t) || t->at < 1 || t->at > STAR_MAX_ROWS) return;
+    if (fault("restore-nothing")) star_set_in_use(t->in_use, t->at, 0);
+    if (fault("restore-next-row")) star_set_in_use(t->in_use, t->at % STAR_MAX_ROWS + 1, 1);
+    if (fault("restore-the-word")) t->in_use[(t->at - 1) / 64] = ~(uint64_t)0;
+    if (fault("restore-amount")) t->answer[8] = 1;
+}
+
+/* The total, with rows that are not in use, or without the last of them, or as 32 bits. */
+static void after_total(struct lent *t) {
+    int64_t total = star_read_answer(t->answer).amount;
+    size_t row;
+    if (fault("total-asks-for-a-tree") && is_passed(t) && lent_judged(t).kind == STAR_REFUSED)
+        put_refusal(t, STAR_BAD_MARK_COUNT, 0);
+    if (!is_passed(t)) return;
+    for (row = 1; row <= STAR_MAX_ROWS && fault("total-of-struck-rows"); row++)
+        if (!star_in_use(t->in_use, row) && t->mark[row - 1] == 1)
+            total += star_get_price(t->weight, row - 1);
+    if (fault("total-of-32-bits")) total = (int32_t)(uint32_t)total;
+    if (fault("total-without-sign") && total < 0) total = -total;
+    put_amount(t, total);
+}
+
 /* The new row in use at another position. */
 static void move_row(struct lent *t, size_t from, size_t to) {
     star_set_in_use(t->in_use, from, 0);
@@ -140,6 +172,8 @@ uint32_t fault_after(struct lent *t, struct lent *before, uint32_t said) {
     if (!said) return said;
     if (t->door <= MST1) after_procedure(t, before);
     if (t->door == STRIKE) after_strike(t);
+    if (t->door == RESTORE) after_restore(t);
+    if (t->door == TOTAL) after_total(t);
     if (t->door == ADD) after_add(t);
     if (t->door == MERGE) after_merge(t, before);
     if (t->door == CARRY) after_carry(t, before);

@@ -195,6 +195,18 @@ static uint32_t judge(const struct call *c, int other, uint8_t *answer, size_t a
     return 1;
 }
 
+uint32_t plain_total(const struct call *c, uint8_t *answer, size_t answer_len) {
+    int64_t total = 0;
+    size_t i;
+    if (answer_len != 16) return 0;
+    if (bad_table(c, answer)) return 1;
+    for (i = 0; i < c->left_len; i++)
+        if (c->mark[i] > 1) return (uint32_t)refuse(answer, 6, i + 1);
+    for (i = c->left_len; i > 0; i--) total += c->mark[i - 1] ? price_of(c, i - 1) : 0;
+    put(answer, 1, 0, 0, 0, 0, total);
+    return 1;
+}
+
 uint32_t plain_cst(const struct call *c, uint8_t *answer, size_t answer_len) {
     return judge(c, 0, answer, answer_len);
 }

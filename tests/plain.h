@@ -17,6 +17,7 @@ struct call {
 uint32_t plain_cst(const struct call *c, uint8_t *answer, size_t answer_len);
 uint32_t plain_other(const struct call *c, uint8_t *answer, size_t answer_len);
 uint32_t plain_mst1(const struct call *c, uint8_t *answer, size_t answer_len);
+uint32_t plain_total(const struct call *c, uint8_t *answer, size_t answer_len);
 
 /* The paths from s, by parent pointers. */
 uint32_t plain_paths(const struct call *c, uint32_t s, uint64_t *matrix, size_t words,

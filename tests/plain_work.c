@@ -91,6 +91,11 @@ uint32_t plain_work_other(struct in_use u, const struct call *c, uint8_t *answer
     return judge(plain_other, u, c, answer, answer_len);
 }
 
+uint32_t plain_work_total(struct in_use u, const struct call *c, uint8_t *answer,
+                          size_t answer_len) {
+    return judge(plain_total, u, c, answer, answer_len);
+}
+
 uint32_t plain_work_mst1(struct in_use u, const struct call *c, uint8_t *answer,
                          size_t answer_len) {
     static struct part p;
@@ -129,6 +134,14 @@ uint32_t plain_strike(struct in_use u, uint32_t row, uint8_t *answer, size_t ans
     if (!used(u, row)) return refuse(answer, 18);
     if (u.count != WORDS) return refuse(answer, 3);
     u.words[(row - 1) / 64] -= (uint64_t)1 << (row - 1) % 64;
+    return put(answer, 1, 0, 0);
+}
+
+uint32_t plain_restore(struct in_use u, uint32_t row, uint8_t *answer, size_t answer_len) {
+    if (answer_len != 16) return 0;
+    if (row < 1 || row > ROWS || used(u, row)) return refuse(answer, 27);
+    if (u.count != WORDS) return refuse(answer, 3);
+    u.words[(row - 1) / 64] += (uint64_t)1 << (row - 1) % 64;
     return put(answer, 1, 0, 0);
 }
 

@@ -76,6 +76,48 @@ static void built_and_struck(void) {
          "fifteen words");
 }
 
+/* A struck row put back, with what stands in its place. */
+static void restored(void) {
+    struct star_answer a;
+    yard("135");
+    asked(STRIKE, 3);
+    a = asked(RESTORE, 3);
+    tell(a.kind == STAR_PASSED && t.in_use[0] == 21 && t.left[2] == 3, "row 3 restored");
+    tell(refuses(RESTORE, 3, STAR_NOT_STRUCK, 0), "row 3 restored twice");
+    tell(refuses(RESTORE, 0, STAR_NOT_STRUCK, 0) && refuses(RESTORE, 1025, STAR_NOT_STRUCK, 0),
+         "rows 0 and 1,025");
+    tell(asked(RESTORE, 1024).kind == STAR_PASSED && t.in_use[15] == (uint64_t)1 << 63,
+         "row 1,024 restored");
+    tell(refuses(CST, 0, STAR_BAD_END, 1024), "a bad end restored is told by the next question");
+    yard("135");
+    put_row(t.left, t.right, t.weight, 2, 2, 1, 9);
+    tell(asked(RESTORE, 2).kind == STAR_PASSED && refuses(MST1, 0, STAR_REPEATED_ROW, 2),
+         "a repeated pair too");
+    yard("135");
+    t.len[IN_USE] = 17;
+    tell(refuses(RESTORE, 1, STAR_NOT_STRUCK, 0) && refuses(RESTORE, 2, STAR_BAD_LENGTHS, 0),
+         "seventeen words");
+    t.len[IN_USE] = 15;
+    tell(refuses(RESTORE, 1, STAR_NOT_STRUCK, 0) && refuses(RESTORE, 1024, STAR_BAD_LENGTHS, 0),
+         "fifteen words");
+}
+
+/* The marks of the yard added up: none, a ring, and a byte 7 at a row that is not in use. */
+static void added_up(void) {
+    struct star_answer a;
+    yard("12345");
+    memset(t.mark, 0, 5);
+    a = asked(TOTAL, 0);
+    tell(a.kind == STAR_PASSED && a.amount == 0, "no mark");
+    t.mark[0] = t.mark[1] = t.mark[4] = 1;
+    tell(asked(TOTAL, 0).amount == 14, "a ring");
+    t.mark[3] = 7;
+    tell(refuses(TOTAL, 0, STAR_BAD_MARK, 4), "a mark that is neither 0 nor 1");
+    asked(STRIKE, 4);
+    star_put_price(t.weight, 4, STAR_MIN_PRICE);
+    tell(asked(TOTAL, 0).amount == 8 + (int64_t)STAR_MIN_PRICE, "row 4 struck, row 5 below 0");
+}
+
 static void merged_and_added(void) {
     struct star_answer a;
     yard("245");
@@ -148,13 +190,15 @@ static void lengths(enum door door) {
             asked(door, 1);
             if (c == ANSWER || c == MATRIX) continue;
             if (door == STRIKE && k == 2) number = STAR_NOT_IN_USE;
+            if (door == RESTORE && k < 2) number = STAR_NOT_STRUCK;
             tell(lent_refuses(&t, number, 0), "the refusal of a length");
         }
 }
 
 /* The largest tables, in a thread of the stack that the header names; the tree before its check. */
 static void *every_door(void *unused) {
-    static const enum door order[DOORS] = {STRIKE, ADD, MST1, CARRY, CST, OTHER, MERGE, PATHS};
+    static const enum door order[DOORS] = {STRIKE, RESTORE, ADD,   MST1,  CARRY,
+                                           CST,    OTHER,   TOTAL, MERGE, PATHS};
     size_t i;
     for (i = 0; i < DOORS; i++) {
         t.at = 3;
@@ -172,6 +216,8 @@ static void small_stack(void) {
 void work_cases(void) {
     enum door door;
     built_and_struck();
+    restored();
+    added_up();
     merged_and_added();
     carried();
     for (door = 0; door < DOORS; door++) lengths(door);

@@ -1,9 +1,10 @@
-/* Compares the doors of working tables with the plain implementation, on sequences of strikes, adds
- * and merges with checks, builds and paths in between. The tables are small ones and the largest,
- * with rows in use at the top, at the bottom, scattered, all of them, or none; what stands at other
- * rows is random. Some calls lend wrong lengths, fifteen or seventeen words, or name rows that are
- * not in use. A claim that passes before a merge, or before an add that packs, is carried through
- * the numbers, and has to pass again with the same total and the same byte 6.
+/* Compares the doors of working tables with the plain implementation, on sequences of strikes, rows
+ * restored, adds and merges with checks, builds, paths and totals in between. The tables are small
+ * ones and the largest, with rows in use at the top, at the bottom, scattered, all of them, or
+ * none; what stands at other rows is random. Some calls lend wrong lengths, fifteen or seventeen
+ * words, or name rows that are not in use. A claim that passes before a merge, or before an add
+ * that packs, is carried through the numbers, and has to pass again with the same total and the
+ * same byte 6.
  * usage: work_test [SEQUENCES [exact]]   prints one line 'N passed, M failed' at its end; exact:
  * columns in memory of their own length */
 #include <stdio.h>
@@ -89,6 +90,23 @@ static void strike(void) {
     compare(STRIKE);
 }
 
+/* A row that is not in use, or now and then one that is, or none. Where a call is done, the row
+   struck again gives the words of before. */
+static void restore(void) {
+    uint64_t before[STAR_COLUMN_WORDS];
+    size_t k;
+    t.at = 1 + any(STAR_MAX_ROWS);
+    for (k = 0; k < STAR_MAX_ROWS && lent_used(&t, t.at); k++) t.at = t.at % STAR_MAX_ROWS + 1;
+    if (any(8) == 0) t.at = lent_any_row(&t);
+    if (any(24) == 0) t.at = any(4) * STAR_MAX_ROWS;
+    if (any(24) == 0) t.at = STAR_MAX_ROWS + 1 + any(70);
+    memcpy(before, t.in_use, sizeof before);
+    compare(RESTORE);
+    if (t.answer[0] != STAR_PASSED || t.len[ANSWER] != STAR_ANSWER_BYTES || any(2)) return;
+    compare(STRIKE);
+    tell(!memcmp(before, t.in_use, sizeof before), "a row restored and struck again");
+}
+
 static void add(int sound) {
     int last = star_in_use(t.in_use, STAR_MAX_ROWS);
     t.a = (uint8_t)(any(8) ? 1 + any(t.n) : any(256));
@@ -120,7 +138,8 @@ static void procedure(void) {
     t.at = any(12) ? 1 + any(t.n) : any(300);
     t.len[MATRIX] = STAR_COLUMN_WORDS * (size_t)n + any(20);
     if (any(12) == 0) t.len[MATRIX] = any((uint32_t)t.len[MATRIX] + 1);
-    compare(CST + any(4));
+    if (any(5) == 0) compare(TOTAL);
+    else compare(CST + any(4));
 }
 
 static void sequence(unsigned long k) {
@@ -128,7 +147,7 @@ static void sequence(unsigned long k) {
     fresh(k);
     while (steps--) {
         int sound = any(9) != 0;
-        uint32_t what = any(20);
+        uint32_t what = any(22);
         lends = ALL_LEND;
         do lent_wrong_length(&t);
         while (any(4) == 0);
@@ -137,13 +156,14 @@ static void sequence(unsigned long k) {
         else if (what < 10) add(sound);
         else if (what < 13) merge(sound);
         else if (what < 14) carry();
+        else if (what < 16) restore();
         else procedure();
         lent_lengths(&t, STAR_MAX_ROWS);
     }
 }
 
 int main(int count, char **words) {
-    static const unsigned numbers[] = {3, 17, 18, 0};
+    static const unsigned numbers[] = {3, 17, 18, 27, 0};
     unsigned long sequences = run(count, words, 50000, work_cases, sequence);
     enum door door;
     for (door = 0; door < DOORS; door++)
@@ -153,9 +173,11 @@ int main(int count, char **words) {
     share(only, 100, sequences, "the share of claims that are the only cheapest network");
     share(packs, 50, sequences, "the share of adds after row 1,024");
     share(refused[STAR_NOT_IN_USE], 50, sequences, "the share of rows not in use");
+    share(refused[STAR_NOT_STRUCK], 50, sequences, "the share of rows not struck");
     share(refused[STAR_BAD_LENGTHS], 20, sequences, "the share of wrong lengths");
-    printf("%lu strikes, %lu adds (%lu after row 1024), %lu merges, %lu carried claims\n",
-           done[STRIKE], done[ADD], packs, done[MERGE], done[CARRY]);
+    printf("%lu strikes, %lu rows restored, %lu adds (%lu after row 1024), %lu merges, %lu carried "
+           "claims, %lu totals\n",
+           done[STRIKE], done[RESTORE], done[ADD], packs, done[MERGE], done[CARRY], done[TOTAL]);
     printf("%lu passed claims carried through the numbers, %lu of them by an add that packs, "
            "%lu of them the only cheapest network\n",
            carried, carried_by_add, only);

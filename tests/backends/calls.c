@@ -25,7 +25,18 @@ static unsigned call_aim(const struct door *door) {
     return any(5) < 2 ? door->refusals[any((uint32_t)count)] : 0;
 }
 
-static int64_t call_row(const struct table *t, unsigned aim) {
+/* A row that is not in use, where there is one. */
+static int64_t call_struck(const struct table *t) {
+    uint32_t row = 1 + any(TABLE_ROWS), k;
+    for (k = 0; k < TABLE_ROWS && star_in_use(t->in_use, row); k++) row = row % TABLE_ROWS + 1;
+    return row;
+}
+
+static int64_t call_row(const struct door *door, const struct table *t, unsigned aim) {
+    if (is(door->name, "star_restore")) {
+        if (aim != STAR_NOT_STRUCK) return call_struck(t);
+        if (any(2)) return any(2) * (TABLE_ROWS + 1);
+    }
     if (t->m == 0 || aim == STAR_BAD_SOURCE || aim == STAR_NOT_IN_USE) return any(TABLE_ROWS + 2);
     return (int64_t)t->at[any((uint32_t)t->m)] + 1;
 }
@@ -42,7 +53,7 @@ static uint32_t call_degree(const struct table *t, uint32_t junction) {
 static int64_t call_number(const struct call *c, const struct table *t, const char *name,
                            unsigned aim) {
     if (is(name, "n")) return t->n;
-    if (is(name, "row")) return call_row(t, aim);
+    if (is(name, "row")) return call_row(c->door, t, aim);
     if (is(name, "price")) return any(2) ? limit_price() : (int32_t)any(20);
     if (is(name, "a") || is(name, "b")) return any(256);
     if (is(name, "t")) {

@@ -2,6 +2,7 @@
 use borrow.Author.Needs.{needs}
 use mathlib.Core.Path.{refl}
 use Rattle.digs.specs.Lists.{Lists}
+use Rattle.in_use.specs.Tables.{tableIn}
 use Rattle.plan_digs.proofs.Laws.{plan-refused, plan-listed}
 use Rattle.plan_digs.proofs.plan_list.Statement.{statement}
 use Rattle.plan_digs.proofs.plan_list.Tie as tie
@@ -18,7 +19,9 @@ returns-2 c =
     let among = claim .before in
     let told = among .before in
     let checked = told .before .before in
-    plan-listed _ (checked .plan-check .ensures) (told .enum-told .given .1) (among .rows-among .ensures) (claim .claim-rows .ensures) (put .put-list .ensures)
+    let a = checked .before .before .before .before .before .before .args in
+    let table = tableIn (a .n) (a .table) (a .left .now) (a .right .now) (a .weight .now) (a .mark .now) in
+    plan-listed table (checked .plan-check .ensures) (told .enum-told .given .1) (among .rows-among .ensures) (claim .claim-rows .ensures) (put .put-list .ensures)
 
 pub plan-list-spec : {M : Type 1} → statement M
 plan-list-spec =

@@ -1,0 +1,3 @@
+pub mod Restoring
+pub mod Bytes
+pub mod Trials

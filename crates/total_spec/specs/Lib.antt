@@ -1,0 +1,3 @@
+pub mod Total
+pub mod Bytes
+pub mod Trials
