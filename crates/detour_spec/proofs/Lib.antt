@@ -1,0 +1,4 @@
+pub mod Numbers
+pub mod Means
+pub mod Bytes
+pub mod Trials

@@ -1,0 +1,1 @@
+// The dearest of each detour on byte columns: the definitions, the doors' bytes, what they mean and the trials (specs/), and their proofs (proofs/); no code.
