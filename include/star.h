@@ -28,14 +28,15 @@
  * star_districts  finds the least rows of each run of the rows, and a least network from them.
  * star_mend       turns any claim into a least network, and lists each step.
  * star_outlets    builds a network, least of those with an exact number of rows at a junction.
+ * star_detours    names beside each row of a claim that is a tree the row it is best exchanged with.
  *
  * A working table is one in which rows are struck out and entered. All its columns have 1,024 rows,
  * marks too, and sixteen words say which of them are in use (star_in_use): the rows in use are the
  * table, and what stands in the others is not looked at.
  *
  * star_work_X   answers as star_X, over the rows in use (cst, other, mst1, paths, quote, breaking,
- *               which, digs, plan_digs, total, districts, mend, outlets). What is said below of
- *               star_X holds of it too.
+ *               which, digs, plan_digs, total, districts, mend, outlets, detours). What is said
+ *               below of star_X holds of it too.
  * star_strike   takes a row out of use.
  * star_restore  puts a struck row back into use.
  * star_add      enters a row after the last one in use.
@@ -48,8 +49,8 @@
  * first claim, 2 for the second, and 0 on a refusal too. Every other input is taken, whatever its
  * bytes and lengths: a fault is told as a refusal with its number and place, and a refused call
  * leaves the marks, the matrix, the columns lent to star_import, the dig list's text, the forests,
- * the records, and the working table and the numbers lent to star_strike, star_restore, star_add
- * and star_merge, as they were.
+ * the records, the rows lent to star_detours, and the working table and the numbers lent to
+ * star_strike, star_restore, star_add and star_merge, as they were.
  *
  * The caller owes that each pointer has as many readable bytes behind it as its length says
  * (writable ones behind answer, and behind every other pointer that is not to const), and that a
@@ -116,8 +117,8 @@ enum star_kind {
                         star_breaking: there is such a price; star_which: both claims are trees;
                         star_digs, star_plan_digs: the list is written; star_import: the text is
                         read; star_total: the prices are added up; star_strike, star_restore,
-                        star_add, star_merge, star_carry, star_districts, star_mend, star_outlets:
-                        done */
+                        star_add, star_merge, star_carry, star_districts, star_mend, star_outlets,
+                        star_detours: done */
     STAR_LIGHTER = 2 /* star_cst, star_other: a cheaper set exists: the exchange of two rows is
                         one */
 };
@@ -134,9 +135,10 @@ enum star_refusal {
     STAR_BAD_JUNCTION_COUNT = 1, /* n is 0 or above 255 */
     STAR_TOO_MANY_ROWS = 2,      /* m is above 1,024 */
     STAR_BAD_LENGTHS = 3,        /* right, mark (star_which: first or second) or forests is not m
-                                    bytes, or weight not 4 m; star_import and working tables: not
-                                    1,024 rows; working tables: the rows in use are not sixteen
-                                    words, or the numbers not 1,024 */
+                                    bytes, weight not 4 m, or rows (star_detours) not m numbers;
+                                    star_import and working tables: not 1,024 rows; working tables:
+                                    the rows in use are not sixteen words, or the numbers not
+                                    1,024 */
     STAR_BAD_END = 4,            /* place: the uppermost row with an end that is 0 or above n, or
                                     with equal ends */
     STAR_BAD_MARK = 6,           /* place: the uppermost row marked with another byte than 0 and 1
@@ -470,6 +472,24 @@ uint32_t star_work_outlets(uint32_t n, const uint64_t *in_use, size_t in_use_wor
                            size_t right_len, const uint8_t *weight, size_t weight_len,
                            uint8_t *mark, size_t mark_len, uint32_t r, uint32_t t, uint8_t *answer,
                            size_t answer_len);
+
+/* The dearest of each detour. Of a claim that is a tree a number is written for each row, which is
+ * another row, counted from 1: beside an unmarked row the dearest row of the way between its ends
+ * along marked rows, beside a marked row the cheapest unmarked row that could take its place, 0
+ * where there is none; the uppermost among equals; 0 beside rows not in use. Each is the best
+ * exchange of its row. The claim is a least network exactly where no unmarked row is cheaper than
+ * the row beside it. The answer's amount is the claim's total. A refusal is 1, 2, 3, 4, 15, 6, 9 or
+ * 10, in this order: 3 where the numbers are not m, too. */
+uint32_t star_detours(uint32_t n, const uint8_t *left, size_t left_len, const uint8_t *right,
+                      size_t right_len, const uint8_t *weight, size_t weight_len,
+                      const uint8_t *mark, size_t mark_len, uint32_t *rows, size_t count,
+                      uint8_t *answer, size_t answer_len);
+
+uint32_t star_work_detours(uint32_t n, const uint64_t *in_use, size_t in_use_words,
+                           const uint8_t *left, size_t left_len, const uint8_t *right,
+                           size_t right_len, const uint8_t *weight, size_t weight_len,
+                           const uint8_t *mark, size_t mark_len, uint32_t *rows, size_t count,
+                           uint8_t *answer, size_t answer_len);
 
 /* Reads an STP text: a first line that opens with 33D32945; sections, of which one is named Graph,
  * with its lines Nodes N, Edges M, E LEFT RIGHT PRICE for each row, END; and EOF. Sections of other

@@ -67,12 +67,14 @@ static void exchanges(struct lent *t, const struct rows *r) {
     made++;
 }
 
-static void told(struct lent *t, const struct rows *r) {
+static void compare(struct lent *t, const struct rows *r) {
     static uint32_t beside[STAR_MAX_ROWS];
-    int saves = 0;
+    int saves = 0, same;
     size_t k;
     plain_detours(r, t->mark, beside, lent_m(t));
-    tell(memcmp(t->numbers, beside, lent_m(t) * sizeof *beside) == 0, "the number of each row");
+    same = memcmp(t->numbers, beside, lent_m(t) * sizeof *beside) == 0;
+    tell(same, "the number of each row");
+    if (!same) return;
     for (k = 0; k < r->m; k++) {
         uint32_t row = (uint32_t)r->row[k], with = t->numbers[row - 1];
         bridges += with == 0;
@@ -95,14 +97,14 @@ static void held(struct lent *t) {
     lent_ended(t, said);
     tell(said == 1 && lent_does(t, a.amount), "the total of the plan");
     lent_rows(t, &r);
-    told(t, &r);
+    compare(t, &r);
     memcpy(before.answer, t->answer, STAR_ANSWER_BYTES);
     memcpy(before.numbers, t->numbers, t->len[NUMBERS] * sizeof *t->numbers);
     tell(lent_same(t, &before), "what is not written");
 }
 
 /* As many numbers as rows. */
-static void lend(struct lent *t) { t->len[NUMBERS] = lent_m(t); }
+static void lend_numbers(struct lent *t) { t->len[NUMBERS] = lent_m(t); }
 
 /* The yard, or its rows in use, with marks as digits: the total and the numbers. */
 static void known(const char *in_use, const char *marked, int64_t total, const char *numbers) {
@@ -110,7 +112,7 @@ static void known(const char *in_use, const char *marked, int64_t total, const c
     size_t i;
     int ok = 1;
     lent_yard(&t, in_use);
-    lend(&t);
+    lend_numbers(&t);
     for (i = 0; i < 5; i++) t.mark[i] = strchr(marked, (int)('1' + i)) != NULL;
     held(&t);
     for (i = 0; i < 5; i++) ok = ok && t.numbers[i] == (uint32_t)(numbers[i] - '0');
@@ -127,19 +129,28 @@ static void known_refusal(const char *marked, size_t numbers, unsigned number, u
     tell(lent_refuses(&t, number, place), "a known refusal");
 }
 
-/* A plan on a table that is not damaged, or one more mark. */
+/* A plan on a table that is not damaged, or one mark more or less, or a mark moved. */
 static void plan(struct lent *t) {
+    uint8_t *a = &t->mark[lent_row(t) - 1], *b = &t->mark[lent_row(t) - 1], kept;
     lent_mark(t, t->mark);
-    if (any(9) == 0) t->mark[lent_row(t) - 1] ^= 1;
-    lend(t);
+    if (any(12) == 0) *a ^= 1;
+    else if (any(4) == 0) {
+        kept = *a;
+        *a = *b;
+        *b = kept;
+    }
+    lend_numbers(t);
 }
 
 static void ready(struct lent *t) {
-    plan(t);
+    lent_mark(t, t->mark);
+    lend_numbers(t);
     held(t);
 }
 
+/* A length of the yard, of whose numbers there are 1,024 where none was asked for. */
 static void each(struct lent *t) {
+    if (t->len[NUMBERS] == STAR_MAX_ROWS) lend_numbers(t);
     held(t);
 }
 
@@ -158,7 +169,7 @@ static void cases(void) {
     known_refusal("12", 0, STAR_BAD_LENGTHS, 0);
     lent_yard(&t, NULL); /* one junction, no row */
     lent_no_rows(&t);
-    lend(&t);
+    lend_numbers(&t);
     held(&t);
     tell(lent_does(&t, 0), "one junction");
     lent_small_stacks(door, ready, STACK);

@@ -23,7 +23,7 @@ static void spoil(struct lent *t, const struct lent *before, const struct rows *
         /* the lowest of equals */
         for (other = 0; other < r->m && *number; other++) {
             uint32_t with = (uint32_t)r->row[other];
-            if (!fault(marked ? "lowest-replaces" : "lowest-dearest")) break;
+            if (marked ? !fault("lowest-replaces") : !fault("lowest-dearest")) break;
             if (before->mark[with - 1] != marked && with > *number &&
                 star_get_price(t->weight, with - 1) == star_get_price(t->weight, *number - 1))
                 *number = with;
@@ -55,7 +55,7 @@ uint32_t fault_after(struct lent *t, struct lent *before, uint32_t said) {
     if (fault("written-and-refused") && !is_passed(t) && t->len[NUMBERS] > 0) t->numbers[0] ^= 1;
     if (fault("4-before-3") && is_refused(t, STAR_BAD_LENGTHS) && t->n > 0) {
         struct star_answer a = lent_judged(before);
-        if (a.kind == STAR_REFUSED && a.number == STAR_BAD_END) put_refusal(t, a.number, a.place);
+        if (a.kind == STAR_REFUSED && a.number == STAR_BAD_END) put_refusal(t, a.number, a.out);
     }
     return said;
 }

@@ -25,11 +25,11 @@ first-of-part m w X A j q part on =
     uppermost-is m j (smallest m w A) high
     (in-smallest m w A (suc j) on (λ k l u h. smallest-least m w X (suc j) k least l u (part k h)))
     (λ i l u. refuted _ (λ s. clash
-        (in-smallest m w X i (part i (smallest-in m w A i s)) (λ k lk uk h.
-            let first = smallest-least m w A i (suc j) s (omega arith) high on in
-            let under = smallest-least m w X (suc j) k least lk uk h in
-            omega (arith, integers, first, under)))
-        (above i l u)))
+    (in-smallest m w X i (part i (smallest-in m w A i s)) (λ k lk uk h.
+    let first = smallest-least m w A i (suc j) s (omega arith) high on in
+    let under = smallest-least m w X (suc j) k least lk uk h in
+    omega (arith, integers, first, under)))
+    (above i l u)))
 
 module _ (w : ℕ → ℤ) (own left right : List ℕ) (U M : ℕ → Bool) (old : List ℕ) where
   -- on the way

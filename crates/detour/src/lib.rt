@@ -143,16 +143,7 @@ fn write_rows(
     table_loads::put_prices(weight, &mut weights);
     let first = table_loads::sign_columns(&weights);
     write_dearest(own, &weights, first, left, right, unmarked, rows);
-    write_replacements(
-        own,
-        &weights,
-        first,
-        left,
-        right,
-        unmarked,
-        marked,
-        rows,
-    );
+    write_replacements(own, &weights, first, left, right, unmarked, marked, rows);
 }
 
 // What is answered of a claim that is a spanning tree, by its path matrix from vertex 1: its weight, and the numbers are written.
@@ -215,9 +206,17 @@ pub fn detours(
     let lent = beside(table, rows.len());
     let words = path::ALL_WORDS;
     let mut own = [0u64; path::ALL_WORDS];
-    if let Outcome::Refused(refusal) =
-        path::path_own(n, lent, left, right, weight, mark, 1, words, &mut own)
-    {
+    if let Outcome::Refused(refusal) = path::path_own(
+        n,
+        lent,
+        left,
+        right,
+        weight,
+        mark,
+        1,
+        words,
+        &mut own,
+    ) {
         return Built::Refused(refusal);
     }
     tell(&own, lent.m, lent.rows, left, right, weight, mark, rows)

@@ -152,9 +152,10 @@ module _ (c : Call) (a : Accepted c) where
           replaced = λ i r m n. rw (at-marked i r m) (lightest-in i _ (d .comes i (row-marked i r m) (λ z. n (at-marked i r m ∙ z))));
           bridge = λ i r m z k s. d .bridge i (row-marked i r m) (sym (at-marked i r m) ∙ z) k (swap-rows i k s);
           elsewhere = off;
-          least =
-              (λ l i r m. rw (at-unmarked i r m) (d .least .0 (claim-least c a l) i (graph-row i r) (row-unmarked i r m)),
-              λ h. least-claim c a t (d .least .1 (λ f r out. let i = row-graph f r in let m = unmarked-byte c a f (row-used c f i) out in rw (at-unmarked f i m) at (h f i m))));
+          least = (
+            λ l i r m. rw (at-unmarked i r m) (d .least .0 (claim-least c a l) i (graph-row i r) (row-unmarked i r m)),
+            λ h. least-claim c a t (d .least .1 (λ f r out. let i = row-graph f r in let m = unmarked-byte c a f (row-used c f i) out in rw (at-unmarked f i m) at (h f i m))),
+          );
         }
 
 -- a claim that is not refused is a spanning tree of an accepted table

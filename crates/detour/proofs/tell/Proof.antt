@@ -24,9 +24,9 @@ write-rows-requires c κs =
     let is-unmarked = unmarked .without .ensures ∙ ap (λ (p : ℕ → Bool). without p (component (marked .claim-rows .result))) rows in (
       s .pre .0,
       λ i h.
-      let (low, off) = marked-rows (s .args .m) (component (s .args .in-use)) (claimRows (s .args .mark .now)) is-marked is-unmarked i h in
-      let inside : i ≤ length (s .args .rows .now) = omega (arith, low, s .pre .1) in
-      (inside, off),
+          let (low, off) = marked-rows (s .args .m) (component (s .args .in-use)) (claimRows (s .args .mark .now)) is-marked is-unmarked i h in
+          let inside : i ≤ length (s .args .rows .now) = omega (arith, low, s .pre .1) in
+          (inside, off),
     )
 
 returns : tie.Need-returns
