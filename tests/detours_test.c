@@ -17,8 +17,7 @@ static unsigned long cheaper, bridges, made;
 static uint32_t door(struct lent *t) {
     struct handed p = lent_hand(t);
     return lent_back(
-        t, p,
-        ASK(t, p, detours, HANDED(t, p, MARK), HANDED(t, p, NUMBERS), HANDED(t, p, ANSWER)));
+        t, p, ASK(t, p, detours, HANDED(t, p, MARK), HANDED(t, p, NUMBERS), HANDED(t, p, ANSWER)));
 }
 
 /* What is expected: star_cst's refusal, or a pass with the plan's total; 3 where the numbers are

@@ -70,6 +70,5 @@ void plain_detours(const struct rows *r, const uint8_t *mark, uint32_t *beside, 
     memset(beside, 0, m * sizeof *beside);
     find_parents(r, mark, &t);
     for (k = 0; k < r->m; k++)
-        beside[r->row[k] - 1] =
-            mark[r->row[k] - 1] ? replacement(r, mark, k) : dearest(r, &t, k);
+        beside[r->row[k] - 1] = mark[r->row[k] - 1] ? replacement(r, mark, k) : dearest(r, &t, k);
 }
