@@ -1,6 +1,6 @@
 /* The doors to the verified core: the tree checker and the tree builder, paths, quotes, breaking
- * prices, which of two plans stands, districts, mending, outlets, dig lists, working tables, and
- * the reader of STP texts.
+ * prices, which of two plans stands, districts, mending, outlets, groups and rings, dig lists,
+ * working tables, and the reader of STP texts.
  *
  * A table has n junctions, numbered 1 to n, and m rows, counted from 1. A row joins two junctions
  * at a price:
@@ -29,14 +29,15 @@
  * star_mend       turns any claim into a least network, and lists each step.
  * star_outlets    builds a network, least of those with an exact number of rows at a junction.
  * star_detours    names beside each row of a claim that is a tree the row it is best exchanged with.
+ * star_groups     finds the groups that any marks join, and the marked rows that close a ring.
  *
  * A working table is one in which rows are struck out and entered. All its columns have 1,024 rows,
  * marks too, and sixteen words say which of them are in use (star_in_use): the rows in use are the
  * table, and what stands in the others is not looked at.
  *
  * star_work_X   answers as star_X, over the rows in use (cst, other, mst1, paths, quote, breaking,
- *               which, digs, plan_digs, total, districts, mend, outlets, detours). What is said
- *               below of star_X holds of it too.
+ *               which, digs, plan_digs, total, districts, mend, outlets, detours, groups). What is
+ *               said below of star_X holds of it too.
  * star_strike   takes a row out of use.
  * star_restore  puts a struck row back into use.
  * star_add      enters a row after the last one in use.
@@ -49,8 +50,8 @@
  * first claim, 2 for the second, and 0 on a refusal too. Every other input is taken, whatever its
  * bytes and lengths: a fault is told as a refusal with its number and place, and a refused call
  * leaves the marks, the matrix, the columns lent to star_import, the dig list's text, the forests,
- * the records, the rows lent to star_detours, and the working table and the numbers lent to
- * star_strike, star_restore, star_add and star_merge, as they were.
+ * the records, the rows lent to star_detours, the groups and the rings, and the working table and
+ * the numbers lent to star_strike, star_restore, star_add and star_merge, as they were.
  *
  * The caller owes that each pointer has as many readable bytes behind it as its length says
  * (writable ones behind answer, and behind every other pointer that is not to const), and that a
@@ -118,7 +119,7 @@ enum star_kind {
                         star_digs, star_plan_digs: the list is written; star_import: the text is
                         read; star_total: the prices are added up; star_strike, star_restore,
                         star_add, star_merge, star_carry, star_districts, star_mend, star_outlets,
-                        star_detours: done */
+                        star_detours, star_groups: done */
     STAR_LIGHTER = 2 /* star_cst, star_other: a cheaper set exists: the exchange of two rows is
                         one */
 };
@@ -134,8 +135,9 @@ enum star_breaking_kind {
 enum star_refusal {
     STAR_BAD_JUNCTION_COUNT = 1, /* n is 0 or above 255 */
     STAR_TOO_MANY_ROWS = 2,      /* m is above 1,024 */
-    STAR_BAD_LENGTHS = 3,        /* right, mark (star_which: first or second) or forests is not m
-                                    bytes, weight not 4 m, or rows (star_detours) not m numbers;
+    STAR_BAD_LENGTHS = 3,        /* right, mark (star_which: first or second), forests or rings is
+                                    not m bytes, weight not 4 m, rows (star_detours) not m numbers,
+                                    or groups (star_groups) not n bytes;
                                     star_import and working tables: not 1,024 rows; working tables:
                                     the rows in use are not sixteen words, or the numbers not
                                     1,024 */
@@ -143,7 +145,7 @@ enum star_refusal {
                                     with equal ends */
     STAR_BAD_MARK = 6,           /* place: the uppermost row marked with another byte than 0 and 1
                                     (star_cst, star_other, star_paths, star_which, star_mend,
-                                    star_plan_digs, star_total) */
+                                    star_plan_digs, star_total, star_groups) */
     STAR_BAD_SOURCE = 7,         /* s (star_paths) or r (star_outlets) is 0 or above n; the row
                                     asked about is 0, above m or not in use (star_quote,
                                     star_breaking) */
@@ -491,6 +493,24 @@ uint32_t star_work_detours(uint32_t n, const uint64_t *in_use, size_t in_use_wor
                            const uint8_t *mark, size_t mark_len, uint32_t *rows, size_t count,
                            uint8_t *answer, size_t answer_len);
 
+/* The groups that any marks join, and the rings that they close; marks are read, and are bytes 0
+ * and 1. groups, n bytes, gets for each junction the smallest one that marked rows join it to:
+ * itself where it is that one. rings, m bytes, gets 1 at each marked row whose ends the other
+ * marked rows join, and 0 elsewhere. The answer's amount is the number of groups, and in is the
+ * number of rows that close a ring: the marks are a network exactly where these are 1 and 0. Neither
+ * column is read. A refusal is 1, 2, 3, 4, 15 or 6, in this order, and leaves both as they were. */
+uint32_t star_groups(uint32_t n, const uint8_t *left, size_t left_len, const uint8_t *right,
+                     size_t right_len, const uint8_t *weight, size_t weight_len,
+                     const uint8_t *mark, size_t mark_len, uint8_t *groups, size_t groups_len,
+                     uint8_t *rings, size_t rings_len, uint8_t *answer, size_t answer_len);
+
+/* rings has 1,024 bytes, and gets 0 at rows not in use. */
+uint32_t star_work_groups(uint32_t n, const uint64_t *in_use, size_t in_use_words,
+                          const uint8_t *left, size_t left_len, const uint8_t *right,
+                          size_t right_len, const uint8_t *weight, size_t weight_len,
+                          const uint8_t *mark, size_t mark_len, uint8_t *groups, size_t groups_len,
+                          uint8_t *rings, size_t rings_len, uint8_t *answer, size_t answer_len);
+
 /* Reads an STP text: a first line that opens with 33D32945; sections, of which one is named Graph,
  * with its lines Nodes N, Edges M, E LEFT RIGHT PRICE for each row, END; and EOF. Sections of other
  * names are skipped. left, right and weight are lent for 1,024 rows: 1,024, 1,024 and 4,096 bytes.
@@ -523,13 +543,15 @@ struct star_answer {
     unsigned number; /* byte 1: enum star_refusal, 0 unless refused */
     unsigned out;    /* bytes 2 and 3: lighter: the row to take out; refused: the place; star_other,
                         passed and not the only one: a row to take out */
-    unsigned in;     /* bytes 4 and 5: lighter: the row to put in; star_other: as out */
+    unsigned in;     /* bytes 4 and 5: lighter: the row to put in; star_other: as out; star_groups:
+                        the number of rows that close a ring */
     unsigned only;   /* byte 6: 1 where star_cst or star_other passes the claim and no other network
                         has its total; 0 in every other answer */
     int64_t amount;  /* bytes 8 to 15, two's complement: passed: the total; lighter: the saving,
                         above 0 and at most 4,294,967,295; star_breaking: the breaking price;
                         star_digs, star_plan_digs: the list's length; star_add: the new row's
-                        position; star_mend: the number of records */
+                        position; star_mend: the number of records; star_groups: the number of
+                        groups */
 };
 
 STAR_INLINE struct star_answer star_read_answer(const uint8_t bytes[16]) {

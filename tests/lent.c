@@ -16,9 +16,9 @@ unsigned long lent_done[2], lent_unwritten;
 static const struct {
     size_t at, unit, bytes;
 } COLUMN_OF[COLUMNS] = {
-    COLUMN(in_use), COLUMN(left),    COLUMN(right),  COLUMN(weight),  COLUMN(mark),
-    COLUMN(second), COLUMN(forests), COLUMN(ends),   COLUMN(numbers), COLUMN(records),
-    COLUMN(matrix), COLUMN(text),    COLUMN(answer),
+    COLUMN(in_use),  COLUMN(left),   COLUMN(right),   COLUMN(weight), COLUMN(mark),
+    COLUMN(second),  COLUMN(rings),  COLUMN(forests), COLUMN(ends),   COLUMN(numbers),
+    COLUMN(records), COLUMN(matrix), COLUMN(groups),  COLUMN(text),   COLUMN(answer),
 };
 
 static uint8_t *bytes_of(const struct lent *t, enum column c) {
@@ -41,6 +41,7 @@ void lent_lengths(struct lent *t, size_t m) {
     t->len[NUMBERS] = STAR_MAX_ROWS;
     t->len[RECORDS] = 2 * m;
     t->len[MATRIX] = room_of(MATRIX);
+    t->len[GROUPS] = t->n <= STAR_MAX_JUNCTIONS ? t->n : STAR_MAX_JUNCTIONS;
     t->len[TEXT] = STAR_MAX_LIST + any(2) * any(30);
     t->len[ENDS] = m > 0;
     t->ends[0] = (uint32_t)m;

@@ -16,11 +16,13 @@ enum column {
     WEIGHT,
     MARK,
     SECOND, /* the second plan's marks */
+    RINGS,
     FORESTS,
     ENDS,
     NUMBERS,
     RECORDS,
     MATRIX,
+    GROUPS,
     TEXT,
     ANSWER,
     COLUMNS
@@ -45,11 +47,13 @@ struct lent {
     GUARDED(uint8_t, weight, 4 * LENT_ROWS);
     GUARDED(uint8_t, mark, LENT_ROWS);
     GUARDED(uint8_t, second, LENT_ROWS);
+    GUARDED(uint8_t, rings, LENT_ROWS);
     GUARDED(uint8_t, forests, LENT_ROWS);
     GUARDED(uint32_t, ends, LENT_ENDS);
     GUARDED(uint32_t, numbers, LENT_ROWS);
     GUARDED(struct star_record, records, 2 * LENT_ROWS);
     GUARDED(uint64_t, matrix, STAR_COLUMN_WORDS *STAR_MAX_JUNCTIONS + 40);
+    GUARDED(uint8_t, groups, STAR_MAX_JUNCTIONS + 8);
     GUARDED(uint8_t, text, STAR_MAX_LIST + 30);
     GUARDED(uint8_t, answer, 40);
 };

@@ -81,15 +81,15 @@ static void call_lend(struct call *c, unsigned k, const void *from, size_t lengt
     else random_bytes(c->v[k].bytes, length);
 }
 
-/* A claim over the table: its marks, or some of them moved, or any, where these are mended. */
+/* A claim over the table: its marks, or some of them moved, or any, where a door takes any. */
 static void call_claim(struct call *c, unsigned k, const struct table *t) {
-    int mends = strstr(c->door->name, "mend") != NULL;
+    int free = strstr(c->door->name, "mend") || strstr(c->door->name, "groups");
     uint8_t *mark;
     size_t i;
     call_lend(c, k, t->mark, t->rows);
     mark = c->v[k].bytes;
     if (t->m == 0 || any(3)) return;
-    if (mends && any(2))
+    if (free && any(2))
         for (i = 0; i < t->m; i++) mark[t->at[i]] = (uint8_t)any(2);
     else {
         uint8_t *a = &mark[t->at[any((uint32_t)t->m)]], *b = &mark[t->at[any((uint32_t)t->m)]];
@@ -152,6 +152,7 @@ static size_t call_output(const struct call *c, const struct table *t, const cha
     if (is(name, "records"))
         return 12 * (aim == STAR_SHORT_RECORDS && rows ? any(2 * (uint32_t)rows) : 2 * rows + more);
     if (is(name, "text")) return STAR_MAX_LIST + more;
+    if (is(name, "groups")) return t->n > 255 ? 255 : (size_t)t->n;
     return size * t->rows;
 }
 

@@ -60,7 +60,7 @@ fn rename(z: u8, x: u8, y: u8) -> u8
 }
 
 // Label x becomes y at every vertex that has it.
-fn rename_all(labels: &mut [u8], x: u8, y: u8)
+pub fn rename_all(labels: &mut [u8], x: u8, y: u8)
     ensures { λ r. ⌜ now (labels .exit) ≡ allRenamed (now (labels .entry)) x y ⌝ }
 {
     let mut i = 0;

@@ -1,0 +1,4 @@
+pub mod Trials
+pub mod Causes
+pub mod Means
+pub mod Bytes

@@ -1,0 +1,5 @@
+pub mod Groups
+pub mod Door
+pub mod Means
+pub mod Bytes
+pub mod Trials
