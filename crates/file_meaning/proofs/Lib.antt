@@ -1,5 +1,5 @@
-pub mod Meeting
 pub mod Lines
 pub mod Names
 pub mod Extends
 pub mod Means
+pub mod FileCall

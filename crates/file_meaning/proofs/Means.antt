@@ -16,7 +16,7 @@ use Rattle.rowset.specs.Integers.{signed, toBits}
 use Rattle.star_spec.specs.Door.{bytesOf}
 use Rattle.stp_spec.proofs.Prices.{prices-kept}
 use Rattle.stp_words.specs.Numbers.{priceOf}
-use Rattle.file_meaning.proofs.Meeting.{position-tells}
+use Rattle.file_text.proofs.Meeting.{position-tells}
 use Rattle.file_spec.specs.Names.{position}
 use Rattle.file_spec.specs.Pieces.{Piece}
 use Rattle.file_spec.specs.Line.{Line, Trench, End, number, name, nothing, counting, trench, wrong, lineOf}

@@ -10,7 +10,7 @@ use mathlib.Core.List.{List, [], _∷_, _++_, List·Memᴰ, List·Memᴰ·head, 
 use mathlib.Core.Logic.{_⊎_, inl, inr, ⊎-elim}
 use mathlib.Core.Path.{_≡_, refl, sym, ap, _∙_, subst}
 use native.Mathlib.Omega.{arith}
-use Rattle.file_meaning.proofs.Meeting.{equal-self, equal-same, position-high, position-added, position-met, position-kept, position-tells}
+use Rattle.file_text.proofs.Meeting.{equal-self, equal-same, position-high, position-added, position-met, position-kept, position-tells}
 use Rattle.file_spec.specs.Names.{equal, position, met}
 use Rattle.file_spec.specs.Line.{Trench, End, number, name}
 use Rattle.file_spec.specs.Reader.{metEnd, numberIn}
