@@ -1,5 +1,5 @@
 // The doors against a plain implementation in C and, where they are installed, LEMON, Boost Graph and igraph: MST1, CST, the quote, the breaking price,
-// districts, mends and outlets; MST1 and CST on working tables too. One process, one table at a time; the solvers take turns, and the median of all
+// a plan's dig list and total, districts, mends and outlets; MST1 and CST on working tables too. One process, one table at a time; the solvers take turns, and the median of all
 // calls is told. What is found is compared, so that a solver that is wrong is told.
 // usage: bench [PLOT]    prints the times; writes a plot (SVG) of time against the number of rows to the file PLOT
 //        bench --count   calls each solver twice and has callgrind write out the instructions of the second call (bench/counts.sh)
@@ -17,8 +17,12 @@ void measure(uint32_t n, size_t m, int32_t from, int32_t to) {
     rows.add_doors();
     rows.add("star_quote", door_quote);
     rows.add("star_breaking", door_breaking, t, plain_price(t));
+    rows.add("star_plan_digs", door_plan_digs, t, plain_plan_list(t));
+    rows.add("star_total", door_total);
     rows.add("plain build", plain_build);
     rows.add("plain check", plain_check);
+    rows.add("plain plan digs", plain_plan_list, t, plain_plan_list(t));
+    rows.add("plain total", plain_sum);
     rows.add_libraries();
     rows.print();
 }

@@ -97,6 +97,20 @@ int64_t door_breaking(Table &t) {
     return answer[0] == STAR_NEVER ? INT64_MAX : amount(answer);
 }
 
+// The dig list of the claim, whose length is compared, and the total of its marks.
+int64_t door_plan_digs(Table &t) {
+    static uint8_t text[STAR_MAX_LIST];
+    uint8_t answer[16];
+    star_plan_digs(t.n, t.left.data(), t.rows(), t.right.data(), t.rows(), t.weight.data(), t.weight.size(), t.mark.data(), t.rows(), text, sizeof text, answer, 16);
+    return amount(answer);
+}
+
+int64_t door_total(Table &t) {
+    uint8_t answer[16];
+    star_total(t.n, t.left.data(), t.rows(), t.right.data(), t.rows(), t.weight.data(), t.weight.size(), t.mark.data(), t.rows(), answer, 16);
+    return amount(answer);
+}
+
 call call_of(Table &t) {
     return {t.n, t.left.data(), t.right.data(), t.weight.data(), t.mark.data(), t.rows(), t.rows(), t.weight.size(), t.rows()};
 }
@@ -113,6 +127,21 @@ int64_t plain_price(Table &t) {
     call c = call_of(t);
     plain_breaking(nullptr, &c, uint32_t(t.rows() / 2), answer, 16);
     return answer[0] == STAR_NEVER ? INT64_MAX : amount(answer);
+}
+
+int64_t plain_plan_list(Table &t) {
+    static uint8_t text[STAR_MAX_LIST];
+    uint8_t answer[16];
+    call c = call_of(t);
+    plain_plan_digs(nullptr, &c, text, sizeof text, answer, 16);
+    return amount(answer);
+}
+
+int64_t plain_sum(Table &t) {
+    uint8_t answer[16];
+    call c = call_of(t);
+    plain_total(&c, answer, 16);
+    return amount(answer);
 }
 
 int64_t plain_check(Table &t) {
