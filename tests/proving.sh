@@ -133,7 +133,7 @@ holds 'gate: passes' [ $? = 0 ]
 holds 'gate: from nothing' [ ! -e "$at/target/stamp/rowset" ]
 holds 'gate: counts all' [ "$(last)" = "$((crates + 1 + 400)) passed, 0 failed" ]
 parts=$(paste -sd ' ' "$at/asked")
-holds 'gate: its parts' [ "$parts" = 'proofs recorded edits outside' ]
+holds 'gate: its parts' [ "$parts" = 'proofs recorded outside edits' ]
 
 # A record without the proved code fails it; one of other sources does so before anything is proved.
 touch "$at/fault"
