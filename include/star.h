@@ -223,9 +223,11 @@ uint32_t star_quote(uint32_t n, const uint8_t *left, size_t left_len, const uint
 
 /* The breaking price of a row, counted from 1: over all routes between its ends that do not use it,
  * the least possible price of the dearest row. A new price moves the least total by exactly
- * min(new, breaking) - min(old, breaking). The row's own price plays no part. STAR_PASSED: amount
- * is the breaking price; STAR_NEVER: no such route, all else is 0, and the least total moves by new
- * - old. A refusal is 1, 2, 3, 4, 15, 7 or 11, in this order. */
+ * min(new, breaking) - min(old, breaking). At a price below it the row is in every least network,
+ * at it in some and out of some, above it in none. The row's own price plays no part. STAR_PASSED:
+ * amount is the breaking price; STAR_NEVER: no such route, all else is 0, the row is in every
+ * network at every price, and the least total moves by new - old. A refusal is 1, 2, 3, 4, 15, 7 or
+ * 11, in this order. */
 uint32_t star_breaking(uint32_t n, const uint8_t *left, size_t left_len, const uint8_t *right,
                        size_t right_len, const uint8_t *weight, size_t weight_len, uint32_t row,
                        uint8_t *answer, size_t answer_len);
