@@ -6,14 +6,14 @@ use Prim.Native.Nat.{ℕ, zero, suc, _+_, _≤_}
 use lib.IntN.{ℤ}
 use mathlib.Core.Bool.{Bool, true, false, not, xor, _&&_, and-false}
 use mathlib.Core.List.{List}
-use mathlib.Core.Path.{_≡_, refl, sym, ap, _∙_, fun-ext}
+use mathlib.Core.Path.{_≡_, refl, sym, ap, _∙_, fun-ext, ap₂}
 use native.Mathlib.Numerals.{add-one}
 use native.Mathlib.Omega.{arith}
 use Rattle.districts_theory.proofs.Growing.{grown-ended}
 use Rattle.districts_theory.specs.Growing.{misses, nextRow, withRow, grown, grownForest}
 use Rattle.graph_theory.specs.Builder.{Fragment, cheapest}
 use Rattle.graph_theory.specs.Graph.{Graph, crosses, withEnds}
-use Rattle.incidence.specs.steps.Rows.{rowsAt, EachMatch}
+use Rattle.search_join.specs.steps.Ends.{endsIn, firstWords, wordsTaken, EachEnd}
 use Rattle.mst1.proofs.Growth.{written-in}
 use Rattle.mst1.proofs.Steps.{touching-put, touching-one}
 use Rattle.mst1.specs.steps.Growth.{graphBy, touching}
@@ -39,10 +39,11 @@ touching-neither g Q = fun-ext (λ i. go (g .rows i) (Q (g .a i)) (Q (g .b i)))
     go true false z = refl
     go false y z = refl
 
--- the columns of two vertices, joined one after the other, bring in the rows that MATCH gives for either
-pub joined-both : (q : ℕ) (l : List ℕ) (f : ℕ → ℕ) (rows before : ℕ → Bool) (u v : ℕ) {first second : ℕ → Bool} → EachMatch q l f rows → first ≡ either before (rowsAt q l u) → second ≡ either first (rowsAt q l v)
+-- MATCH with two vertices, joined one after the other, brings in the rows that have either
+pub joined-both : (q : ℕ) (l : List ℕ) (f : ℕ → ℕ) (rows before : ℕ → Bool) (u v : ℕ) {first second : ℕ → Bool} → EachEnd q l f rows
+    → first ≡ either before (equalTo (endsIn l) u (firstWords (wordsTaken q) rows)) → second ≡ either first (equalTo (endsIn l) v (firstWords (wordsTaken q) rows))
     → second ≡ either (either before (equalTo f u rows)) (equalTo f v rows)
-joined-both q l f rows before u v each one two = rw (two, one, each u, each v)
+joined-both q l f rows before u v each one two = two ∙ ap₂ either (one ∙ ap (either before) (each u)) (each v)
 
 -- the first of two positions by its cases
 pub first-found : {r x : ℕ} (y : ℕ) → r ≡ x → (r ≡ 0 → ⊥) → r ≡ firstOf x y

@@ -1,9 +1,8 @@
-// The forests of runs of rows: each grows as MST1 grows a tree, by the same steps, and where no row crosses it begins anew.
+// The forests of runs of rows: each grows as MST1 grows a tree, by the same steps, with the rows that MATCH gives for each vertex, and where no row crosses it begins anew.
 ghost use mathlib.Core.Path.{_≡_};
 ghost use Rattle.districts_theory.specs.Districts.{forests};
 ghost use Rattle.districts_theory.specs.Growing.{grownForest};
-ghost use Rattle.incidence.specs.steps.Rows.{Blank, EachMatch};
-ghost use Rattle.search_columns.specs.steps.Rows.{NonePast};
+ghost use Rattle.search_join.specs.steps.Ends.{endsIn, EachEnd};
 ghost use Rattle.search_columns.specs.steps.Integers.{integersAfter};
 ghost use Rattle.mst1.specs.steps.Growth.{graphBy};
 ghost use Rattle.rowset.specs.Searches.{smallest};
@@ -29,19 +28,19 @@ fn next_row(weight: &[u64], first: usize, rows: Slice, lefts: Slice, rights: Sli
     mst1::cheapest(weight, first, without(without(rows, lefts), rights))
 }
 
-// The forest of the rows of a slice; of the weights the first columns are left out. It has at most n rows. The columns of `left_at` and `right_at`, of so many words, are the rows whose left and whose right end is each vertex. The three slices are changed in place.
+// The forest of the rows of a slice; of the weights the first columns are left out. It has at most n rows. The columns of ends are loaded, and MATCH looks in so many words. The three slices are changed in place.
 fn grow_forest(
     left: &[u8],
     right: &[u8],
+    left_ends: &[u64; table_loads::ALL],
+    right_ends: &[u64; table_loads::ALL],
     weight: &[u64],
     first: usize,
     rows: Slice,
-    n: usize,
     words: usize,
-    left_at: &[u64],
-    right_at: &[u64],
+    n: usize,
 ) -> Slice
-    requires { ⌜ EachMatch words (now «left_at») (loadedRow 1 (now left)) (component rows) × EachMatch words (now «right_at») (loadedRow 1 (now right)) (component rows) ⌝ }
+    requires { ⌜ EachEnd words (now «left_ends») (loadedRow 1 (now left)) (component rows) × EachEnd words (now «right_ends») (loadedRow 1 (now right)) (component rows) ⌝ }
     ensures { λ f. ⌜ component f ≡ grownForest (graphBy (loadedRow 1 (now (left .entry))) (loadedRow 1 (now (right .entry))) rows n) (integersAfter (now (weight .entry)) first) (component rows) ⌝ }
 {
     let mut lefts = [0u64; WORDS];
@@ -61,70 +60,42 @@ fn grow_forest(
         }
         let u = table_loads::end_at(left, i);
         let v = table_loads::end_at(right, i);
-        incidence::join_at(&mut lefts, left_at, words, u);
-        incidence::join_at(&mut lefts, left_at, words, v);
-        incidence::join_at(&mut rights, right_at, words, u);
-        incidence::join_at(&mut rights, right_at, words, v);
+        search_join::match_ends(&mut lefts, left_ends, u, &rows.words, words);
+        search_join::match_ends(&mut lefts, left_ends, v, &rows.words, words);
+        search_join::match_ends(&mut rights, right_ends, u, &rows.words, words);
+        search_join::match_ends(&mut rights, right_ends, v, &rows.words, words);
         slice_words::put_row(&mut chosen, i);
         k += 1;
     }
     Slice { words: chosen }
 }
 
-// The same, where the columns are blank: the rows come to them first.
-fn forest_in(
-    left: &[u8],
-    right: &[u8],
-    weight: &[u64],
-    first: usize,
-    rows: Slice,
-    n: usize,
-    words: usize,
-    left_at: &mut [u64],
-    right_at: &mut [u64],
-) -> Slice
-    requires { ⌜ Blank words (now «left_at») × Blank words (now «right_at») × NonePast words (component rows) ⌝ }
-    ensures { λ f. ⌜ component f ≡ grownForest (graphBy (loadedRow 1 (now (left .entry))) (loadedRow 1 (now (right .entry))) rows n) (integersAfter (now (weight .entry)) first) (component rows) ⌝ }
-{
-    incidence::match_each(left, right, &rows.words, words, left_at, right_at);
-    grow_forest(
-        left,
-        right,
-        weight,
-        first,
-        rows,
-        n,
-        words,
-        left_at,
-        right_at,
-    )
-}
-
-// The same, with columns of one, four or sixteen words, as the rows need: `a` for the left ends and `b` for the right ones.
+// The same for any rows of columns that hold these ends.
 fn forest_of(
     left: &[u8],
     right: &[u8],
+    left_ends: &[u64; table_loads::ALL],
+    right_ends: &[u64; table_loads::ALL],
     weight: &[u64],
     first: usize,
     rows: Slice,
     n: usize,
 ) -> Slice
+    requires { ⌜ (endsIn (now «left_ends») ≡ loadedRow 1 (now left)) × (endsIn (now «right_ends») ≡ loadedRow 1 (now right)) ⌝ }
     ensures { λ f. ⌜ component f ≡ grownForest (graphBy (loadedRow 1 (now (left .entry))) (loadedRow 1 (now (right .entry))) rows n) (integersAfter (now (weight .entry)) first) (component rows) ⌝ }
 {
-    let words = incidence::words_of(&rows.words);
-    if words <= 1 {
-        let mut a = [0u64; incidence::OF_ONE];
-        let mut b = [0u64; incidence::OF_ONE];
-        return forest_in(left, right, weight, first, rows, n, 1, &mut a, &mut b);
-    }
-    if words <= 4 {
-        let mut a = [0u64; incidence::OF_FOUR];
-        let mut b = [0u64; incidence::OF_FOUR];
-        return forest_in(left, right, weight, first, rows, n, 4, &mut a, &mut b);
-    }
-    let mut a = [0u64; incidence::OF_SIXTEEN];
-    let mut b = [0u64; incidence::OF_SIXTEEN];
-    forest_in(left, right, weight, first, rows, n, 16, &mut a, &mut b)
+    let words = search_join::words_for(&rows.words);
+    grow_forest(
+        left,
+        right,
+        left_ends,
+        right_ends,
+        weight,
+        first,
+        rows,
+        words,
+        n,
+    )
 }
 
 // The rows of a slice at positions p + 1 to q.
@@ -134,7 +105,36 @@ fn run_of(rows: Slice, p: usize, q: usize) -> Slice
     slice::and(rows, without(rows_to(q), rows_to(p)))
 }
 
-// The forests of the runs that have these ends, of the rows of a slice, over byte columns of ends and lent columns of weights; of the weights the first columns are left out.
+// The forests of the runs that have these ends, of the rows of a slice, where the columns of ends are loaded.
+fn forests_in(
+    left: &[u8],
+    right: &[u8],
+    left_ends: &[u64; table_loads::ALL],
+    right_ends: &[u64; table_loads::ALL],
+    weight: &[u64],
+    first: usize,
+    rows: Slice,
+    n: usize,
+    ends: &[u32],
+) -> Slice
+    requires { ⌜ (endsIn (now «left_ends») ≡ loadedRow 1 (now left)) × (endsIn (now «right_ends») ≡ loadedRow 1 (now right)) ⌝ }
+    ensures { λ f. ⌜ component f ≡ forests (graphBy (loadedRow 1 (now (left .entry))) (loadedRow 1 (now (right .entry))) rows n) (integersAfter (now (weight .entry)) first) (now (ends .entry)) ⌝ }
+{
+    let mut all = Slice::empty();
+    let mut p: usize = 0;
+    let mut j = 0;
+    while j < ends.len() {
+        let q = ends[j] as usize;
+        let run = run_of(rows, p, q);
+        let forest = forest_of(left, right, left_ends, right_ends, weight, first, run, n);
+        all = slice::or(all, forest);
+        p = q;
+        j += 1;
+    }
+    all
+}
+
+// The forests of the runs that have these ends, of the rows of a slice, over byte columns of ends, which are loaded for MATCH, and lent columns of weights; of the weights the first columns are left out.
 pub fn forests_of(
     left: &[u8],
     right: &[u8],
@@ -146,16 +146,19 @@ pub fn forests_of(
 ) -> Slice
     ensures { λ f. ⌜ component f ≡ forests (graphBy (loadedRow 1 (now (left .entry))) (loadedRow 1 (now (right .entry))) rows n) (integersAfter (now (weight .entry)) first) (now (ends .entry)) ⌝ }
 {
-    let mut all = Slice::empty();
-    let mut p: usize = 0;
-    let mut j = 0;
-    while j < ends.len() {
-        let q = ends[j] as usize;
-        let run = run_of(rows, p, q);
-        let forest = forest_of(left, right, weight, first, run, n);
-        all = slice::or(all, forest);
-        p = q;
-        j += 1;
-    }
-    all
+    let mut left_ends = [0u64; table_loads::ALL];
+    table_loads::put_ends(left, &mut left_ends);
+    let mut right_ends = [0u64; table_loads::ALL];
+    table_loads::put_ends(right, &mut right_ends);
+    forests_in(
+        left,
+        right,
+        &left_ends,
+        &right_ends,
+        weight,
+        first,
+        rows,
+        n,
+        ends,
+    )
 }

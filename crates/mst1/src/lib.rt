@@ -1,10 +1,10 @@
 // MST1, the tree builder: it grows a tree from the uppermost row of least weight, by the uppermost row of least weight among those with exactly one end in the fragment.
-// What MATCH gives for a vertex is read from the rows that hold each vertex, which one pass over the rows finds (crate incidence).
+// It is the procedure MST1 of source 001, in whose words `lefts` is N1, `rights` N2, `chosen` R and `rows` S. Where it departs: S stays as it is, since the rows with exactly one end in the fragment are
+// those that only one of N1 and N2 has (xor); so MATCH is asked for the far end of a row alone once the first row is there, as the near one was matched before; and a table without a tree is told.
 ghost use mathlib.Core.Path.{_≡_};
-ghost use mathlib.Core.Bool.{Bool, true};
-ghost use Prim.Native.Nat.{ℕ, _-_, _≤_};
-ghost use Rattle.incidence.specs.steps.Rows.{Blank, EachMatch};
-ghost use Rattle.search_columns.specs.steps.Rows.{NonePast};
+ghost use mathlib.Core.Bool.{true};
+ghost use Prim.Native.Nat.{_-_, _≤_};
+ghost use Rattle.search_join.specs.steps.Ends.{EachEnd};
 ghost use Rattle.rowset.specs.Integers.{integerIn, signed};
 ghost use Rattle.rowset.specs.Searches.{smallest};
 ghost use Rattle.rowset.specs.Sets.{empty, uppermost};
@@ -60,25 +60,26 @@ fn nothing(whole: bool) -> Grown
     }
 }
 
-// The fragment of row i: both its ends. `left_at` and `right_at` have the rows that MATCH gives for each end, in columns of so many words.
+// The fragment of row i: both its ends, and with each the rows that MATCH gives for it, in so many words.
 fn begin(
     left: &[u8],
     right: &[u8],
+    left_ends: &[u64; table_loads::ALL],
+    right_ends: &[u64; table_loads::ALL],
+    rows: Slice,
     words: usize,
-    left_at: &[u64],
-    right_at: &[u64],
     i: usize,
 ) -> Fragment
-    ensures { λ r. ⌜ ((rows : ℕ → Bool) → EachMatch words (now («left_at» .entry)) (loadedRow 1 (now (left .entry))) rows → EachMatch words (now («right_at» .entry)) (loadedRow 1 (now (right .entry))) rows → Begun (loadedRow 1 (now (left .entry))) (loadedRow 1 (now (right .entry))) rows i (component (r .lefts)) (component (r .rights)) (component (r .chosen))) ⌝ }
+    ensures { λ r. ⌜ (EachEnd words (now («left_ends» .entry)) (loadedRow 1 (now (left .entry))) (component rows) → EachEnd words (now («right_ends» .entry)) (loadedRow 1 (now (right .entry))) (component rows) → Begun (loadedRow 1 (now (left .entry))) (loadedRow 1 (now (right .entry))) (component rows) i (component (r .lefts)) (component (r .rights)) (component (r .chosen))) ⌝ }
 {
     let u = table_loads::end_at(left, i);
     let v = table_loads::end_at(right, i);
     let mut lefts = [0u64; WORDS];
-    incidence::join_at(&mut lefts, left_at, words, u);
-    incidence::join_at(&mut lefts, left_at, words, v);
+    search_join::match_ends(&mut lefts, left_ends, u, &rows.words, words);
+    search_join::match_ends(&mut lefts, left_ends, v, &rows.words, words);
     let mut rights = [0u64; WORDS];
-    incidence::join_at(&mut rights, right_at, words, u);
-    incidence::join_at(&mut rights, right_at, words, v);
+    search_join::match_ends(&mut rights, right_ends, u, &rows.words, words);
+    search_join::match_ends(&mut rights, right_ends, v, &rows.words, words);
     Fragment {
         lefts: Slice { words: lefts },
         rights: Slice { words: rights },
@@ -87,20 +88,20 @@ fn begin(
 }
 
 // The tree of n vertices that grows from a fragment of two. The rows with exactly one end in the fragment are those that only one of `lefts` and `rights` has; with each new vertex come the rows that
-// MATCH gives for it, read from `left_at` and `right_at`. The three slices are changed in place.
+// MATCH gives for it. The three slices are changed in place.
 fn grow_from(
     left: &[u8],
     right: &[u8],
+    left_ends: &[u64; table_loads::ALL],
+    right_ends: &[u64; table_loads::ALL],
     weight: &[u64],
     first: usize,
     rows: Slice,
-    n: usize,
     words: usize,
-    left_at: &[u64],
-    right_at: &[u64],
+    n: usize,
     start: Fragment,
 ) -> Grown
-    requires { ⌜ (2 ≤ n) × EachMatch words (now «left_at») (loadedRow 1 (now left)) (component rows) × EachMatch words (now «right_at») (loadedRow 1 (now right)) (component rows) × Reached (graphBy (loadedRow 1 (now left)) (loadedRow 1 (now right)) rows n) (integersAfter (now weight) first) 2 (component (start .lefts)) (component (start .rights)) (component (start .chosen)) ⌝ }
+    requires { ⌜ (2 ≤ n) × EachEnd words (now «left_ends») (loadedRow 1 (now left)) (component rows) × EachEnd words (now «right_ends») (loadedRow 1 (now right)) (component rows) × Reached (graphBy (loadedRow 1 (now left)) (loadedRow 1 (now right)) rows n) (integersAfter (now weight) first) 2 (component (start .lefts)) (component (start .rights)) (component (start .chosen)) ⌝ }
     ensures { λ r. ⌜ Grows (graphBy (loadedRow 1 (now (left .entry))) (loadedRow 1 (now (right .entry))) rows n) (integersAfter (now (weight .entry)) first) (r .whole) (component (r .chosen)) ⌝ }
 {
     let mut lefts = start.lefts.words;
@@ -121,8 +122,8 @@ fn grow_from(
         } else {
             table_loads::end_at(left, i)
         };
-        incidence::join_at(&mut lefts, left_at, words, far);
-        incidence::join_at(&mut rights, right_at, words, far);
+        search_join::match_ends(&mut lefts, left_ends, far, &rows.words, words);
+        search_join::match_ends(&mut rights, right_ends, far, &rows.words, words);
         slice_words::put_row(&mut chosen, i);
         k += 1;
     }
@@ -132,45 +133,7 @@ fn grow_from(
     }
 }
 
-// The tree of n vertices over the rows of a slice. `left_at` and `right_at` are blank words, for columns of so many words, in which each row has a place. For one vertex no row is chosen.
-fn grow_in(
-    left: &[u8],
-    right: &[u8],
-    weight: &[u64],
-    first: usize,
-    rows: Slice,
-    n: usize,
-    words: usize,
-    left_at: &mut [u64],
-    right_at: &mut [u64],
-) -> Grown
-    requires { ⌜ Blank words (now «left_at») × Blank words (now «right_at») × NonePast words (component rows) ⌝ }
-    ensures { λ r. ⌜ Grows (graphBy (loadedRow 1 (now (left .entry))) (loadedRow 1 (now (right .entry))) rows n) (integersAfter (now (weight .entry)) first) (r .whole) (component (r .chosen)) ⌝ }
-{
-    if n < 2 {
-        return nothing(n == 1);
-    }
-    let i = cheapest(weight, first, rows);
-    if i == 0 {
-        return nothing(false);
-    }
-    incidence::match_each(left, right, &rows.words, words, left_at, right_at);
-    let start = begin(left, right, words, left_at, right_at, i);
-    grow_from(
-        left,
-        right,
-        weight,
-        first,
-        rows,
-        n,
-        words,
-        left_at,
-        right_at,
-        start,
-    )
-}
-
-// The tree of n vertices over the rows of a slice, with the ends that the byte columns hold; the weights are lent as columns, of which the first are left out. The columns of rows are as wide as the rows ask.
+// The tree of n vertices over the rows of a slice, with the ends that the byte columns hold, which are loaded for MATCH; the weights are lent as columns, of which the first are left out. For one vertex no row is chosen.
 pub fn grow_tree(
     left: &[u8],
     right: &[u8],
@@ -181,20 +144,31 @@ pub fn grow_tree(
 ) -> Grown
     ensures { λ r. ⌜ Grows (graphBy (loadedRow 1 (now (left .entry))) (loadedRow 1 (now (right .entry))) rows n) (integersAfter (now (weight .entry)) first) (r .whole) (component (r .chosen)) ⌝ }
 {
-    let words = incidence::words_of(&rows.words);
-    if words <= 1 {
-        let mut a = [0u64; incidence::OF_ONE];
-        let mut b = [0u64; incidence::OF_ONE];
-        return grow_in(left, right, weight, first, rows, n, 1, &mut a, &mut b);
+    if n < 2 {
+        return nothing(n == 1);
     }
-    if words <= 4 {
-        let mut a = [0u64; incidence::OF_FOUR];
-        let mut b = [0u64; incidence::OF_FOUR];
-        return grow_in(left, right, weight, first, rows, n, 4, &mut a, &mut b);
+    let i = cheapest(weight, first, rows);
+    if i == 0 {
+        return nothing(false);
     }
-    let mut a = [0u64; incidence::OF_SIXTEEN];
-    let mut b = [0u64; incidence::OF_SIXTEEN];
-    grow_in(left, right, weight, first, rows, n, 16, &mut a, &mut b)
+    let mut left_ends = [0u64; table_loads::ALL];
+    table_loads::put_ends(left, &mut left_ends);
+    let mut right_ends = [0u64; table_loads::ALL];
+    table_loads::put_ends(right, &mut right_ends);
+    let words = search_join::words_for(&rows.words);
+    let start = begin(left, right, &left_ends, &right_ends, rows, words, i);
+    grow_from(
+        left,
+        right,
+        &left_ends,
+        &right_ends,
+        weight,
+        first,
+        rows,
+        words,
+        n,
+        start,
+    )
 }
 
 // The tree of n vertices over the rows of a slice among the first m, by the weights as they are loaded. MIN leaves out the columns on the left that only repeat the sign.

@@ -1,11 +1,10 @@
 // The tree that the exchanges at a vertex r start from: it grows as MST1's does, but rows at r are chosen before all others; so it has as many rows at r as there can be.
-// The ends stand in byte columns; what MATCH gives for each vertex is found once, by one pass over the rows. The columns of weights are lent as a table's.
+// The ends stand in byte columns, which are loaded for MATCH; it gives the rows at r, and those of each vertex that is reached. The columns of weights are lent as a table's.
 ghost use Prim.Native.Nat.{_-_, _≤_};
 ghost use mathlib.Core.Bool.{cond};
 ghost use mathlib.Core.Path.{_≡_};
 ghost use Rattle.outlets_theory.specs.Degree.{touches};
-ghost use Rattle.incidence.specs.steps.Rows.{Blank, EachMatch};
-ghost use Rattle.search_columns.specs.steps.Rows.{NonePast};
+ghost use Rattle.search_join.specs.steps.Ends.{EachEnd};
 ghost use Rattle.path_matrix.specs.Matrix.{matrixColumn};
 ghost use Rattle.rowset.specs.Columns.{width};
 ghost use Rattle.rowset.specs.Integers.{integerIn};
@@ -60,13 +59,13 @@ fn nothing(whole: bool, at: Slice) -> Started
     }
 }
 
-// The tree of n vertices, two or more. `left_at` and `right_at` have a column for each vertex: the rows whose left end it is, and those whose right end it is.
+// The tree of n vertices, two or more. The columns of ends are loaded, and MATCH looks in so many words.
 // The rows with exactly one end in the fragment are those that only one of x, the rows whose left end is in it, and y has. The three slices are changed in place.
 fn grow(
     left: &[u8],
     right: &[u8],
-    left_at: &[u64],
-    right_at: &[u64],
+    left_ends: &[u64; table_loads::ALL],
+    right_ends: &[u64; table_loads::ALL],
     words: usize,
     weights: &[u64],
     first: usize,
@@ -77,7 +76,7 @@ fn grow(
 ) -> Started
     requires { let g = graphIn (loadedRow 1 (now left)) (loadedRow 1 (now right)) (component rows) n in
         ⌜ (2 ≤ n) × (component at ≡ both (component rows) (touches g r))
-        × EachMatch words (now «left_at») (loadedRow 1 (now left)) (component rows) × EachMatch words (now «right_at») (loadedRow 1 (now right)) (component rows) ⌝ }
+        × EachEnd words (now «left_ends») (loadedRow 1 (now left)) (component rows) × EachEnd words (now «right_ends») (loadedRow 1 (now right)) (component rows) ⌝ }
     ensures starts { λ t.
         let g = graphIn (loadedRow 1 (now (left .entry))) (loadedRow 1 (now (right .entry))) (component rows) n in
         let w = integerIn (matrixColumn (now (weights .entry))) first (width - first) in
@@ -91,11 +90,11 @@ fn grow(
     let a = table_loads::end_at(left, i);
     let b = table_loads::end_at(right, i);
     let mut x = [0u64; WORDS];
-    incidence::join_at(&mut x, left_at, words, a);
-    incidence::join_at(&mut x, left_at, words, b);
+    search_join::match_ends(&mut x, left_ends, a, &rows.words, words);
+    search_join::match_ends(&mut x, left_ends, b, &rows.words, words);
     let mut y = [0u64; WORDS];
-    incidence::join_at(&mut y, right_at, words, a);
-    incidence::join_at(&mut y, right_at, words, b);
+    search_join::match_ends(&mut y, right_ends, a, &rows.words, words);
+    search_join::match_ends(&mut y, right_ends, b, &rows.words, words);
     let mut chosen = [0u64; WORDS];
     slice_words::put_row(&mut chosen, i);
     let mut k = 2;
@@ -106,8 +105,8 @@ fn grow(
             return nothing(false, at);
         }
         let far = far_end(left, right, slice_words::row_in(&x, j), j);
-        incidence::join_at(&mut x, left_at, words, far);
-        incidence::join_at(&mut y, right_at, words, far);
+        search_join::match_ends(&mut x, left_ends, far, &rows.words, words);
+        search_join::match_ends(&mut y, right_ends, far, &rows.words, words);
         slice_words::put_row(&mut chosen, j);
         k += 1;
     }
@@ -118,12 +117,12 @@ fn grow(
     }
 }
 
-// The start where `left_at` and `right_at` have the rows that MATCH gives for each vertex. For one vertex no row is chosen.
+// The start where the columns of ends are loaded. For one vertex no row is chosen.
 fn start_by(
     left: &[u8],
     right: &[u8],
-    left_at: &[u64],
-    right_at: &[u64],
+    left_ends: &[u64; table_loads::ALL],
+    right_ends: &[u64; table_loads::ALL],
     words: usize,
     weights: &[u64],
     first: usize,
@@ -131,7 +130,7 @@ fn start_by(
     n: usize,
     r: u32,
 ) -> Started
-    requires { ⌜ EachMatch words (now «left_at») (loadedRow 1 (now left)) (component rows) × EachMatch words (now «right_at») (loadedRow 1 (now right)) (component rows) ⌝ }
+    requires { ⌜ EachEnd words (now «left_ends») (loadedRow 1 (now left)) (component rows) × EachEnd words (now «right_ends») (loadedRow 1 (now right)) (component rows) ⌝ }
     ensures starts { λ t.
         let g = graphIn (loadedRow 1 (now (left .entry))) (loadedRow 1 (now (right .entry))) (component rows) n in
         let w = integerIn (matrixColumn (now (weights .entry))) first (width - first) in
@@ -141,8 +140,8 @@ fn start_by(
         ⌜ component (t .at) ≡ both (component rows) (touches g r) ⌝ }
 {
     let mut found = [0u64; WORDS];
-    incidence::join_at(&mut found, left_at, words, r);
-    incidence::join_at(&mut found, right_at, words, r);
+    search_join::match_ends(&mut found, left_ends, r, &rows.words, words);
+    search_join::match_ends(&mut found, right_ends, r, &rows.words, words);
     let at = Slice { words: found };
     if n < 2 {
         return nothing(n == 1, at);
@@ -150,8 +149,8 @@ fn start_by(
     grow(
         left,
         right,
-        left_at,
-        right_at,
+        left_ends,
+        right_ends,
         words,
         weights,
         first,
@@ -162,44 +161,7 @@ fn start_by(
     )
 }
 
-// The start with lent words that are blank: what MATCH gives for each vertex comes to columns of so many words, as many as the rows need.
-fn start_in(
-    left: &[u8],
-    right: &[u8],
-    left_at: &mut [u64],
-    right_at: &mut [u64],
-    words: usize,
-    weights: &[u64],
-    first: usize,
-    rows: Slice,
-    n: usize,
-    r: u32,
-) -> Started
-    requires { ⌜ Blank words (now «left_at») × Blank words (now «right_at») × NonePast words (component rows) ⌝ }
-    ensures starts { λ t.
-        let g = graphIn (loadedRow 1 (now (left .entry))) (loadedRow 1 (now (right .entry))) (component rows) n in
-        let w = integerIn (matrixColumn (now (weights .entry))) first (width - first) in
-        ⌜ Starts g w r (t .whole) (component (t .chosen)) ⌝ }
-    ensures at { λ t.
-        let g = graphIn (loadedRow 1 (now (left .entry))) (loadedRow 1 (now (right .entry))) (component rows) n in
-        ⌜ component (t .at) ≡ both (component rows) (touches g r) ⌝ }
-{
-    incidence::match_each(left, right, &rows.words, words, left_at, right_at);
-    start_by(
-        left,
-        right,
-        left_at,
-        right_at,
-        words,
-        weights,
-        first,
-        rows,
-        n,
-        r,
-    )
-}
-
-// The start over the rows of a slice, whose ends stand in byte columns and whose weights the lent columns hold. A vertex takes a column of one, four or sixteen words.
+// The start over the rows of a slice, whose ends stand in byte columns and whose weights the lent columns hold.
 pub fn start_of(
     left: &[u8],
     right: &[u8],
@@ -217,47 +179,17 @@ pub fn start_of(
         let g = graphIn (loadedRow 1 (now (left .entry))) (loadedRow 1 (now (right .entry))) (component rows) n in
         ⌜ component (t .at) ≡ both (component rows) (touches g r) ⌝ }
 {
-    let words = incidence::words_of(&rows.words);
-    if words == 1 {
-        let mut lefts = [0u64; incidence::OF_ONE];
-        let mut rights = [0u64; incidence::OF_ONE];
-        return start_in(
-            left,
-            right,
-            &mut lefts,
-            &mut rights,
-            1,
-            weights,
-            first,
-            rows,
-            n,
-            r,
-        );
-    }
-    if words == 4 {
-        let mut lefts = [0u64; incidence::OF_FOUR];
-        let mut rights = [0u64; incidence::OF_FOUR];
-        return start_in(
-            left,
-            right,
-            &mut lefts,
-            &mut rights,
-            4,
-            weights,
-            first,
-            rows,
-            n,
-            r,
-        );
-    }
-    let mut lefts = [0u64; incidence::OF_SIXTEEN];
-    let mut rights = [0u64; incidence::OF_SIXTEEN];
-    start_in(
+    let mut left_ends = [0u64; table_loads::ALL];
+    table_loads::put_ends(left, &mut left_ends);
+    let mut right_ends = [0u64; table_loads::ALL];
+    table_loads::put_ends(right, &mut right_ends);
+    let words = search_join::words_for(&rows.words);
+    start_by(
         left,
         right,
-        &mut lefts,
-        &mut rights,
-        16,
+        &left_ends,
+        &right_ends,
+        words,
         weights,
         first,
         rows,

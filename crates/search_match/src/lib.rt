@@ -20,7 +20,7 @@ pub struct Matched {
 }
 
 // Whether w has no digit before those of the columns that are not left out.
-fn fits(first: usize, w: u32) -> bool
+pub fn fits(first: usize, w: u32) -> bool
     ensures { λ r. ⌜ r ≡ eqb (w / 2 ^ (width - first)) 0 ⌝ }
 {
     let columns = if first < WIDTH { WIDTH - first } else { 0 };

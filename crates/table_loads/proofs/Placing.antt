@@ -3,7 +3,7 @@
 use Prim.Native.Nat.{ℕ, zero, suc, _+_, _*_, _-_, _/_, _%_, _≤_, _<_}
 use mathlib.Core.List.{List}
 use mathlib.Core.Logic.{by-cases}
-use mathlib.Core.Path.{_≡_, refl, ap, ap₂, _∙_}
+use mathlib.Core.Path.{_≡_, refl, ap, ap₂, sym, _∙_}
 use native.Mathlib.Decide.{ℕ-discrete, decLt}
 use native.Mathlib.Omega.{arith}
 use lib.ListN.{length, getD, set, length-set}
@@ -68,13 +68,20 @@ module _ (l column : List ℕ) (stride q : ℕ) where
             ∙ planes-same m (16 * (31 - 8 * n) + q) (planeWord column stride n q) 8 (p - 8 * n) (omega (arith, c)) (omega arith) (omega (arith, length-bytes n))
             ∙ ap₂ (λ a b. planeWord column stride a q b) byte place
 
-    -- the other words
+    -- the other words, and the other columns
     bytes-other : (n j x : ℕ) → n ≤ 4 → x < 16 → (x ≡ q → ⊥) → getD (withBytes l column stride q n) (16 * j + x) 0 ≡ getD l (16 * j + x) 0
     unfolding withBytes
     bytes-other zero j x h i o = refl
     bytes-other (suc n) j x h i o =
         planes-other (withBytes l column stride q n) (16 * (31 - 8 * n) + q) (planeWord column stride n q) 8 (16 * j + x) (λ k u e. o (omega arith))
         ∙ bytes-other n j x (omega arith) i o
+
+    bytes-above : (n p x : ℕ) → n ≤ 4 → x < 16 → 8 * n ≤ p → p < 32 → getD (withBytes l column stride q n) (16 * (31 - p) + x) 0 ≡ getD l (16 * (31 - p) + x) 0
+    unfolding withBytes
+    bytes-above zero p x h i o u = refl
+    bytes-above (suc n) p x h i o u =
+        planes-other (withBytes l column stride q n) (16 * (31 - 8 * n) + q) (planeWord column stride n q) 8 (16 * (31 - p) + x) (λ k v e. omega arith)
+        ∙ bytes-above n p x (omega arith) i (omega arith) u
 
 module _ (l column : List ℕ) (stride : ℕ) where
   pub length-words : (n : ℕ) → length (withWords l column stride n) ≡ length l
@@ -83,7 +90,7 @@ module _ (l column : List ℕ) (stride : ℕ) where
   length-words (suc n) = length-bytes (withWords l column stride n) column stride n stride ∙ length-words n
 
   module _ (few : stride ≤ 4) (full : length l ≡ 512) where
-    -- the first n words of the columns of the bytes, and the words after them
+    -- the first n words of the columns of the bytes, the words after them, and the columns before them
     pub words-same : (n p q : ℕ) → n ≤ 16 → q < n → p < 8 * stride → getD (withWords l column stride n) (16 * (31 - p) + q) 0 ≡ planeWord column stride (p / 8) q (p % 8)
     unfolding withWords
     words-same zero p q h i b = absurd (omega arith)
@@ -105,3 +112,10 @@ module _ (l column : List ℕ) (stride : ℕ) where
     words-after (suc n) j q h i =
         bytes-other (withWords l column stride n) column stride n (omega arith) (length-words n ∙ full) stride j q few i (λ e. omega arith)
         ∙ words-after n j q (omega arith) i
+
+    pub words-before : (n p q : ℕ) → n ≤ 16 → q < 16 → 8 * stride ≤ p → p < 32 → getD (withWords l column stride n) (16 * (31 - p) + q) 0 ≡ getD l (16 * (31 - p) + q) 0
+    unfolding withWords
+    words-before zero p q h i o u = refl
+    words-before (suc n) p q h i o u =
+        bytes-above (withWords l column stride n) column stride n (omega arith) (length-words n ∙ full) stride p q few i o u
+        ∙ words-before n p q (omega arith) i o u

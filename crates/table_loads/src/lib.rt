@@ -1,8 +1,8 @@
-// Prices, four bytes a row, loaded straight into the words of a table's columns, which the caller lends: only the words that the rows reach are written. Columns of zeros then hold the table. A column that cannot be loaded, one of over 1,024 rows or whose length is not a number of whole rows, leaves all as it was.
+// Byte columns loaded straight into the words of a table's columns, which the caller lends: ends, with one byte a row, and prices, with four. Only the words that the rows reach are written, and of a table of ends only the last eight columns. Columns of zeros then hold the table. A column that cannot be loaded, one of over 1,024 rows or whose length is not a number of whole rows, leaves all as it was.
 // The bytes of eight rows, each eight after the one before it, go into one word, a block. The bits k of its bytes are then taken out together, so that eight blocks give 64 rows.
-// Beside the load: how many columns only repeat the sign, and a row's end, which is read from its byte and needs no load.
+// Beside the loads: how many columns only repeat the sign, and a row's end, which is read from its byte and needs no load.
 ghost use mathlib.Core.Path.{_≡_};
-ghost use Prim.Native.Nat.{ℕ, _+_, _*_, _/_, _<_, _≤_};
+ghost use Prim.Native.Nat.{ℕ, _+_, _-_, _*_, _/_, _<_, _≤_};
 ghost use lib.ListN.{length, getD};
 ghost use Rattle.rowset.specs.Columns.{width, inColumns, repeatedColumns};
 ghost use Rattle.path_matrix.specs.Matrix.{matrixColumn};
@@ -141,18 +141,36 @@ fn put_words(columns: &mut [u64; ALL], column: &[u8], stride: usize, rows: usize
     }
 }
 
+// A load of a column with `stride` bytes a row. Where the columns held zeros, all of them, or as many of the last as the bytes need, then hold the rows.
+fn put(column: &[u8], stride: usize, columns: &mut [u64; ALL])
+    requires { ⌜ (1 ≤ stride) × (stride ≤ 4) ⌝ }
+    ensures columns { λ u. ⌜ now (columns .exit) ≡ withLoad (now (columns .entry)) (now (column .entry)) stride ⌝ }
+    ensures rows { λ u. ⌜ (Zeros (now (columns .entry)) → (s n : ℕ) → s + n ≡ width → 8 * stride ≤ n → inColumns (matrixColumn (now (columns .exit))) s n ≡ loadedRow stride (now (column .entry))) ⌝ }
+{
+    if stride * slice::SIZE < column.len() {
+        return;
+    }
+    if column.len() % stride != 0 {
+        return;
+    }
+    put_words(columns, column, stride, column.len() / stride);
+}
+
+// A table with one byte a row, put into columns. Where they held zeros, the number in the last eight columns, and so in all, is then the row's.
+pub fn put_ends(column: &[u8], columns: &mut [u64; ALL])
+    ensures columns { λ u. ⌜ now (columns .exit) ≡ withLoad (now (columns .entry)) (now (column .entry)) 1 ⌝ }
+    ensures last { λ u. ⌜ (Zeros (now (columns .entry)) → inColumns (matrixColumn (now (columns .exit))) 24 (width - 24) ≡ loadedRow 1 (now (column .entry))) ⌝ }
+    ensures rows { λ u. ⌜ (Zeros (now (columns .entry)) → inColumns (matrixColumn (now (columns .exit))) 0 width ≡ loadedRow 1 (now (column .entry))) ⌝ }
+{
+    put(column, 1, columns);
+}
+
 // A table with four bytes a row, least significant first, put into columns. Where they held zeros, the number in all of them is then the row's.
 pub fn put_prices(column: &[u8], columns: &mut [u64; ALL])
     ensures columns { λ u. ⌜ now (columns .exit) ≡ withLoad (now (columns .entry)) (now (column .entry)) 4 ⌝ }
     ensures rows { λ u. ⌜ (Zeros (now (columns .entry)) → inColumns (matrixColumn (now (columns .exit))) 0 width ≡ loadedRow 4 (now (column .entry))) ⌝ }
 {
-    if 4 * slice::SIZE < column.len() {
-        return;
-    }
-    if column.len() % 4 != 0 {
-        return;
-    }
-    put_words(columns, column, 4, column.len() / 4);
+    put(column, 4, columns);
 }
 
 // The number of columns on the left that GREAT, MIN and MAX may leave out: those before the last of the columns on the left that equal column 1.

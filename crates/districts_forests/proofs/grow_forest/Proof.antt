@@ -14,12 +14,12 @@ use Rattle.districts_forests.proofs.grow_forest.Statement.{statement}
 use Rattle.districts_forests.proofs.grow_forest.Tie as tie
 
 abbrev Inv-loop : tie.InvT-loop
-Inv-loop left right weight first rows n words left-at right-at lefts₀ rights₀ chosen₀ k₀ lefts rights chosen k =
+Inv-loop left right left-ends right-ends weight first words n rows lefts₀ rights₀ chosen₀ k₀ lefts rights chosen k =
     (k ≤ n) × Grew (graphBy (loadedRow 1 left) (loadedRow 1 right) rows n) (integersAfter weight first) k (inWords lefts) (inWords rights) (inWords chosen)
     × (n < 2 ^ 64)
 
 abbrev μ-loop : tie.MeasureT-loop
-μ-loop left right weight first rows n words left-at right-at lefts₀ rights₀ chosen₀ k₀ lefts rights chosen k = n - k
+μ-loop left right left-ends right-ends weight first words n rows lefts₀ rights₀ chosen₀ k₀ lefts rights chosen k = n - k
 
 loop-holds : tie.Need-loop-holds Inv-loop μ-loop
 unfolding inWords component bit
@@ -30,35 +30,40 @@ unfolding inWords component bit
 returns c =
     let x = c .before in
     let s = x .before in
-    let rows = s .before .before .before .before .before .before .before .args .rows in
+    let rows = s .before .before .before .before .before .args .t7 in
     grew-ended _ _ _ rows _ (s .before .loop .inv .1) (x .next-row .ensures) (s .before .loop .inv .0) (c .if1 .taken)
 
 loop-again : tie.Need-loop-again Inv-loop μ-loop
 unfolding inWords component bit
 loop-again c =
     let right-v = c .before .before in
-    let right-u = right-v .before .before in
-    let left-v = right-u .before .before in
-    let left-u = left-v .before .before in
-    let v = left-u .before .before in
+    let right-u = right-v .before .before .before .before in
+    let left-v = right-u .before .before .before .before in
+    let left-u = left-v .before .before .before .before in
+    let v = left-u .before .before .before .before in
     let u = v .before in
     let y = u .before in
     let x = y .before in
     let s = x .before in
     let l = s .before .loop in
-    let entry = s .before .before .before .before .before .before .before in
-    let rows = entry .args .rows in (
+    let entry = s .before .before .before .before .before in
+    let rows = entry .args .t7 in (
       omega (arith, s .loop-test .taken),
       grew-more _ _ _ rows _ (l .inv .1) (x .next-row .ensures) (omega (arith, y .if1 .left)) (u .end-at .ensures .0) (v .end-at2 .ensures .0)
-          (joined-both _ _ _ (component rows) _ _ _ (entry .pre .0) (left-u .join-at .ensures .0) (left-v .join-at2 .ensures .0))
-          (joined-both _ _ _ (component rows) _ _ _ (entry .pre .1) (right-u .join-at3 .ensures .0) (right-v .join-at4 .ensures .0))
+          (joined-both _ _ _ (component rows) _ _ _ (entry .pre .0) (left-u .match-ends .ensures .0) (left-v .match-ends2 .ensures .0))
+          (joined-both _ _ _ (component rows) _ _ _ (entry .pre .1) (right-u .match-ends3 .ensures .0) (right-v .match-ends4 .ensures .0))
           (c .put-row .ensures .0),
       l .inv .2,
     )
 
+add-k : tie.Need-add-k Inv-loop μ-loop
+add-k c =
+    let test = c .before .before .before .before .before .before .before .before .before .before .before .before .before .before .before .before .before .before .before .before .before .before in
+    omega (arith, test .loop-test .taken, test .before .loop .inv .2)
+
 returns-2 : tie.Need-returns-2 Inv-loop μ-loop
 unfolding inWords component bit
-returns-2 c = grew-whole _ _ _ (c .before .before .before .before .before .before .before .args .rows) _ (c .before .loop .inv .1) (omega arith)
+returns-2 c = grew-whole _ _ _ (c .before .before .before .before .before .args .t7) _ (c .before .loop .inv .1) (omega arith)
 
 pub grow-forest-spec : {M : Type 1} → statement M
 grow-forest-spec =
@@ -76,7 +81,7 @@ grow-forest-spec =
     (λ c κs. search needs)
     (λ c κs. search needs)
     (λ c κs. search needs)
-    (λ c. omega arith)
-    (λ c. omega arith)
+    add-k
+    (λ c. omega (arith, c .before .before .before .before .before .before .before .before .before .before .before .before .before .before .before .before .before .before .before .before .before .before .loop-test .taken))
     loop-again
     returns-2)
