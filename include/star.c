@@ -19,8 +19,7 @@ static const char *const TEXTS[] = {
     [STAR_BAD_MARK_COUNT] = "the marked rows are not one fewer than the junctions",
     [STAR_NOT_JOINED] = "the marked rows do not join all junctions",
     [STAR_NO_NETWORK] = "no set of rows joins every junction",
-    [STAR_BAD_TEXT] =
-        "the text is longer than 65536 bytes or breaks the layout of its kind of file",
+    [STAR_BAD_TEXT] = "the text is longer than its kind of file may be or breaks its layout",
     [STAR_BAD_EDGE_COUNT] = "the E lines are not as many as the line Edges says",
     [STAR_BAD_RUNS] =
         "the ends of the runs are more than eight, do not rise, or do not close with the last row",
@@ -29,6 +28,13 @@ static const char *const TEXTS[] = {
     [STAR_TABLE_FULL] = "a row is added, and all 1024 are in use",
     [STAR_NOT_IN_USE] = "the row to strike is not in use",
     [STAR_NO_OUTLETS] = "no network has exactly this number of rows at the junction",
+    [STAR_NOT_TRENCH] = "a line is not a trench: two junctions, a price, and a mark or none",
+    [STAR_NOT_JUNCTION] = "a junction is neither a number from 1 to 255 nor a name",
+    [STAR_NOT_PRICE] = "a price is not a whole number from -2147483648 to 2147483647",
+    [STAR_NOT_MARK] = "a mark is neither 1, x, yes, true nor 0, no, false",
+    [STAR_NOT_COUNT] = "a line 'junctions N' is none, or a second one",
+    [STAR_MIXED_NAMES] = "a name stands among numbers of junctions, or a number among names",
+    [STAR_TOO_MANY_NAMES] = "there are more than 255 names of junctions",
     [STAR_NOT_STRUCK] = "the row to put back is in use, or is none of the table",
 };
 

@@ -25,6 +25,7 @@
  * star_plan_digs  writes the dig list of a claim that is a tree.
  * star_total  adds up the prices of the marked rows, whether they are a tree or not.
  * star_import reads a SteinLib STP text into columns of 1,024 rows; it has no marks.
+ * star_read_table  reads a planner's table file into a working table, with marks and names.
  * star_districts  finds the least rows of each run of the rows, and a least network from them.
  * star_mend       turns any claim into a least network, and lists each step.
  * star_outlets    builds a network, least of those with an exact number of rows at a junction.
@@ -49,9 +50,10 @@
  * text fewer than 6,370 bytes); then nothing is written anywhere. star_which returns 1 for the
  * first claim, 2 for the second, and 0 on a refusal too. Every other input is taken, whatever its
  * bytes and lengths: a fault is told as a refusal with its number and place, and a refused call
- * leaves the marks, the matrix, the columns lent to star_import, the dig list's text, the forests,
- * the records, the rows lent to star_detours, the groups and the rings, and the working table and
- * the numbers lent to star_strike, star_restore, star_add and star_merge, as they were.
+ * leaves the marks, the matrix, the columns lent to star_import and star_read_table, the dig list's
+ * text, the forests, the records, the rows lent to star_detours, the groups and the rings, and the
+ * working table and the numbers lent to star_strike, star_restore, star_add and star_merge, as they
+ * were.
  *
  * The caller owes that each pointer has as many readable bytes behind it as its length says
  * (writable ones behind answer, and behind every other pointer that is not to const), and that a
@@ -110,16 +112,19 @@ enum { STAR_COLUMN_WORDS = 16 };
 /* The longest text that is read, and the longest dig list. */
 enum { STAR_MAX_TEXT = 65536, STAR_MAX_LIST = 6370 };
 
+/* The longest table file that is read, and the most names of junctions. */
+enum { STAR_MAX_FILE = 16777216, STAR_MAX_NAMES = 255 };
+
 /* Byte 0 of an answer. */
 enum star_kind {
     STAR_REFUSED = 0,
     STAR_PASSED = 1, /* star_cst, star_other: no cheaper set exists; star_mst1: the network is
                         built; star_paths: the matrix is filled; star_quote: both totals are found;
                         star_breaking: there is such a price; star_which: both claims are trees;
-                        star_digs, star_plan_digs: the list is written; star_import: the text is
-                        read; star_total: the prices are added up; star_strike, star_restore,
-                        star_add, star_merge, star_carry, star_districts, star_mend, star_outlets,
-                        star_detours, star_groups: done */
+                        star_digs, star_plan_digs: the list is written; star_import,
+                        star_read_table: the text is read; star_total: the prices are added up;
+                        star_strike, star_restore, star_add, star_merge, star_carry, star_districts,
+                        star_mend, star_outlets, star_detours, star_groups: done */
     STAR_LIGHTER = 2 /* star_cst, star_other: a cheaper set exists: the exchange of two rows is
                         one */
 };
@@ -134,13 +139,13 @@ enum star_breaking_kind {
  * door lists its refusals below in their order: the first of them that applies is told. */
 enum star_refusal {
     STAR_BAD_JUNCTION_COUNT = 1, /* n is 0 or above 255 */
-    STAR_TOO_MANY_ROWS = 2,      /* m is above 1,024 */
+    STAR_TOO_MANY_ROWS = 2,      /* m is above 1,024; star_read_table: place: the 1,025th trench */
     STAR_BAD_LENGTHS = 3,        /* right, mark (star_which: first or second), forests or rings is
                                     not m bytes, weight not 4 m, rows (star_detours) not m numbers,
-                                    or groups (star_groups) not n bytes;
-                                    star_import and working tables: not 1,024 rows; working tables:
-                                    the rows in use are not sixteen words, or the numbers not
-                                    1,024 */
+                                    or groups (star_groups) not n bytes; star_import,
+                                    star_read_table and working tables: not 1,024 rows; working
+                                    tables: the rows in use are not sixteen words, or the numbers
+                                    not 1,024; star_read_table: or the names' places not 255 */
     STAR_BAD_END = 4,            /* place: the uppermost row with an end that is 0 or above n, or
                                     with equal ends */
     STAR_BAD_MARK = 6,           /* place: the uppermost row marked with another byte than 0 and 1
@@ -160,7 +165,8 @@ enum star_refusal {
                                     star_mend, star_outlets) */
     STAR_BAD_TEXT = 12,          /* place: the first byte, counted from 0, of the first word that
                                     cannot stand; the text's length if it ends too early; 65,536 if
-                                    it is longer (star_import, star_digs_text) */
+                                    it is longer (star_import, star_digs_text); star_read_table: the
+                                    text is longer than 16,777,216 bytes, which is the place */
     STAR_BAD_EDGE_COUNT = 13,    /* the E lines are not as many as the line Edges says (star_import,
                                     star_digs_text) */
     STAR_BAD_RUNS = 14,          /* the ends are more than eight, one is not above the one before it
@@ -175,6 +181,15 @@ enum star_refusal {
                                     told before 3 */
     STAR_NO_OUTLETS = 19,        /* the table is connected, and no network has exactly t rows at r
                                     (star_outlets); told after 11 */
+    STAR_NOT_TRENCH = 20,        /* 20 to 26: star_read_table, with the byte of the field, counted
+                                    from 0. Place: the first field of a line that has not two
+                                    junctions, a price, and a mark or none */
+    STAR_NOT_JUNCTION = 21,      /* neither a number from 1 to 255 nor a name */
+    STAR_NOT_PRICE = 22,         /* not a whole number in the range */
+    STAR_NOT_MARK = 23,          /* neither 1, x, yes, true nor 0, no, false */
+    STAR_NOT_COUNT = 24,         /* not a line junctions N, or a second one */
+    STAR_MIXED_NAMES = 25,       /* a name among numbers or a number among names */
+    STAR_TOO_MANY_NAMES = 26,    /* a 256th name */
     STAR_NOT_STRUCK = 27         /* the row is in use, or none from 1 to 1,024 (star_restore); told
                                     before 3 */
 };
@@ -524,6 +539,30 @@ uint32_t star_import(const uint8_t *text, size_t text_len, uint8_t *left, size_t
                      uint8_t *right, size_t right_len, uint8_t *weight, size_t weight_len,
                      uint8_t *answer, size_t answer_len);
 
+/* Reads a planner's table file: a line for each trench, its two junctions, its price, and a mark or
+ * none, the fields parted by semicolons, tabs, commas or blanks; comments after #; junctions as
+ * numbers or as names; docs/TABLE-FILES.md has the rules. It fills a working table: left, right
+ * and mark are lent for 1,024 rows, weight is 4,096 bytes, in_use sixteen words. Row i is the i-th
+ * trench of the file; a line that opens with struck gives a row that is not in use. name_from and
+ * name_to, 255 numbers each, get where each name is first met: byte name_from[k] is its first one,
+ * and name_to[k] the place after its last; junction k + 1 has it. row_at, 1,024 numbers, gets the
+ * place of each trench's first field. Rows and names past those of the file keep their content;
+ * in_use is written whole. star_read_file reads the answer. A refusal is 3, 20, 21, 22, 23, 24, 25,
+ * 2 or 26: 3 before the text is read, then the first line that cannot stand, and in it the first
+ * fault in this order; a text of more than 16,777,216 bytes is refused 12, after 3. A refusal
+ * leaves every column as it was. What else is wrong with the rows, such as two equal ends, is told
+ * when the table is next judged or built. */
+uint32_t star_read_table(const uint8_t *text, size_t text_len, uint64_t *in_use,
+                         size_t in_use_words, uint8_t *left, size_t left_len, uint8_t *right,
+                         size_t right_len, uint8_t *weight, size_t weight_len, uint8_t *mark,
+                         size_t mark_len, uint32_t *name_from, size_t name_from_count,
+                         uint32_t *name_to, size_t name_to_count, uint32_t *row_at,
+                         size_t row_at_count, uint8_t *answer, size_t answer_len);
+
+/* The line of a place in a text, counted from 1: LF, CR or CR with LF after it end a line. A place
+ * past the text's end is in its last line. */
+uint64_t star_line_of(const uint8_t *text, size_t text_len, uint32_t place);
+
 /* Packs a price into the weight column, and reads one, at an index from 0 on, as left[index]: row i
  * is at index i - 1. */
 STAR_INLINE void star_put_price(uint8_t *weight, size_t index, int32_t price) {
@@ -538,7 +577,7 @@ STAR_INLINE int32_t star_get_price(const uint8_t *weight, size_t index) {
     return bits <= INT32_MAX ? (int32_t)bits : -1 - (int32_t)~bits;
 }
 
-/* The sixteen bytes of every door but star_import and a refused star_digs_text, and the first
+/* The sixteen bytes of every door but star_import, star_read_table and a refused star_digs_text, and the first
  * sixteen of star_quote, as fields; those that a kind lacks are 0. */
 struct star_answer {
     unsigned kind;   /* byte 0: enum star_kind */
@@ -609,6 +648,29 @@ STAR_INLINE struct star_imported star_read_imported(const uint8_t bytes[16]) {
     i.m = a.in;
     i.place = (uint64_t)a.amount;
     return i;
+}
+
+/* The sixteen bytes of star_read_table as fields; those that a kind lacks are 0. */
+struct star_file {
+    unsigned kind;   /* byte 0: STAR_PASSED or STAR_REFUSED */
+    unsigned number; /* byte 1: enum star_refusal, 0 unless refused */
+    unsigned names;  /* bytes 2 and 3: the names, 0 where junctions are numbers */
+    unsigned m;      /* bytes 4 and 5: the rows, struck ones too */
+    uint32_t n;     /* bytes 8 to 15: the junctions; a line junctions N may say more than 255, which
+                        the next call that looks at the table refuses */
+    uint32_t place; /* bytes 8 to 15 of a refusal: the place */
+};
+
+STAR_INLINE struct star_file star_read_file(const uint8_t bytes[16]) {
+    struct star_answer a = star_read_answer(bytes);
+    struct star_file f;
+    f.kind = a.kind;
+    f.number = a.number;
+    f.names = a.out;
+    f.m = a.in;
+    f.n = a.kind == STAR_PASSED ? (uint32_t)a.amount : 0;
+    f.place = a.kind == STAR_PASSED ? 0 : (uint32_t)a.amount;
+    return f;
 }
 
 /* A table with all that belongs to it: a working table, its marks and its number of junctions. The

@@ -135,7 +135,8 @@ static void call_text(struct call *c, unsigned k, const struct table *t, unsigne
     static uint8_t text[TEXT_ROOM];
     size_t length;
     memset(text, '\n', sizeof text);
-    length = table_text(t, aim, text, sizeof text);
+    length = is(c->door->name, "star_read_table") ? table_file(t, aim, text, sizeof text)
+                                                  : table_text(t, aim, text, sizeof text);
     call_lend(c, k, text, length);
 }
 
@@ -153,6 +154,8 @@ static size_t call_output(const struct call *c, const struct table *t, const cha
         return 12 * (aim == STAR_SHORT_RECORDS && rows ? any(2 * (uint32_t)rows) : 2 * rows + more);
     if (is(name, "text")) return STAR_MAX_LIST + more;
     if (is(name, "groups")) return t->n > 255 ? 255 : (size_t)t->n;
+    if (is(name, "name_from") || is(name, "name_to")) return 4 * STAR_MAX_NAMES;
+    if (is(name, "row_at")) return 4 * TABLE_ROWS;
     return size * t->rows;
 }
 

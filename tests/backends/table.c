@@ -176,3 +176,45 @@ size_t table_text(const struct table *t, unsigned number, uint8_t *text, size_t 
     text[any((uint32_t)end)] = (uint8_t)bits();
     return end;
 }
+
+/* A junction in a table file: a number, or a name where the file has names. */
+static size_t file_end(char *to, int names, unsigned junction) {
+    return (size_t)sprintf(to, names ? "Junction %u" : "%u", junction);
+}
+
+/* A line of a table file: one that cannot stand for a reason, or row i. */
+static size_t file_line(const struct table *t, size_t i, int names, unsigned number, char *to) {
+    size_t end = 0;
+    if (!star_in_use(t->in_use, i + 1)) end = (size_t)sprintf(to, "struck;");
+    if (number == STAR_NOT_TRENCH) return (size_t)sprintf(to, "1;2\n");
+    if (number == STAR_NOT_COUNT) return (size_t)sprintf(to, "junctions;\n");
+    if (number == STAR_NOT_JUNCTION) end += (size_t)sprintf(to + end, "256");
+    else if (number == STAR_MIXED_NAMES) end += file_end(to + end, !names, 1);
+    else end += file_end(to + end, names, t->left[i] ? t->left[i] : 1);
+    to[end++] = ';';
+    end += file_end(to + end, names, t->right[i] ? t->right[i] : 1);
+    if (number == STAR_NOT_PRICE) end += (size_t)sprintf(to + end, ";1.000");
+    else end += (size_t)sprintf(to + end, ";%ld", (long)star_get_price(t->weight, i));
+    end += (size_t)sprintf(to + end, ";%u", number == STAR_NOT_MARK ? 50u : t->mark[i] & 1u);
+    return end + (size_t)sprintf(to + end, any(9) ? "\n" : "\r\n");
+}
+
+size_t table_file(const struct table *t, unsigned number, uint8_t *text, size_t most) {
+    size_t last = t->m ? t->at[t->m - 1] + 1 : 0, wrong, i, end = 0;
+    int names = any(2) == 0;
+    char *to = (char *)text;
+    if (number == STAR_TOO_MANY_ROWS) last = TABLE_ROWS + 1;
+    if (number == STAR_TOO_MANY_NAMES) last = TABLE_ROWS;
+    wrong = any((uint32_t)last + 1);
+    if (any(2)) end = (size_t)sprintf(to, "junctions %u\n", (unsigned)t->n);
+    if (number == STAR_MIXED_NAMES && last) end += file_line(t, 0, names, 0, to + end);
+    for (i = 0; i < last && end + 128 < most; i++) {
+        size_t row = i % TABLE_ROWS;
+        if (number == STAR_TOO_MANY_NAMES)
+            end += (size_t)sprintf(to + end, "n%u,%s,5\n", (unsigned)i, "m");
+        else end += file_line(t, row, names, i == wrong ? number : 0, to + end);
+    }
+    if (wrong == last && number >= STAR_NOT_TRENCH && number <= STAR_MIXED_NAMES)
+        end += file_line(t, 0, names, number, to + end);
+    return end;
+}

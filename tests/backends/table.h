@@ -25,4 +25,8 @@ void table_damage(struct table *t, unsigned number);
 /* The table as an STP text, damaged for the numbers that texts have; gives its length. */
 size_t table_text(const struct table *t, unsigned number, uint8_t *text, size_t most);
 
+/* The table as a planner's table file, with struck lines at the rows not in use; damaged so that it
+   is refused with this number. Gives its length. */
+size_t table_file(const struct table *t, unsigned number, uint8_t *text, size_t most);
+
 #endif

@@ -3,6 +3,7 @@ pub mod Names
 pub mod Line
 pub mod Reader
 pub mod Table
+pub mod Door
 pub mod Places
 pub mod Writer
 pub mod Trials

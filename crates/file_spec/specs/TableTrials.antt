@@ -8,6 +8,8 @@ use lib.IntN.{ℤ, pos, negsuc}
 use lib.ListN.{replicate}
 use Rattle.stp_words.specs.Bytes.{bytes}
 use Rattle.stp_words.specs.Trials.{Hold}
+use Rattle.star_spec.specs.Door.{fieldBytes}
+use Rattle.file_spec.specs.Door.{fileFields}
 use Rattle.file_spec.specs.Places.{lineAt}
 use Rattle.file_spec.specs.Table.{Lent, FileAnswer, untaken, taken, reading, wrongSizes, answered, filled, answeredIf, filledIf}
 use Rattle.file_spec.specs.Trials.{weights}
@@ -84,6 +86,16 @@ sizes =
     ∷ (wrongSizes 1024 1024 4096 1024 16 255 255 1025, true)
     ∷ []
 
+-- the bytes of an answer: n, the names and the rows, or the number and the place
+abbrev told : FileAnswer → List ℕ
+told a = fieldBytes (fileFields a)
+
+abbrev answers : List (List ℕ × List ℕ)
+answers =
+    (told (taken 300 255 1024), 1 ∷ 0 ∷ 255 ∷ 0 ∷ 0 ∷ 4 ∷ 0 ∷ 0 ∷ 44 ∷ 1 ∷ replicate 6 0)
+    ∷ (told (untaken 22 65536), 0 ∷ 22 ∷ 0 ∷ 0 ∷ 0 ∷ 0 ∷ 0 ∷ 0 ∷ 0 ∷ 0 ∷ 1 ∷ replicate 5 0)
+    ∷ []
+
 -- the line of a place, past the text's end too
 abbrev line : String → ℕ → ℕ
 line text place = lineAt (bytes text) place
@@ -106,4 +118,5 @@ lines =
 pub record TableTrialsHold : Type 0 where
   pub tables-hold : Hold tables
   pub sizes-hold : Hold sizes
+  pub answers-hold : Hold answers
   pub lines-hold : Hold lines
