@@ -6,7 +6,6 @@ A variant of the reader with a fault has to differ from the door on one of the t
 import csv
 import io
 import random
-import re
 import struct
 import subprocess
 import sys
