@@ -1,5 +1,6 @@
 // The fields of MST1's answers.
 use answer::Record;
+use answer::of_refusal;
 use mst1::Built;
 ghost use mathlib.Core.Path.{_≡_};
 ghost use Rattle.answer.specs.Records.{fieldsOf};
@@ -19,13 +20,6 @@ pub fn of_built(b: Built) -> Record
             only: 0,
             amount: weight,
         },
-        Built::Refused(r) => Record {
-            kind: 0,
-            number: r.number,
-            out: r.place,
-            into: 0,
-            only: 0,
-            amount: 0,
-        },
+        Built::Refused(r) => of_refusal(r),
     }
 }

@@ -1,5 +1,7 @@
 // Adding a row to a working table for C.
 use answer::Record;
+use answer::of_refusal;
+use answer::well_lent;
 use answer::write_answer;
 use change::Added;
 ghost use mathlib.Core.Path.{_≡_};
@@ -23,14 +25,7 @@ pub fn of_added(x: Added) -> Record
             only: 0,
             amount: position as u64,
         },
-        Added::Refused(r) => Record {
-            kind: 0,
-            number: r.number,
-            out: r.place,
-            into: 0,
-            only: 0,
-            amount: 0,
-        },
+        Added::Refused(r) => of_refusal(r),
     }
 }
 
@@ -52,7 +47,7 @@ pub extern "C" fn star_add(
     ensures table { λ r. ⌜ working (now (words .exit)) (now (left .exit)) (now (right .exit)) (now (weight .exit)) (now (numbers .exit)) ≡ addDoorTable (working (now (words .entry)) (now (left .entry)) (now (right .entry)) (now (weight .entry)) (now (numbers .entry))) a b price (now (answer .entry)) ⌝ }
     ensures means { λ r. ⌜ AddCall (working (now (words .entry)) (now (left .entry)) (now (right .entry)) (now (weight .entry)) (now (numbers .entry))) a b price (now (answer .entry)) (now (answer .exit)) (working (now (words .exit)) (now (left .exit)) (now (right .exit)) (now (weight .exit)) (now (numbers .exit))) r ⌝ }
 {
-    if answer.len() != 16 {
+    if !well_lent(answer) {
         return 0;
     }
     let i = change::add_row(words, left, right, weight, numbers, a, b, price);

@@ -1,5 +1,6 @@
 // Carrying a claim through the numbers of MERGE or of an add, for C.
 use answer::of_outcome;
+use answer::well_lent;
 use answer::write_answer;
 ghost use mathlib.Core.Path.{_≡_};
 ghost use Rattle.change_meaning.specs.Bytes.{CarryCall};
@@ -15,7 +16,7 @@ pub extern "C" fn star_carry(numbers: &[u32], mark: &mut [u8], answer: &mut [u8]
     ensures marks { λ r. ⌜ now (mark .exit) ≡ carryDoorMarks (now (numbers .entry)) (now (mark .entry)) (now (answer .entry)) ⌝ }
     ensures means { λ r. ⌜ CarryCall (now (numbers .entry)) (now (mark .entry)) (now (answer .entry)) (now (answer .exit)) (now (mark .exit)) r ⌝ }
 {
-    if answer.len() != 16 {
+    if !well_lent(answer) {
         return 0;
     }
     let o = change::carry::carry(numbers, mark);

@@ -1,5 +1,6 @@
 // MERGE of a working table for C.
 use answer::of_outcome;
+use answer::well_lent;
 use answer::write_answer;
 ghost use mathlib.Core.Path.{_≡_};
 ghost use Rattle.change_meaning.specs.Bytes.{MergeCall};
@@ -23,7 +24,7 @@ pub extern "C" fn star_merge(
     ensures table { λ r. ⌜ working (now (words .exit)) (now (left .exit)) (now (right .exit)) (now (weight .exit)) (now (numbers .exit)) ≡ mergeDoorTable (working (now (words .entry)) (now (left .entry)) (now (right .entry)) (now (weight .entry)) (now (numbers .entry))) (now (answer .entry)) ⌝ }
     ensures means { λ r. ⌜ MergeCall (working (now (words .entry)) (now (left .entry)) (now (right .entry)) (now (weight .entry)) (now (numbers .entry))) (now (answer .entry)) (now (answer .exit)) (working (now (words .exit)) (now (left .exit)) (now (right .exit)) (now (weight .exit)) (now (numbers .exit))) r ⌝ }
 {
-    if answer.len() != 16 {
+    if !well_lent(answer) {
         return 0;
     }
     let o = change::merge(words, left, right, weight, numbers);

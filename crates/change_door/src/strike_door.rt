@@ -1,5 +1,6 @@
 // Striking a row of a working table for C.
 use answer::of_outcome;
+use answer::well_lent;
 use answer::write_answer;
 ghost use mathlib.Core.Path.{_≡_};
 ghost use Rattle.change_meaning.specs.Bytes.{StrikeCall};
@@ -14,7 +15,7 @@ pub extern "C" fn star_strike(words: &mut [u64], row: u32, answer: &mut [u8]) ->
     ensures rows { λ r. ⌜ now (words .exit) ≡ strikeDoorWords (now (words .entry)) row (now (answer .entry)) ⌝ }
     ensures means { λ r. ⌜ StrikeCall (now (words .entry)) row (now (answer .entry)) (now (answer .exit)) (now (words .exit)) r ⌝ }
 {
-    if answer.len() != 16 {
+    if !well_lent(answer) {
         return 0;
     }
     let o = change::strike(words, row);

@@ -1,5 +1,6 @@
 // The import of an STP text for C.
 use answer::Record;
+use answer::well_lent;
 use answer::write_answer;
 use stp::Imported;
 ghost use mathlib.Core.Path.{_≡_};
@@ -50,7 +51,7 @@ pub extern "C" fn star_import(
     ensures weights { λ r. ⌜ now (weight .exit) ≡ weightDoor (now (text .entry)) (now (left .entry)) (now (right .entry)) (now (weight .entry)) (now (answer .entry)) ⌝ }
     ensures means { λ r. ⌜ ImportCall (now (text .entry)) (now (left .entry)) (now (right .entry)) (now (weight .entry)) (now (answer .entry)) (now (answer .exit)) (now (left .exit)) (now (right .exit)) (now (weight .exit)) r ⌝ }
 {
-    if answer.len() != 16 {
+    if !well_lent(answer) {
         return 0;
     }
     let i = stp::import(text, left, right, weight);

@@ -14,29 +14,38 @@ use Rattle.change.proofs.merge.Tie as tie
 abbrev table : tie.Start → Working
 table s = working (s .args .words .now) (s .args .left .now) (s .args .right .now) (s .args .weight .now) (s .args .numbers .now)
 
-right : (c : tie.Else1) → wrong (table (c .before .before .before .before .before .before .before)) ≡ false
+-- the steps that the proofs go back to, each from a later one
+abbrev begun : tie.After-wrong-sizes → tie.Start
+begun c = c .before .before .before .before .before .before
+
+abbrev checked : tie.After-pack-table → tie.Else1
+checked c = c .before .before .before .before .before .before .before .before
+
+right : (c : tie.Else1) → wrong (table (begun (c .before))) ≡ false
 right c = sym (c .before .wrong-sizes .ensures) ∙ c .if1 .left
 
 returns : tie.Need-returns
 unfolding refusalOf
 returns c =
-    let t = table (c .before .before .before .before .before .before .before .before) in
-    let e = merge-wrong t (sym (c .before .before .wrong-sizes .ensures) ∙ c .before .if1 .taken) in
+    let sizing = c .before .before in
+    let t = table (begun sizing) in
+    let e = merge-wrong t (sym (sizing .wrong-sizes .ensures) ∙ c .before .if1 .taken) in
     (ap some (c .because .ensures) ∙ sym e, sym (unmerged t _ e))
 
 pack-table-requires : tie.Need-pack-table-requires
 pack-table-requires c κs =
     let i = c .before .before .before .before .before .before .before in
-    let s = sizes-sized (table (c .before .before .before .before .before .before .before .before .before .before .before .before .before .before)) (right i) in
+    let s = sizes-sized (table (begun (i .before))) (right i) in
     (c .before .before .before .before .before .rows-in-use .ensures, s .0 .words, s .1)
 
 returns-2 : tie.Need-returns-2
 unfolding refusalOf
 returns-2 c =
-    let i = c .before .before .before .before .before .before .before .before .before .before .before .before .before .before .before .before .before .before in
-    let t = table (c .before .before .before .before .before .before .before .before .before .before .before .before .before .before .before .before .before .before .before .before .before .before .before .before .before) in
+    let packed = c .before .before .before .before .before .before .before .before .before .before in
+    let i = checked packed in
+    let t = table (begun (i .before)) in
     let e = merge-done t (right i) in
-    (sym e, c .before .before .before .before .before .before .before .before .before .before .pack-table .ensures ∙ sym (merged-packed t e))
+    (sym e, packed .pack-table .ensures ∙ sym (merged-packed t e))
 
 pub merge-spec : {M : Type 1} → statement M
 merge-spec =

@@ -5,16 +5,15 @@ use Rattle.answer.specs.Records.{fieldsOf}
 use Rattle.mst1.specs.Answers.{answerOf}
 use Rattle.answer_fields.proofs.built.of_built.Statement.{statement}
 use Rattle.answer_fields.proofs.built.of_built.Tie as tie
-use Rattle.rowset.specs.Integers.{fromBits}
-use Rattle.star_spec.specs.Door.{builtFields}
+use Rattle.star_spec.specs.Door.{fields, builtFields}
 
 returns : tie.Need-returns
 unfolding fieldsOf builtFields answerOf
 returns c = rw (c .before .b .given .1) refl
 
 returns-2 : tie.Need-returns-2
-unfolding fieldsOf builtFields answerOf fromBits
-returns-2 c = rw (c .before .b2 .given .1) refl
+unfolding builtFields answerOf fields
+returns-2 c = rw (c .before .before .b2 .given .1) (c .of-refusal .ensures)
 
 pub of-built-spec : {M : Type 1} → statement M
-of-built-spec = tie.close (tie.spec (λ c. search needs) (λ c. search needs) returns returns-2)
+of-built-spec = tie.close (tie.spec (λ c. search needs) (λ c. search needs) (λ c κs. search needs) returns returns-2)

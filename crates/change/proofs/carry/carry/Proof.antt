@@ -23,16 +23,26 @@ copied l blank h = rw (zero-add, drop-of-length-le blank h) (append-nil l)
 cleared : (l : List ℕ) → take 0 l ++ replicate (length l - 0) 0 ≡ replicate (length l) 0
 cleared l = let all : length l - 0 ≡ length l = omega arith in rw all
 
-right : (c : tie.Else1) → wrongCarry (length (c .before .before .before .before .args .numbers .now)) (length (c .before .before .before .before .args .mark .now)) ≡ false
+-- the steps that the proofs go back to, each from a later one
+abbrev begun : tie.After-wrong-lengths → tie.Start
+begun c = c .before .before .before
+
+abbrev checked : tie.After-write-bytes → tie.Else1
+checked c = c .before .before .before
+
+abbrev kept : tie.After-clear-from → tie.After-write-bytes
+kept c = c .before .before .before
+
+right : (c : tie.Else1) → wrongCarry (length (begun (c .before) .args .numbers .now)) (length (begun (c .before) .args .mark .now)) ≡ false
 right c = sym (c .before .wrong-lengths .ensures) ∙ c .if1 .left
 
-sizes : (c : tie.Else1) → (length (c .before .before .before .before .args .numbers .now) ≡ 1024) × (length (c .before .before .before .before .args .mark .now) ≡ 1024)
-sizes c = carry-lengths (length (c .before .before .before .before .args .numbers .now)) (length (c .before .before .before .before .args .mark .now)) (right c)
+sizes : (c : tie.Else1) → (length (begun (c .before) .args .numbers .now) ≡ 1024) × (length (begun (c .before) .args .mark .now) ≡ 1024)
+sizes c = carry-lengths (length (begun (c .before) .args .numbers .now)) (length (begun (c .before) .args .mark .now)) (right c)
 
 returns : tie.Need-returns
 unfolding refusalOf
 returns c =
-    let a = c .before .before .before .before .before .args in
+    let a = begun (c .before .before) .args in
     let e = carry-wrong (a .numbers .now) (a .mark .now) (sym (c .before .before .wrong-lengths .ensures) ∙ c .before .if1 .taken) in
     (ap some (c .because .ensures) ∙ sym e, sym (uncarried (a .numbers .now) (a .mark .now) _ e))
 
@@ -40,18 +50,25 @@ write-bytes-requires : tie.Need-write-bytes-requires
 write-bytes-requires c κs = omega (arith, sizes (c .before .before))
 
 -- what was copied is the claim
-copy : (w : tie.After-write-bytes) → w .write-bytes .last .0 ≡ w .before .before .before .before .before .before .before .args .mark .now
-copy w = w .write-bytes .ensures ∙ copied (w .before .before .before .before .before .before .before .args .mark .now) _ (omega (arith, sizes (w .before .before .before) .1))
+copy : (w : tie.After-write-bytes) → w .write-bytes .last .0 ≡ begun (checked w .before) .args .mark .now
+copy w = w .write-bytes .ensures ∙ copied (begun (checked w .before) .args .mark .now) _ (omega (arith, sizes (checked w) .1))
 
 bring-requires : tie.Need-bring-requires
-bring-requires c κs = (sizes (c .before .before .before .before .before .before .before .before .before .before) .0, ap length (copy (c .before .before .before .before .before .before .before)) ∙ sizes (c .before .before .before .before .before .before .before .before .before .before) .1)
+bring-requires c κs =
+    let w = kept (c .before .before .before .before) in
+    let lengths = sizes (checked w) in
+    (lengths .0, ap length (copy w) ∙ lengths .1)
 
 returns-2 : tie.Need-returns-2
 unfolding refusalOf carriedClaim
 returns-2 c =
-    let a = c .before .before .before .before .before .before .before .before .before .before .before .before .before .before .before .before .before .args in
-    let e = carry-done (a .numbers .now) (a .mark .now) (right (c .before .before .before .before .before .before .before .before .before .before .before .before .before)) in
-    (sym e, c .before .before .bring .ensures ∙ ap₂ (broughtTo (a .numbers .now)) (copy (c .before .before .before .before .before .before .before .before .before .before)) (c .before .before .before .before .before .before .before .clear-from .ensures ∙ cleared (a .mark .now)) ∙ sym (carried (a .numbers .now) (a .mark .now) e))
+    let brought = c .before .before in
+    let clear = brought .before .before .before .before .before in
+    let w = kept clear in
+    let whole = checked w in
+    let a = begun (whole .before) .args in
+    let e = carry-done (a .numbers .now) (a .mark .now) (right whole) in
+    (sym e, brought .bring .ensures ∙ ap₂ (broughtTo (a .numbers .now)) (copy w) (clear .clear-from .ensures ∙ cleared (a .mark .now)) ∙ sym (carried (a .numbers .now) (a .mark .now) e))
 
 pub carry-spec : {M : Type 1} → statement M
 carry-spec =

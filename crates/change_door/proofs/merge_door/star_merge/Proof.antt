@@ -1,32 +1,36 @@
 -- `change_door::merge_door::star_merge` meets its contract: what MERGE, `of_outcome` and `write_answer` promise, one after the other. Assumes nothing.
 use borrow.Author.Needs.{needs}
-use borrow.Author.Tests.{eq-eqb, ne-eqb}
-use lib.ListN.{length}
-use mathlib.Core.Path.{refl, ap, _∙_}
-use native.Mathlib.Omega.{arith}
+use borrow.Author.Tests.{not-true, not-false}
+use mathlib.Core.Path.{refl, sym, ap, _∙_}
 use Rattle.change_door.proofs.merge_door.star_merge.Statement.{statement}
 use Rattle.change_door.proofs.merge_door.star_merge.Tie as tie
 use Rattle.change_meaning.proofs.Bytes.{merge-call}
-use Rattle.star_spec.specs.Door.{answerAfter, wellLent, doorReturns, outcomeFields}
+use Rattle.star_spec.specs.Door.{answerAfter, doorReturns, outcomeFields}
 use Rattle.change_spec.specs.Door.{mergeDoor, mergeDoorTable}
 
 returns : tie.Need-returns
-unfolding doorReturns wellLent answerAfter mergeDoor mergeDoorTable
-returns c = merge-call (rw (ne-eqb (length (c .before .before .before .before .before .before .before .args .answer .now)) 16 (λ e. omega arith)) (refl, (refl, refl)))
+unfolding doorReturns answerAfter mergeDoor mergeDoorTable
+returns c =
+    let ill = sym (c .before .well-lent .ensures) ∙ not-true _ (c .if1 .taken) in
+    merge-call (rw ill (refl, (refl, refl)))
 
 returns-2 : tie.Need-returns-2
-unfolding doorReturns wellLent mergeDoor mergeDoorTable
+unfolding doorReturns mergeDoor mergeDoorTable
 returns-2 c =
-    let done = c .before .before .before .before .before .before .before .before .before .before .before .before .before .before .before .merge .ensures in
-    merge-call (rw (eq-eqb (length (c .before .before .before .before .before .before .before .before .before .before .before .before .before .before .before .before .before .before .before .before .before .before .before .before .before .before .before .before .args .answer .now)) 16 (omega arith)) (
-      refl,
-      (c .before .before .write-answer .ensures ∙ ap (answerAfter _) (c .before .before .before .before .of-outcome .ensures ∙ ap outcomeFields (done .0)), done .1),
-    ))
+    let write = c .before .before in
+    let fields = write .before .before in
+    let done = fields .before .before .before .before .before .before .before .before .before .before .before in
+    let lent = done .before .before .before .before .before .before in
+    let well = sym (lent .before .well-lent .ensures) ∙ not-false _ (lent .if1 .left) in
+    let (answer, left) = done .merge .ensures in
+    merge-call (rw well (refl, (write .write-answer .ensures ∙ ap (answerAfter _) (fields .of-outcome .ensures ∙ ap outcomeFields answer), left)))
 
 pub star-merge-spec : {M : Type 1} → statement M
 star-merge-spec =
     tie.close
     (tie.spec
+    (λ c κs. search needs)
+    (λ c. search needs)
     returns
     (λ c κs. search needs)
     (λ c κs. search needs)

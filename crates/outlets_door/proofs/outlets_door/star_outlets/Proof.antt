@@ -1,21 +1,16 @@
 -- `outlets_door::outlets_door::star_outlets` meets its contract: what the tree with exactly t rows at r, `of_built` and `write_answer` promise, one after the other. Assumes nothing.
 use borrow.Author.Needs.{needs}
 use borrow.Author.Tests.{not-true, not-false}
-use mathlib.Core.Path.{refl, sym, ap, _∙_}
+use mathlib.Core.Path.{sym, _∙_}
 use Rattle.outlets_spec.proofs.Bytes.{outlets-call}
-use Rattle.outlets_spec.specs.Door.{outletsDoor, outletsDoorMarks}
+use Rattle.outlets_door.proofs.Laws.{outlets-shut, outlets-open}
 use Rattle.outlets_door.proofs.outlets_door.star_outlets.Statement.{statement}
 use Rattle.outlets_door.proofs.outlets_door.star_outlets.Tie as tie
-use Rattle.star_spec.specs.Door.{builtFields, answerAfter, doorReturns}
 
 returns : tie.Need-returns
-unfolding doorReturns outletsDoor answerAfter outletsDoorMarks
-returns c =
-    let ill = sym (c .before .well-lent .ensures) ∙ not-true _ (c .if1 .taken) in
-    outlets-call (rw ill (refl, (refl, refl)))
+returns c = outlets-call (outlets-shut _ _ _ _ (sym (c .before .well-lent .ensures) ∙ not-true _ (c .if1 .taken)))
 
 returns-2 : tie.Need-returns-2
-unfolding doorReturns outletsDoor outletsDoorMarks
 returns-2 c =
     let write = c .before .before in
     let fields = write .before .before in
@@ -23,8 +18,7 @@ returns-2 c =
     let table = called .before .before in
     let well = sym (table .before .before .well-lent .ensures) ∙ not-false _ (table .before .if1 .left) in
     let ((rows, whole), used) = table .plain .ensures in
-    let (answer, marks) = rw (rows, whole, used) at (called .outlets .ensures) in
-    outlets-call (rw well (refl, (write .write-answer .ensures ∙ ap (answerAfter _) (fields .of-built .ensures ∙ ap builtFields answer), marks)))
+    outlets-call (outlets-open _ _ _ _ well (write .write-answer .ensures) (fields .of-built .ensures) (rw (rows, whole, used) at (called .outlets .ensures)))
 
 pub star-outlets-spec : {M : Type 1} → statement M
 star-outlets-spec =

@@ -1,0 +1,4 @@
+mod ColumnTrials
+mod PlainTrials
+mod YardTrials
+mod DigTrials

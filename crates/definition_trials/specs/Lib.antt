@@ -1,0 +1,4 @@
+pub mod ColumnTrials
+pub mod PlainTrials
+pub mod YardTrials
+pub mod DigTrials
