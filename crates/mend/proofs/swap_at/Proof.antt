@@ -23,17 +23,27 @@ returns-2 c = sym (swap-marked _ _ _ _ _ _ _ _ (sym (c .before .before .before .
 
 returns-3 : tie.Need-returns-3
 returns-3 c =
-    let out = rw (c .before .before .path-of .ensures) at (c .before .row-out .ensures) in
-    sym (swap-none _ _ _ _ _ _ _ _ (sym (c .before .before .before .before .before .before .before .get .ensures) ∙ not-false _ (c .before .before .before .before .before .before .if1 .left)) (sym (c .before .before .before .before .before .get2 .ensures) ∙ c .before .before .before .before .if2 .left) (eq-eqb _ _ (sym out ∙ c .if3 .taken)))
+    let found = c .before in
+    let path = found .before in
+    let unmarked = path .before .before in
+    let used = unmarked .before .before in
+    let out = rw (path .path-of .ensures) at (found .row-out .ensures) in
+    sym (swap-none _ _ _ _ _ _ _ _ (sym (used .before .get .ensures) ∙ not-false _ (used .if1 .left)) (sym (unmarked .before .get2 .ensures) ∙ unmarked .if2 .left) (eq-eqb _ _ (sym out ∙ c .if3 .taken)))
 
 swap-requires : tie.Need-swap-requires
 swap-requires c κs = (out-bound _ _ _ _ _ (c .before .before .before .row-out .ensures), omega arith, omega arith)
 
 returns-4 : tie.Need-returns-4
 returns-4 c =
-    let out = rw (c .before .before .before .before .before .before .before .before .before .path-of .ensures) at (c .before .before .before .before .before .before .before .before .row-out .ensures) in
-    (rw (out, c .before .before .before .before .before .before .before .before .before .path-of .ensures) at (c .before .before .before .before .swap .ensures))
-    ∙ sym (swap-swaps _ _ _ _ _ _ _ _ (sym (c .before .before .before .before .before .before .before .before .before .before .before .before .before .before .get .ensures) ∙ not-false _ (c .before .before .before .before .before .before .before .before .before .before .before .before .before .if1 .left)) (sym (c .before .before .before .before .before .before .before .before .before .before .before .before .get2 .ensures) ∙ c .before .before .before .before .before .before .before .before .before .before .before .if2 .left) (ne-eqb _ _ (λ e. c .before .before .before .before .before .before .before .if3 .left (out ∙ e))))
+    let swap = c .before .before .before .before in
+    let some = swap .before .before .before in
+    let found = some .before in
+    let path = found .before in
+    let unmarked = path .before .before in
+    let used = unmarked .before .before in
+    let out = rw (path .path-of .ensures) at (found .row-out .ensures) in
+    (rw (out, path .path-of .ensures) at (swap .swap .ensures))
+    ∙ sym (swap-swaps _ _ _ _ _ _ _ _ (sym (used .before .get .ensures) ∙ not-false _ (used .if1 .left)) (sym (unmarked .before .get2 .ensures) ∙ unmarked .if2 .left) (ne-eqb _ _ (λ e. some .if3 .left (out ∙ e))))
 
 pub swap-at-spec : {M : Type 1} → statement M
 swap-at-spec =

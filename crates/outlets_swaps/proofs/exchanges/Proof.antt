@@ -29,8 +29,11 @@ loop-holds c = (omega arith, omega arith, refl, refl, refl, c .before .before .b
 returns : tie.Need-returns Inv-loop μ-loop
 unfolding picked
 returns c =
-    let l = c .before .before .before .before .before .loop in
-    (ends-none (exchanges-stuck _ _ _ (l .i) _ _ _ (l .inv .6) (c .before .before .cheapest .ensures) (c .before .if1 .taken) (c .before .before .before .before .loop-test .taken)) refl (c .empty .ensures), own-stuck _ _ _ (l .i) _ (record { chosen = component (l .chosen); own = l .own; out = l .out; cost = l .cost }) _ (l .inv .6) (c .before .before .cheapest .ensures) (c .before .if1 .taken) (c .before .before .before .before .loop-test .taken))
+    let then = c .before in
+    let cheap = then .before in
+    let test = cheap .before .before in
+    let l = test .before .loop in
+    (ends-none (exchanges-stuck _ _ _ (l .i) _ _ _ (l .inv .6) (cheap .cheapest .ensures) (then .if1 .taken) (test .loop-test .taken)) refl (c .empty .ensures), own-stuck _ _ _ (l .i) _ (record { chosen = component (l .chosen); own = l .own; out = l .out; cost = l .cost }) _ (l .inv .6) (cheap .cheapest .ensures) (then .if1 .taken) (test .loop-test .taken))
 
 find-again-requires : tie.Need-find-again-requires Inv-loop μ-loop
 find-again-requires c κs = let l = c .before .before .before .before .before .before .before .before .before .before .before .before .before .loop in omega (arith, l .inv .3, l .inv .4, l .inv .5)
@@ -39,15 +42,19 @@ loop-again : tie.Need-loop-again Inv-loop μ-loop
 unfolding picked
 loop-again c =
     let a = c .before .before .before .before in
-    let s = c .before .before .before .before .before .before .before .before .before .before in
-    let l = c .before .before .before .before .before .before .before .before .before .before .before .before .before .before .before .before .before .before .loop in (
-      omega (arith, c .before .before .before .before .before .before .before .before .before .before .before .before .before .before .before .before .before .loop-test .taken),
+    let s = a .before .before .before .before .before .before in
+    let out = s .before .before in
+    let else = out .before .before in
+    let cheap = else .before in
+    let test = cheap .before .before in
+    let l = test .before .loop in (
+      omega (arith, test .loop-test .taken),
       l .inv .1,
       ap length (s .swap .ensures .1) ∙ length-all-turned _ _ _ _ ∙ l .inv .2,
       ap length (a .find-again .ensures .0) ∙ length-filled _ _ _ _ ∙ l .inv .3,
       ap length (a .find-again .ensures .1) ∙ length-filled _ _ _ _ ∙ l .inv .4,
       l .inv .5,
-      exchanges-more _ _ _ (l .i) _ _ _ _ _ _ _ (l .inv .6) (c .before .before .before .before .before .before .before .before .before .before .before .before .before .before .before .cheapest .ensures) (c .before .before .before .before .before .before .before .before .before .before .before .before .before .before .if1 .left) (c .before .before .before .before .before .before .before .before .before .before .before .before .number-at .ensures) (s .swap .ensures .0) (s .swap .ensures .1) (a .find-again .ensures .0) (a .find-again .ensures .1),
+      exchanges-more _ _ _ (l .i) _ _ _ _ _ _ _ (l .inv .6) (cheap .cheapest .ensures) (else .if1 .left) (out .number-at .ensures) (s .swap .ensures .0) (s .swap .ensures .1) (a .find-again .ensures .0) (a .find-again .ensures .1),
     )
 
 returns-2 : tie.Need-returns-2 Inv-loop μ-loop
@@ -75,7 +82,7 @@ exchanges-spec =
     (λ c κs. search needs)
     (λ c κs. search needs)
     find-again-requires
-    (λ c. omega (arith, c .before .before .before .before .before .before .before .before .before .before .before .before .before .before .before .before .before .loop-test .taken, c .before .before .before .before .before .before .before .before .before .before .before .before .before .before .before .before .before .before .loop .inv .1))
+    (λ c. let test = c .before .before .before .before .before .before .before .before .before .before .before .before .before .before .before .before .before in omega (arith, test .loop-test .taken, test .before .loop .inv .1))
     (λ c. omega (arith, c .before .before .before .before .before .before .before .before .before .before .before .before .before .before .before .before .before .loop-test .taken))
     loop-again
     (λ c. c .before .loop .inv .2)
