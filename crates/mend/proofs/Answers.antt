@@ -28,7 +28,7 @@ use Rattle.path.proofs.Paths as P
 use Rattle.mend_record.specs.declared.Record.{Record}
 use Rattle.mend_list.specs.steps.Stored.{storedTo}
 use Rattle.refusal.specs.declared.Refusal.{Refusal}
-use Rattle.rowset.proofs.Laws.{both-subset}
+use Rattle.rowset.proofs.Laws.{clash, both-subset}
 use Rattle.rowset.proofs.Members.{both-in}
 use Rattle.rowset.specs.Bytes.{inRow}
 use Rattle.rowset.specs.Integers.{signed}
@@ -68,10 +68,7 @@ refusal-before (some r ∷ xs) ys e = e
 orElse-none : (x y : Option Refusal) → orElse x y ≡ none → (x ≡ none) × (y ≡ none)
 unfolding orElse
 orElse-none none y e = (refl, e)
-orElse-none (some r) y e = absurd (apart e)
-  where
-    apart : _≡_ {A = Option Refusal} (some r) none → ⊥
-    apart q = let z : _≡_ {A = ℕ} 0 1 = cc in omega arith
+orElse-none (some r) y e = clash refl (cc)
 
 module _ (c : Call) (records : ℕ) where
   pub causes-in-order : refusal (mendCauses c records) ≡ orElse (orElse (refusal (claimCauses c)) (fewRecords (c .m) records)) (noTree c)

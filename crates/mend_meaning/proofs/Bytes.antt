@@ -25,7 +25,7 @@ use Rattle.star_spec.proofs.Accepted.{causeAt-none, refusal-append, some-causeA
 use Rattle.star_spec.specs.Call.{Call, rowsOf, used, graphOf}
 use Rattle.star_spec.specs.Door.{wellLent, doorReturns, answerAfter}
 use Rattle.star_spec.specs.Refusals.{Accepted, cause, tableCauses, wrongByte, badClaim, orElse, refusal}
-use Rattle.mend_meaning.proofs.Means.{mending-means}
+use Rattle.mend_meaning.proofs.Means.{told-apart, mending-means}
 
 -- where no refusal 6 applies a claim's bytes are 0 and 1
 clean : (c : Call) → badClaim c ≡ none → ZeroOrOne c
@@ -91,9 +91,6 @@ module _ (c : Call) (l : List Record) where
       let (j, u, q) = some-causeAt 6 _ r e in
       let (bad, low, above) = uppermost-some (rowsOf c) j (wrongByte (used c) (c .mark)) u in
       (sym (ap (λ s. s .number) q), rw (← q) (omega (arith, low, accepted-means c .0 a .rows)))
-
-  told-apart : {x : MendAnswer} {r : Refusal} {k : ℕ} → x ≡ unmended r → x ≡ mendedBy k → ⊥
-  told-apart e h = let z : _≡_ {A = ℕ} 0 1 = cc in omega arith
 
   module _ (a : Accepted c) (small : ZeroOrOne c) (room : 2 * rowsOf c ≤ length l) where
     m : Mended c l

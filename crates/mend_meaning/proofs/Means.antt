@@ -40,6 +40,10 @@ use Rattle.mend_meaning.proofs.Laws.{byteOf, length-redrawn, getD-redra
 use Rattle.mend_spec.specs.Means.{byteWritten, appliedTo, Mended, MendingMeans}
 use Rattle.mend_spec.specs.Mend.{shortList, mendCauses, drawn, listed, redrawnFrom, redrawn, unmended, mendedBy, MendAnswer, answerOr, mend, marksOr, mendMarks, listOr, mendList}
 
+-- nothing is both refused and mended
+pub told-apart : {x : MendAnswer} {r : Refusal} {k : ℕ} → x ≡ unmended r → x ≡ mendedBy k → ⊥
+told-apart e h = clash refl (cc)
+
 -- a byte of 0 or 1 is told by whether it is 1
 zero-one : (x : ℕ) → x ≤ 1 → cond (eqb x 1) 1 0 ≡ x
 zero-one zero h = refl
@@ -101,9 +105,6 @@ module _ (c : Call) (a : Accepted c) (small : ZeroOrOne c) (l : List Record) (ro
   answer-unconnected : (Connected g → ⊥) → mend c (length l) ≡ unmended (record { number = 11; place = 0 })
   unfolding mend answerOr
   answer-unconnected apart = rw (last-cause, tree-some apart)
-
-  told-apart : {x : MendAnswer} {r : Refusal} {k : ℕ} → x ≡ unmended r → x ≡ mendedBy k → ⊥
-  told-apart e h = let z : _≡_ {A = ℕ} 0 1 = cc in omega arith
 
   decided : {A : Type 0} → (Connected g → A) → ((Connected g → ⊥) → A) → A
   decided {A} yes-case no-case = go (tree g (weightOf c)) refl

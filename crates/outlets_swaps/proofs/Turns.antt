@@ -9,7 +9,7 @@ use mathlib.Core.Path.{_≡_, refl, sym, _∙_, ap}
 use native.Mathlib.Numerals.{add-one}
 use native.Mathlib.Omega.{arith}
 use Rattle.path_exchange.specs.Turned.{columnsTurned}
-use Rattle.rowset.proofs.Laws.{upwards}
+use Rattle.rowset.proofs.Laws.{clash, upwards}
 use Rattle.rowset.specs.Sets.{empty}
 use Rattle.slice.specs.Slices.{written}
 use Rattle.outlets_swaps.specs.steps.Exchanges.{Given, State, pathOf, dearest, costs, filled, found, keptAs, swapped, turned, exchangeBy, picked, exchangeAfter, exchangesTo, orStays, lastState, isMade, rowsLeft, Ends}
@@ -18,7 +18,7 @@ some-same : {s t : State} → some s ≡ some t → s ≡ t
 some-same e = cc
 
 none-some : {s : State} → none ≡ some s → ⊥
-none-some e = let z : _≡_ {A = ℕ} 0 1 = cc in omega arith
+none-some e = clash refl (cc)
 
 module _ (x : Given) (n : ℕ) (s₀ : State) where
   pub exchanges-stuck : (i k : ℕ) (s : State) (f : ℕ) → exchangesTo x n i s₀ ≡ some s → f ≡ picked s → f ≡ 0 → i < k → exchangesTo x n k s₀ ≡ none
