@@ -32,7 +32,7 @@ PYTHON ?= python3 -B
 JOBS ?= $(shell nproc 2>/dev/null || echo 2)
 BUILD := target/c
 # The crates whose functions for C the library is made of.
-DOORS := cst_door mst1_door path_door change_door stp_door digs_door plan_digs_door quote_door breaking_door which_door districts_door mend_door outlets_door restore_door total_door detour_door groups_door file_door
+DOORS := cst_door mst1_door path_door change_door stp_door digs_door plan_digs_door quote_door breaking_door which_door districts_door mend_door outlets_door restore_door total_door detour_door groups_door file_door best_door
 # The archives over which the C is built: compiled without a proof, until make prove puts the proved ones there.
 OBJECTS := target/objects
 ARCHIVES := $(DOORS:%=$(OBJECTS)/lib%.a)
@@ -139,7 +139,7 @@ $(BUILD)/star: $(LIBRARY) $(CONSOLE) $(wildcard console/*.h) include/star.h
 	$(CC) -std=c99 $(CFLAGS) -ffp-contract=off -Iinclude -o $@ $(CONSOLE) $(LIBRARY) -lm
 
 # The tests of the doors, over one harness: each over the doors, and over doors with a fault each, which it has to find.
-DOOR_TESTS := door work quote breaking which digs districts mend outlets detours groups
+DOOR_TESTS := door work quote breaking which digs districts mend outlets detours groups best
 HARNESS := shared lent rows plain plain_work plain_asked plain_mend plain_outlets plain_detours plain_groups doors work_cases
 $(BUILD)/tests/%.o: tests/%.c $(wildcard tests/*.h) include/star.h
 	@mkdir -p $(@D)

@@ -29,7 +29,8 @@
  * star_districts  finds the least rows of each run of the rows, and a least network from them.
  * star_mend       turns any claim into a least network, and lists each step.
  * star_outlets    builds a network, least of those with an exact number of rows at a junction.
- * star_detours    names beside each row of a claim that is a tree the row it is best exchanged with.
+ * star_detours    names beside each row of a claim the row it is best exchanged with.
+ * star_best       names the exchange of two rows that saves most, and the least total.
  * star_groups     finds the groups that any marks join, and the marked rows that close a ring.
  *
  * A working table is one in which rows are struck out and entered. All its columns have 1,024 rows,
@@ -37,23 +38,23 @@
  * table, and what stands in the others is not looked at.
  *
  * star_work_X   answers as star_X, over the rows in use (cst, other, mst1, paths, quote, breaking,
- *               which, digs, plan_digs, total, districts, mend, outlets, detours, groups). What is
- *               said below of star_X holds of it too.
+ *               which, digs, plan_digs, total, districts, mend, outlets, detours, best, groups).
+ *               What is said below of star_X holds of it too.
  * star_strike   takes a row out of use.
  * star_restore  puts a struck row back into use.
  * star_add      enters a row after the last one in use.
  * star_merge    packs the rows in use to the top, and says where each one went.
  * star_carry    moves marks to where their rows went.
  *
- * Each returns 1 with the verdict in the sixteen bytes of the answer (star_quote: twenty-four), or
- * 0 if the lent answer has another length (star_digs, star_digs_text, star_plan_digs: or the lent
- * text fewer than 6,370 bytes); then nothing is written anywhere. star_which returns 1 for the
- * first claim, 2 for the second, and 0 on a refusal too. Every other input is taken, whatever its
- * bytes and lengths: a fault is told as a refusal with its number and place, and a refused call
- * leaves the marks, the matrix, the columns lent to star_import and star_read_table, the dig list's
- * text, the forests, the records, the rows lent to star_detours, the groups and the rings, and the
- * working table and the numbers lent to star_strike, star_restore, star_add and star_merge, as they
- * were.
+ * Each returns 1 with the verdict in the sixteen bytes of the answer (star_quote, star_best:
+ * twenty-four), or 0 if the lent answer has another length (star_digs, star_digs_text,
+ * star_plan_digs: or the lent text fewer than 6,370 bytes); then nothing is written anywhere.
+ * star_which returns 1 for the first claim, 2 for the second, and 0 on a refusal too. Every other
+ * input is taken, whatever its bytes and lengths: a fault is told as a refusal with its number and
+ * place, and a refused call leaves the marks, the matrix, the columns lent to star_import and
+ * star_read_table, the dig list's text, the forests, the records, the rows lent to star_detours,
+ * the groups and the rings, and the working table and the numbers lent to star_strike,
+ * star_restore, star_add and star_merge, as they were.
  *
  * The caller owes that each pointer has as many readable bytes behind it as its length says
  * (writable ones behind answer, and behind every other pointer that is not to const), and that a
@@ -99,8 +100,9 @@ const char *star_version(void);
 /* The largest table that is taken. */
 enum { STAR_MAX_JUNCTIONS = 255, STAR_MAX_ROWS = 1024, STAR_ANSWER_BYTES = 16 };
 
-/* The length of the answer of star_quote and star_work_quote. */
-enum { STAR_QUOTE_BYTES = 24 };
+/* The length of the answer of star_quote and star_work_quote, and of star_best and star_work_best.
+ */
+enum { STAR_QUOTE_BYTES = 24, STAR_BEST_BYTES = 24 };
 
 /* The least and the largest price: -2,147,483,648 and 2,147,483,647. */
 #define STAR_MIN_PRICE INT32_MIN
@@ -118,15 +120,16 @@ enum { STAR_MAX_FILE = 16777216, STAR_MAX_NAMES = 255 };
 /* Byte 0 of an answer. */
 enum star_kind {
     STAR_REFUSED = 0,
-    STAR_PASSED = 1, /* star_cst, star_other: no cheaper set exists; star_mst1: the network is
-                        built; star_paths: the matrix is filled; star_quote: both totals are found;
+    STAR_PASSED = 1, /* star_cst, star_other: no cheaper set exists; star_best: no exchange saves;
+                        star_mst1: the network is built; star_paths: the matrix is filled;
+                        star_quote: both totals are found;
                         star_breaking: there is such a price; star_which: both claims are trees;
                         star_digs, star_plan_digs: the list is written; star_import,
                         star_read_table: the text is read; star_total: the prices are added up;
                         star_strike, star_restore, star_add, star_merge, star_carry, star_districts,
                         star_mend, star_outlets, star_detours, star_groups: done */
-    STAR_LIGHTER = 2 /* star_cst, star_other: a cheaper set exists: the exchange of two rows is
-                        one */
+    STAR_LIGHTER = 2 /* star_cst, star_other, star_best: a cheaper set exists: the exchange of two
+                        rows is one */
 };
 
 /* Byte 0 of an answer of star_breaking where it is neither STAR_REFUSED nor STAR_PASSED. It is the
@@ -509,6 +512,23 @@ uint32_t star_work_detours(uint32_t n, const uint64_t *in_use, size_t in_use_wor
                            size_t right_len, const uint8_t *weight, size_t weight_len,
                            const uint8_t *mark, size_t mark_len, uint32_t *rows, size_t count,
                            uint8_t *answer, size_t answer_len);
+
+/* The best exchange of a claim that is a tree: of all exchanges of one marked for one unmarked row
+ * the one that saves most, the uppermost row in among equals, and for it the uppermost row out. The
+ * answer has twenty-four bytes: star_read_answer reads the first sixteen, and star_read_answer of
+ * answer + 8 has the least total as its amount. STAR_PASSED: no exchange saves, so that the claim
+ * is a least network; amount is its total. STAR_LIGHTER: out, in, and the saving as amount; no
+ * exchange of two rows gives a cheaper network. Bytes 16 to 23 are the least total, so that a
+ * claim's total less it is the most that any change saves. A refusal is 1, 2, 3, 4, 15, 6, 9 or 10,
+ * in this order. */
+uint32_t star_best(uint32_t n, const uint8_t *left, size_t left_len, const uint8_t *right,
+                   size_t right_len, const uint8_t *weight, size_t weight_len, const uint8_t *mark,
+                   size_t mark_len, uint8_t *answer, size_t answer_len);
+
+uint32_t star_work_best(uint32_t n, const uint64_t *in_use, size_t in_use_words,
+                        const uint8_t *left, size_t left_len, const uint8_t *right,
+                        size_t right_len, const uint8_t *weight, size_t weight_len,
+                        const uint8_t *mark, size_t mark_len, uint8_t *answer, size_t answer_len);
 
 /* The groups that any marks join, and the rings that they close; marks are read, and are bytes 0
  * and 1. groups, n bytes, gets for each junction the smallest one that marked rows join it to:

@@ -72,3 +72,27 @@ void plain_detours(const struct rows *r, const uint8_t *mark, uint32_t *beside, 
     for (k = 0; k < r->m; k++)
         beside[r->row[k] - 1] = mark[r->row[k] - 1] ? replacement(r, mark, k) : dearest(r, &t, k);
 }
+
+struct saving plain_best(const struct rows *r, const uint8_t *mark) {
+    struct saving best = {0, 0, 0};
+    size_t e, f;
+    for (e = 0; e < r->m; e++) {
+        struct parts p;
+        if (!mark[r->row[e] - 1]) continue;
+        parts_start(&p);
+        for (f = 0; f < r->m; f++)
+            if (mark[r->row[f] - 1] && f != e) parts_join(&p, r->a[f], r->b[f]);
+        for (f = 0; f < r->m; f++) {
+            uint32_t out = (uint32_t)r->row[e], in = (uint32_t)r->row[f];
+            int64_t saved = r->price[e] - r->price[f];
+            if (mark[in - 1] || parts_root(&p, r->a[f]) == parts_root(&p, r->b[f])) continue;
+            if (saved < best.saved || saved <= 0) continue;
+            if (saved == best.saved && (in > best.in || (in == best.in && out > best.out)))
+                continue;
+            best.out = out;
+            best.in = in;
+            best.saved = saved;
+        }
+    }
+    return best;
+}

@@ -11,4 +11,12 @@
    before for so many rows. */
 void plain_detours(const struct rows *r, const uint8_t *mark, uint32_t *beside, size_t m);
 
+/* The exchange that saves most, by every pair of rows: the uppermost row in among equals, and then
+   the uppermost row out; zeros where none saves. */
+struct saving {
+    uint32_t out, in;
+    int64_t saved;
+};
+struct saving plain_best(const struct rows *r, const uint8_t *mark);
+
 #endif

@@ -145,7 +145,8 @@ static size_t call_output(const struct call *c, const struct table *t, const cha
                           unsigned size, unsigned aim) {
     size_t more = any(8) == 0 ? any(40) : 0;
     size_t rows = t->working ? TABLE_ROWS : t->m;
-    if (is(name, "answer")) return strstr(c->door->name, "quote") ? 24 : 16;
+    if (is(name, "answer"))
+        return strstr(c->door->name, "quote") || strstr(c->door->name, "best") ? 24 : 16;
     if (is(name, "matrix")) {
         size_t words = 16 * (t->n > 255 ? 255 : (size_t)t->n);
         return 8 * (aim == STAR_SHORT_MATRIX && words ? any((uint32_t)words) : words + more);

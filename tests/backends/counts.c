@@ -74,6 +74,7 @@ static void add_done(unsigned long *counts, const struct call *before, const str
         counts[ANOTHER] += a.kind == STAR_PASSED && !a.only;
         counts[LIGHTER] += a.kind == STAR_LIGHTER;
     }
+    if (strstr(name, "best")) counts[LIGHTER] += a.kind == STAR_LIGHTER;
     if (strstr(name, "breaking")) counts[NEVER] += a.kind == STAR_NEVER;
     if (strstr(name, "which")) counts[result == 1 ? FIRST : SECOND]++;
     if (strstr(name, "mend")) add_steps(counts, lent(after, "records"), a.amount);
@@ -83,7 +84,8 @@ static void add_done(unsigned long *counts, const struct call *before, const str
 void counts_add(const struct call *before, const struct call *after, uint32_t result) {
     size_t door = (size_t)(after->door - doors);
     const struct value *answer = &after->v[after->door->count - 1];
-    size_t length = strstr(after->door->name, "quote") ? 24 : 16;
+    int longer = strstr(after->door->name, "quote") || strstr(after->door->name, "best");
+    size_t length = longer ? 24 : 16;
     int text = call_parameter(after->door, "text");
     int list = text >= 0 && !after->door->p[text].is_const;
     if (answer->length != length || (list && after->v[text].length < STAR_MAX_LIST))

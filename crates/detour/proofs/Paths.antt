@@ -130,11 +130,11 @@ module _ (c : Call) (matrix : List ℕ) (walked : Walked c matrix) where
       go i false p false q = rw (p, q, refuted (without (used c) S i) (λ h. clash (without-in (used c) S i h .0) q))
 
   -- what the slices of marked and unmarked rows have
-  marks : both (both (upTo (c .m)) (c .inUse)) (claimRows (c .mark)) ≡ S
+  pub marks : both (both (upTo (c .m)) (c .inUse)) (claimRows (c .mark)) ≡ S
   unfolding claimed used
   marks = rw (claimRows-marked (c .mark) (rw (table .mark-length) (table .few-rows)))
 
-  weighs : total size (weightIn (c .weight)) S ≡ claimWeight c
+  pub weighs : total size (weightIn (c .weight)) S ≡ claimWeight c
   unfolding claimWeight weightOf
   weighs = total-cut size (rowsOf c) (weightOf c) S (table .few-rows) (λ i u. refuted _ (λ h. let (l, p, x) = used-row c i (claimed-used c i h) in absurd (omega arith)))
 
@@ -156,7 +156,7 @@ module _ (c : Call) (own : List ℕ) (long : length own ≡ columnWords * maxVer
   enough : Taken c → columnWords * c .n ≤ length own
   enough t = omega (arith, long, t .few-vertices)
 
-  refusal-own : ownPath c 1 (columnWords * maxVertices) own ≡ refusal (cstCauses c)
+  pub refusal-own : ownPath c 1 (columnWords * maxVertices) own ≡ refusal (cstCauses c)
   refusal-own = own-answer c 1 (columnWords * maxVertices) own enough ∙ causes-refusal c (columnWords * maxVertices) refl
 
   pub refused-rows : (r : Refusal) (l : List ℕ) → some r ≡ ownPath c 1 (columnWords * maxVertices) own → (unbuilt r ≡ detours c) × (l ≡ detourRows c l)
@@ -169,6 +169,9 @@ module _ (c : Call) (own : List ℕ) (long : length own ≡ columnWords * maxVer
 
     pub rows-loads : loadedRow 4 (c .weight) ≡ inRow 4 (c .weight)
     rows-loads = loads-own c own enough e
+
+    pub rows-few : c .m ≤ size
+    rows-few = taken c (unrefused c (sym refusal-own ∙ sym e) .0) .few-rows
 
     pub rows-whole : c .whole ≡ true
     rows-whole = taken c (unrefused c (sym refusal-own ∙ sym e) .0) .whole

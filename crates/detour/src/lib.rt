@@ -38,7 +38,7 @@ fn path_of(own: &[u64], left: &[u8], right: &[u8], i: usize) -> Slice
 
 // FND of MAX: the heaviest row on the path of row i, the uppermost among equals, where row i is one of the slice's rows, which are lent as words; else 0.
 // `weights` has the words of the weight column as a table, of which the first columns are left out.
-fn dearest_at(
+pub fn dearest_at(
     own: &[u64],
     weights: &[u64],
     first: usize,

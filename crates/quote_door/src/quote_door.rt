@@ -91,7 +91,7 @@ fn quote_bytes(x: QuoteRecord) -> [u8; LENGTH]
 }
 
 // Writes the twenty-four bytes where the lent answer has as many; else nothing.
-fn write_quote(answer: &mut [u8], x: QuoteRecord)
+pub fn write_quote(answer: &mut [u8], x: QuoteRecord)
     ensures { λ _. ⌜ now (answer .exit) ≡ cond (lentQuote (now (answer .entry))) (fieldBytes (fieldsOf (x .first)) ++ bytesOf 8 (toBits 64 (fromBits 64 (x .after)))) (now (answer .entry)) ⌝ }
 {
     if answer.len() != LENGTH {

@@ -1,0 +1,3 @@
+pub mod Means
+pub mod Bytes
+pub mod Trials
