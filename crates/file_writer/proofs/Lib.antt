@@ -5,3 +5,6 @@ pub mod Said
 pub mod Back
 pub mod Clean
 pub mod RoundTrip
+pub mod Writes
+pub mod Short
+pub mod Trials

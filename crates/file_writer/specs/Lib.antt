@@ -1,1 +1,4 @@
 pub mod RoundTrip
+pub mod Columns
+pub mod Trials
+pub mod steps
