@@ -28,7 +28,7 @@ static int write_passed(FILE *to, const struct table *t, struct star_answer a) {
 }
 
 static int write_cheaper(FILE *to, const struct table *t, struct star_answer a) {
-    int64_t before = table_total(t);
+    int64_t before = table_plan_total(t);
     char figures[2][FIGURES];
     amount_figures(figures[0], before);
     amount_figures(figures[1], before - a.amount);

@@ -66,7 +66,7 @@ static void say_saving(struct message *to, struct star_answer before, int64_t ma
     char figures[2][FIGURES];
     say(to, "The marked trenches cost %s", amount_figures(figures[0], marked));
     if (before.kind == STAR_REFUSED)
-        say(to, " by the console's own sum, and are no network: they %s",
+        say(to, ", and are no network: they %s",
             before.number == STAR_BAD_MARK_COUNT ? "are not one fewer than the junctions"
                                                  : "do not reach every junction");
     else if (marked == total) say(to, " too");

@@ -1,5 +1,5 @@
-/* Detours: the door gives the set of trenches; here they are put in order, added up and
-   compared. */
+/* Detours: a door gives the set of trenches and another the dearest of each; here they are put in
+   order, added up and compared. */
 #include "detour.h"
 
 enum { SHOWN = 12 };
@@ -48,7 +48,9 @@ int way_between(struct detour *d, struct paths *p, const struct table *t, uint32
 
 int detour_of(struct detour *d, struct paths *p, const struct table *t, size_t i) {
     int64_t own, dearest;
+    if (p->from == 0 && table_detours(t, p->beside).kind != STAR_PASSED) return 0;
     if (!way_between(d, p, t, t->left[i - 1], t->right[i - 1])) return 0;
+    d->dearest = p->beside[i - 1];
     own = table_cost(t, i);
     dearest = table_cost(t, d->dearest);
     if (own == dearest) d->standing = EQUAL;

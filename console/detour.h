@@ -5,9 +5,11 @@
 
 #include "table.h"
 
-/* What star_paths gives from one junction; `from` is 0 before it was asked. */
+/* What star_paths gives from one junction; `from` is 0 before it was asked. Beside each trench what
+   star_detours gives. */
 struct paths {
     uint32_t from;
+    uint32_t beside[STAR_MAX_ROWS + 1];
     uint64_t matrix[STAR_COLUMN_WORDS * STAR_MAX_JUNCTIONS];
 };
 
@@ -33,7 +35,7 @@ int paths_from(struct paths *p, const struct table *t, uint32_t from);
 int way_between(struct detour *d, struct paths *p, const struct table *t, uint32_t from,
                 uint32_t to);
 
-/* The detour of trench i, counted from 1; 0 if the door refuses. */
+/* The detour of trench i, counted from 1, whose dearest trench is the door's; 0 if a door refuses. */
 int detour_of(struct detour *d, struct paths *p, const struct table *t, size_t i);
 
 /* 'trenches 4, 3, 2' and '1-4-3-2', cut where they are long. */

@@ -92,6 +92,22 @@ struct star_answer table_plan_digs(const struct table *t, uint8_t *text, size_t 
     return star_read_answer(answer);
 }
 
+struct star_answer table_groups(const struct table *t, uint8_t groups[STAR_MAX_JUNCTIONS],
+                                uint8_t rings[KEPT]) {
+    uint8_t answer[STAR_ANSWER_BYTES];
+    struct lent as = lent_as(t);
+    size_t n = t->n < STAR_MAX_JUNCTIONS ? t->n : STAR_MAX_JUNCTIONS; /* more are refused */
+    ASK(t, as, groups, MARKS(t, as), groups, n, rings, as.m, answer, sizeof answer);
+    return star_read_answer(answer);
+}
+
+struct star_answer table_detours(const struct table *t, uint32_t rows[KEPT]) {
+    uint8_t answer[STAR_ANSWER_BYTES];
+    struct lent as = lent_as(t);
+    ASK(t, as, detours, MARKS(t, as), rows, as.m, answer, sizeof answer);
+    return star_read_answer(answer);
+}
+
 uint32_t table_which(const struct table *first, const struct table *second, struct star_answer *a) {
     uint8_t answer[STAR_ANSWER_BYTES];
     struct lent as = lent_as(first);
@@ -102,8 +118,10 @@ uint32_t table_which(const struct table *first, const struct table *second, stru
 }
 
 int64_t table_plan_total(const struct table *t) {
-    struct star_answer a;
-    return table_which(t, t, &a) > 0 ? a.amount : table_total(t);
+    uint8_t answer[STAR_ANSWER_BYTES];
+    struct lent as = lent_as(t);
+    ASK(t, as, total, MARKS(t, as), answer, sizeof answer);
+    return star_read_answer(answer).amount;
 }
 
 /* An end of a district as the door of working tables takes it: the last row is 1,024, whatever the

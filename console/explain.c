@@ -71,8 +71,8 @@ size_t explain_instead(const struct table *t, struct paths *p, size_t i,
         for (j = 0; j < d.count && d.row[j] != i; j++) continue;
         if (j == d.count) continue;
         instead[count++] = (unsigned)k;
-        if (!*cheapest || table_cost(t, k) < table_cost(t, *cheapest)) *cheapest = (unsigned)k;
     }
+    if (count > 0) *cheapest = p->beside[i - 1];
     return count;
 }
 

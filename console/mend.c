@@ -71,8 +71,8 @@ static void tell(const struct table *t, const struct past *past) {
                 "No trench was marked. The plan's total is %s now: no network is cheaper.\n", now);
     else
         fprintf(stderr,
-                "The marked trenches were no network, and cost %s by the console's own sum. The "
-                "plan's total is %s now: no network is cheaper.\n",
+                "The marked trenches were no network, and cost %s. The plan's "
+                "total is %s now: no network is cheaper.\n",
                 before, now);
 }
 

@@ -520,7 +520,7 @@ const struct page PAGES[] = {
                   "taken out trench 5 (1-3, price 6)\n"
                   "put in    trench 3 (3-4, price 5)\n"
                   "put in    trench 4 (1-4, price 4)\n"
-                  "The marked trenches were no network, and cost 14 by the console's own sum. The "
+                  "The marked trenches were no network, and cost 14. The "
                   "plan's total is 12 now: no network is cheaper.\n",
         .statuses = "0 written\n2 the table was refused, and nothing was written",
         .keys = "out: the trenches taken out, a list\n"

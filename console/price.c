@@ -16,8 +16,6 @@ int price_read(struct span word, uint8_t bytes[PRICE_BYTES]) {
     return 1;
 }
 
-void price_dearest(uint8_t bytes[PRICE_BYTES]) { star_put_price(bytes, 0, STAR_MAX_PRICE); }
-
 const char *price_figures(char figures[FIGURES], const uint8_t bytes[PRICE_BYTES]) {
     return amount_figures(figures, star_get_price(bytes, 0));
 }

@@ -13,9 +13,6 @@ enum { PRICE_BYTES = 4, FIGURES = 24 };
    below 0 opens with -. */
 int price_read(struct span word, uint8_t bytes[PRICE_BYTES]);
 
-/* The dearest price. */
-void price_dearest(uint8_t bytes[PRICE_BYTES]);
-
 /* A price and a sum of prices in decimal, with - before one below 0, written to figures. */
 const char *price_figures(char figures[FIGURES], const uint8_t bytes[PRICE_BYTES]);
 const char *amount_figures(char figures[FIGURES], int64_t amount);

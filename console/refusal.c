@@ -3,8 +3,7 @@
 #include "refusal.h"
 
 #include <inttypes.h>
-
-#include "unreached.h"
+#include <string.h>
 
 static struct refusal last;
 
@@ -96,6 +95,20 @@ static void mark_count(struct message *to, const struct table *t) {
     say(to, "; a network of ");
     say_count(to, t->n, "junction has", "junctions has");
     say(to, " exactly %" PRIu32 ".", t->n - 1);
+}
+
+/* The smallest junction that no trenches join to junction 1, of a table that the builder refused 11:
+   all trenches marked, they leave it in another group. 0 if the door refuses. */
+static unsigned unreached(const struct table *t) {
+    static struct table all;
+    static uint8_t smallest[STAR_MAX_JUNCTIONS], on[KEPT];
+    unsigned v;
+    all = *t;
+    memset(all.mark, 1, sizeof all.mark);
+    if (table_groups(&all, smallest, on).kind != STAR_PASSED) return 0;
+    for (v = 2; v <= t->n; v++)
+        if (smallest[v - 1] != 1) return v;
+    return 0;
 }
 
 static void no_network(struct message *to, const struct table *t) {

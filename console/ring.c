@@ -1,9 +1,7 @@
-/* Rings and groups of junctions, by asking the doors about a table of its own: the marked trenches
-   at price 0, and behind them rows from junction 1 to every junction at price 1. A cheapest network
-   of it has as few of the added rows as can be, so it keeps all marked trenches but those that
-   close a ring with others; and the path from junction 1 to another has the added row that leads to
-   the other's group, or none. The marked trenches are handed over piece by piece, since the added
-   rows need room: of each piece those that are kept go on. */
+/* Rings and groups of junctions. The door star_groups gives the groups, and the marked trenches that
+   are on a ring. To put each ring in order the doors are asked about one group at a time: its
+   junctions and its marked trenches, all of one price. A cheapest network of these leaves out one
+   trench of each ring, and the path between the ends of such a trench is the rest of its ring. */
 #include "ring.h"
 
 #include <string.h>
@@ -12,49 +10,11 @@
 
 enum { SHOWN = 20 };
 
-/* What the doors were last asked about: the kept trenches, then the added rows; number[k] is the
-   trench that row k + 1 stands for. */
-static struct table forest;
+/* The group at hand, 0 for none: its junctions and marked trenches, counted anew, and what junction
+   and trench each of them is. */
+static struct table own;
 static struct paths paths;
-static unsigned number[STAR_MAX_ROWS];
-static size_t own;
-
-static void add(unsigned left, unsigned right, int32_t price) {
-    forest.left[forest.m] = (uint8_t)left;
-    forest.right[forest.m] = (uint8_t)right;
-    star_put_price(forest.weight, forest.m, price);
-    forest.m++;
-}
-
-static void add_marked(const struct table *t, size_t i) {
-    number[forest.m] = (unsigned)i;
-    add(t->left[i - 1], t->right[i - 1], 0);
-}
-
-/* Puts a row from junction 1 to each junction that no row yet joins to it, and asks for a cheapest
-   network. */
-static int build(void) {
-    uint8_t beside[STAR_MAX_JUNCTIONS + 1] = {0};
-    size_t i;
-    unsigned v;
-    own = forest.m;
-    for (i = 0; i < own; i++) {
-        if (forest.left[i] == 1) beside[forest.right[i]] = 1;
-        if (forest.right[i] == 1) beside[forest.left[i]] = 1;
-    }
-    for (v = 2; v <= forest.n; v++)
-        if (!beside[v]) add(1, v, 1);
-    return table_mst1(&forest).kind == STAR_PASSED;
-}
-
-/* Keeps the trenches of the network that was built, and notes the others. */
-static void keep(struct ring *r, const struct table *t) {
-    size_t i;
-    forest.m = 0;
-    for (i = 0; i < own; i++)
-        if (forest.mark[i] == 1) add_marked(t, number[i]);
-        else r->closing[r->rings++] = number[i];
-}
+static unsigned at, number[STAR_MAX_ROWS], junction[STAR_MAX_JUNCTIONS + 1];
 
 static size_t next_marked(const struct table *t, size_t i) {
     do i = table_next(t, i);
@@ -62,7 +22,29 @@ static size_t next_marked(const struct table *t, size_t i) {
     return i;
 }
 
-/* Puts the trenches that close rings in order: each piece gives its own in order. */
+/* Takes a group in hand, and has its network built; 0 if the door refuses. */
+static int take(const struct ring *r, const struct table *t, unsigned group) {
+    unsigned local[STAR_MAX_JUNCTIONS + 1] = {0}, v;
+    size_t i;
+    if (at == group) return 1;
+    memset(&own, 0, sizeof own);
+    paths.from = 0;
+    for (v = 1; v <= t->n; v++)
+        if (r->group[v] == group) {
+            local[v] = ++own.n;
+            junction[own.n] = v;
+        }
+    for (i = next_marked(t, 0); i <= t->m; i = next_marked(t, i))
+        if (r->group[t->left[i - 1]] == group) {
+            number[own.m] = (unsigned)i;
+            own.left[own.m] = (uint8_t)local[t->left[i - 1]];
+            own.right[own.m++] = (uint8_t)local[t->right[i - 1]];
+        }
+    at = table_mst1(&own).kind == STAR_PASSED ? group : 0;
+    return at == group;
+}
+
+/* Puts the trenches that close rings in order: each group gives its own in order. */
 static void sort(struct ring *r) {
     size_t i, k;
     for (i = 1; i < r->rings; i++) {
@@ -72,45 +54,39 @@ static void sort(struct ring *r) {
     }
 }
 
-/* The added row on the path from junction 1 to another; 0 for none. */
-static size_t added_row(unsigned v) {
-    size_t i;
-    for (i = own + 1; i <= forest.m; i++)
-        if (star_on_path(paths.matrix, v, i)) return i;
-    return 0;
-}
-
-/* Numbers the groups by their smallest junctions, and notes the junctions outside the largest. */
-static void group(struct ring *r) {
-    size_t of_row[STAR_MAX_ROWS + 1] = {0}, size[STAR_MAX_JUNCTIONS + 1] = {0}, largest = 1, k;
+/* Numbers the groups by their smallest junctions, which the door gives, and notes the junctions
+   outside the largest. */
+static void group(struct ring *r, uint32_t n, const uint8_t *smallest) {
+    size_t size[STAR_MAX_JUNCTIONS + 1] = {0}, largest = 1, k;
     unsigned v;
-    for (v = 1; v <= forest.n; v++) {
-        size_t row = v == 1 ? 0 : added_row(v);
-        if (of_row[row] == 0) of_row[row] = ++r->groups;
-        r->group[v] = (unsigned)of_row[row];
+    for (v = 1; v <= n; v++) {
+        r->group[v] = smallest[v - 1] == v ? (unsigned)++r->groups : r->group[smallest[v - 1]];
         size[r->group[v]]++;
     }
     for (k = 2; k <= r->groups; k++)
         if (size[k] > size[largest]) largest = k;
-    for (v = 1; v <= forest.n; v++)
+    for (v = 1; v <= n; v++)
         if (r->group[v] != largest) r->cut[r->cuts++] = v;
 }
 
 int ring_of(struct ring *r, const struct table *t) {
-    size_t next = next_marked(t, 0);
+    static uint8_t smallest[STAR_MAX_JUNCTIONS], on[KEPT];
+    uint8_t ringed[STAR_MAX_JUNCTIONS + 1] = {0};
+    size_t i;
+    unsigned k;
     memset(r, 0, sizeof *r);
-    memset(&forest, 0, sizeof forest);
-    forest.n = t->n;
-    paths.from = 0;
-    do {
-        for (; next <= t->m && forest.m + t->n <= STAR_MAX_ROWS; next = next_marked(t, next))
-            add_marked(t, next);
-        if (!build()) return 0;
-        keep(r, t);
-    } while (next <= t->m);
-    if (!build() || !paths_from(&paths, &forest, 1)) return 0;
+    at = 0;
+    if (table_groups(t, smallest, on).kind != STAR_PASSED) return 0;
+    group(r, t->n, smallest);
+    for (i = 1; i <= t->m; i++)
+        if (on[i - 1]) ringed[r->group[t->left[i - 1]]] = 1;
+    for (k = 1; k <= r->groups; k++) {
+        if (!ringed[k]) continue;
+        if (!take(r, t, k)) return 0;
+        for (i = 0; i < own.m; i++)
+            if (own.mark[i] == 0) r->closing[r->rings++] = number[i];
+    }
     sort(r);
-    group(r);
     return r->rings == 0 || ring_nth(r, t, 0);
 }
 
@@ -119,11 +95,13 @@ int ring_nth(struct ring *r, const struct table *t, size_t k) {
     unsigned last = r->closing[k];
     size_t i;
     r->count = 0;
-    if (!way_between(&d, &paths, &forest, t->left[last - 1], t->right[last - 1])) return 0;
+    if (!take(r, t, r->group[t->left[last - 1]])) return 0;
+    for (i = 0; number[i] != last;) i++;
+    if (!way_between(&d, &paths, &own, own.left[i], own.right[i])) return 0;
     for (i = 0; i < d.count; i++) r->row[i] = number[d.row[i] - 1];
-    for (i = 0; i <= d.count; i++) r->stop[i] = d.stop[i];
+    for (i = 0; i <= d.count; i++) r->stop[i] = junction[d.stop[i]];
     r->row[d.count] = last;
-    r->stop[d.count + 1] = d.stop[0];
+    r->stop[d.count + 1] = r->stop[0];
     r->count = d.count + 1;
     return 1;
 }

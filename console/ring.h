@@ -1,5 +1,5 @@
 /* Marked trenches that are no network: the rings that they close, and the groups of junctions that
-   they leave apart. The doors star_mst1 and star_paths give both. */
+   they leave apart. */
 #ifndef CONSOLE_RING_H
 #define CONSOLE_RING_H
 

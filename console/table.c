@@ -174,13 +174,6 @@ size_t table_marks(const struct table *t) {
 
 int64_t table_cost(const struct table *t, size_t i) { return star_get_price(t->weight, i - 1); }
 
-int64_t table_total(const struct table *t) {
-    int64_t total = 0;
-    size_t i;
-    for (i = 1; i <= kept(t); i++) total += t->mark[i - 1] == 1 ? table_cost(t, i) : 0;
-    return total;
-}
-
 const char *table_price(char figures[FIGURES], const struct table *t, size_t i) {
     return price_figures(figures, t->weight + PRICE_BYTES * (i - 1));
 }

@@ -73,12 +73,18 @@ struct star_answer table_digs(const struct table *t, uint8_t *text, size_t len);
 /* The same of the marked trenches. */
 struct star_answer table_plan_digs(const struct table *t, uint8_t *text, size_t len);
 
+/* The smallest junction of each one's group, and the marked trenches that are on a ring, of any
+   marks. The trench that each one is best exchanged with, 0 for none, of a plan that is a
+   network. */
+struct star_answer table_groups(const struct table *t, uint8_t groups[STAR_MAX_JUNCTIONS],
+                                uint8_t rings[KEPT]);
+struct star_answer table_detours(const struct table *t, uint32_t rows[KEPT]);
+
 /* Which of two marked tables costs less: 1 the first, 2 the second, 0 none where one is refused.
    They are the same but for their marks. */
 uint32_t table_which(const struct table *first, const struct table *second, struct star_answer *a);
 
-/* The total of a plan: that of star_which, asked about the plan and itself. Of marks that are no
-   network it is the console's own sum. */
+/* The total of the marked trenches, a network or not; 0 where the door refuses. */
 int64_t table_plan_total(const struct table *t);
 
 /* The doors that make a plan, whose marks the table has afterwards: of at most eight districts,
@@ -102,9 +108,8 @@ int64_t table_list(FILE *to, const struct table *t, const uint8_t *mark, size_t 
 /* Says the number of junctions; one that is above all that are read as it stands in the file. */
 void table_junctions(struct message *to, const struct table *t);
 
-/* The number of marked trenches, and the sum of their prices. */
+/* The number of marked trenches. */
 size_t table_marks(const struct table *t);
-int64_t table_total(const struct table *t);
 
 /* The price of trench i, counted from 1; and the same written to figures. */
 int64_t table_cost(const struct table *t, size_t i);

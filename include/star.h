@@ -741,6 +741,9 @@ int star_table_mark(struct star_table *t, uint32_t row, int mark);
 /* Takes a row out of use as star_strike does, and its mark away. */
 struct star_answer star_table_strike(struct star_table *t, uint32_t row);
 
+/* Puts a struck row back into use as star_restore does, unmarked. */
+struct star_answer star_table_restore(struct star_table *t, uint32_t row);
+
 /* Packs the rows as star_merge does; marks move with their rows. */
 struct star_answer star_table_merge(struct star_table *t);
 
@@ -783,6 +786,9 @@ struct star_answer star_table_breaking(const struct star_table *t, uint32_t row)
 
 /* Writes the dig list of a least network as star_digs does; text has STAR_MAX_LIST bytes. */
 struct star_answer star_table_digs(const struct star_table *t, uint8_t *text);
+
+/* Adds up the prices of the marked rows as star_total does: the answer's amount. */
+struct star_answer star_table_total(const struct star_table *t);
 
 /* Writes the dig list of the marked rows as star_plan_digs does; text has STAR_MAX_LIST bytes. */
 struct star_answer star_table_plan_digs(const struct star_table *t, uint8_t *text);

@@ -40,6 +40,15 @@ struct star_answer star_table_strike(struct star_table *t, uint32_t row) {
     return a;
 }
 
+struct star_answer star_table_restore(struct star_table *t, uint32_t row) {
+    uint8_t answer[STAR_ANSWER_BYTES];
+    struct star_answer a;
+    star_restore(t->in_use, STAR_COLUMN_WORDS, row, ANSWER(answer));
+    a = star_read_answer(answer);
+    if (a.kind == STAR_PASSED) t->mark[row - 1] = 0;
+    return a;
+}
+
 struct star_answer star_table_merge(struct star_table *t) {
     uint8_t answer[STAR_ANSWER_BYTES];
     star_merge(t->in_use, STAR_COLUMN_WORDS, COLUMNS(t), t->numbers, STAR_MAX_ROWS, ANSWER(answer));
@@ -71,6 +80,13 @@ struct star_answer star_table_plan_digs(const struct star_table *t, uint8_t *tex
     uint8_t answer[STAR_ANSWER_BYTES];
     struct lent as = lent_as(t);
     ASK(t, as, plan_digs, t->mark, as.len, text, STAR_MAX_LIST, ANSWER(answer));
+    return star_read_answer(answer);
+}
+
+struct star_answer star_table_total(const struct star_table *t) {
+    uint8_t answer[STAR_ANSWER_BYTES];
+    struct lent as = lent_as(t);
+    ASK(t, as, total, t->mark, as.len, ANSWER(answer));
     return star_read_answer(answer);
 }
 

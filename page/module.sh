@@ -42,7 +42,7 @@ done
 for crate; do
     RATTLE_HOME=$work/kit sh tools/compile.sh "$crate" "$work/$crate.a"
     retarget "$work/kept1.bc" >"$work/$crate.ll"
-    "$clang" $wasm -O3 -Werror -x ir -c "$work/$crate.ll" -o "$work/$crate.o"
+    "$clang" $wasm -Os -Werror -x ir -c "$work/$crate.ll" -o "$work/$crate.o"
     objects="$objects $work/$crate.o"
     rm "$work/kept1.bc"
 done

@@ -48,8 +48,8 @@ grep -qx '  junctions 2, 3, 4' "$work/out" && grep -qx 'A ring: trenches 2, 3, 4
 verdict lonely-first-ring $?
 try build-saves 0 '^The marked trenches cost 13: these save 1\.$' '' build $dear
 try build-saves-nothing 0 '^The marked trenches cost 12 too\.$' '' build $yard
-try build-no-plan 0 '^The marked trenches cost 14 by the console.s own sum, and are no network: they do not reach every junction\.$' '1 2 5 1\n2 3 3 1\n3 4 5 0\n1 4 4 0\n1 3 6 1\n' build
-try build-few 0 '^The marked trenches cost 5 by the console.s own sum, and are no network: they are not one fewer than the junctions\.$' '1 2 5 1\n2 3 3 0\n' build
+try build-no-plan 0 '^The marked trenches cost 14, and are no network: they do not reach every junction\.$' '1 2 5 1\n2 3 3 1\n3 4 5 0\n1 4 4 0\n1 3 6 1\n' build
+try build-few 0 '^The marked trenches cost 5, and are no network: they are not one fewer than the junctions\.$' '1 2 5 1\n2 3 3 0\n' build
 try build-unmarked 0 '^Total 8$' '1 2 5\n2 3 3\n' build
 ! grep -q 'marked trenches' "$work/out"
 verdict build-unmarked-alone $?

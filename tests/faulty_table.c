@@ -143,6 +143,19 @@ struct star_answer faulty_table_plan_digs(const struct star_table *t, uint8_t *t
     return r;
 }
 
+struct star_answer faulty_table_total(const struct star_table *t) {
+    struct star_answer r = star_table_total(t);
+    if (fault("total-one-more") && r.kind == STAR_PASSED) r.amount++;
+    if (fault("total-of-a-network") && star_table_check(t).kind == STAR_REFUSED) r.amount = 0;
+    return r;
+}
+
+struct star_answer faulty_table_restore(struct star_table *t, uint32_t row) {
+    struct star_answer r = star_table_restore(t, row + (uint32_t)fault("restore-next-row"));
+    if (fault("restore-marks") && r.kind == STAR_PASSED) t->mark[row - 1] = 1;
+    return r;
+}
+
 struct star_answer faulty_table_paths(const struct star_table *t, uint32_t from, uint64_t *matrix) {
     return star_table_paths(t, fault("paths-from-one") && from <= t->n ? 1 : from, matrix);
 }

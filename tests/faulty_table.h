@@ -8,6 +8,7 @@ void faulty_table_init(struct star_table *t, uint32_t n);
 struct star_answer faulty_table_add(struct star_table *t, uint32_t a, uint32_t b, int32_t price);
 int faulty_table_mark(struct star_table *t, uint32_t row, int mark);
 struct star_answer faulty_table_strike(struct star_table *t, uint32_t row);
+struct star_answer faulty_table_restore(struct star_table *t, uint32_t row);
 struct star_answer faulty_table_merge(struct star_table *t);
 struct star_verdict faulty_table_check(const struct star_table *t);
 struct star_verdict faulty_table_other(const struct star_table *t);
@@ -22,6 +23,7 @@ struct star_quoted faulty_table_quote(const struct star_table *t, uint32_t row, 
 struct star_answer faulty_table_breaking(const struct star_table *t, uint32_t row);
 struct star_answer faulty_table_digs(const struct star_table *t, uint8_t *text);
 struct star_answer faulty_table_plan_digs(const struct star_table *t, uint8_t *text);
+struct star_answer faulty_table_total(const struct star_table *t);
 struct star_answer faulty_table_paths(const struct star_table *t, uint32_t from, uint64_t *matrix);
 struct star_imported faulty_table_read(struct star_table *t, const char *text, size_t len);
 size_t faulty_table_write(const struct star_table *t, char *text, size_t size);

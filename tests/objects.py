@@ -133,7 +133,7 @@ def build(o, words):
         return said
     said += "The marked trenches cost %d" % marked["cost"]
     if not marked["network"]:
-        why = re.search(r" by the console's own sum, and are no network: they .*\n$", words)
+        why = re.search(r", and are no network: they .*\n$", words)
         return said + (why.group(0) if why else "?")
     if marked["saving"] == 0:
         return said + " too.\n"
@@ -280,7 +280,7 @@ def mend(o, words):
     elif "No trench was marked." in words:
         said += "No trench was marked." + now
     else:
-        said += "The marked trenches were no network, and cost %d by the console's own sum.%s" % (
+        said += "The marked trenches were no network, and cost %d.%s" % (
             o["marked"]["cost"], now)
     for step in o.get("steps", []):
         if step["step"] == "dropped":

@@ -121,7 +121,7 @@ def ended(rows, n, marked):
     elif not before:
         said += "No trench was marked. The plan's total is %d now: no network is cheaper.\n" % cost(rows, marked)
     else:
-        said += "The marked trenches were no network, and cost %d by the console's own sum. The plan's total is %d now: no network is cheaper.\n" % (cost(rows, before), cost(rows, marked))
+        said += "The marked trenches were no network, and cost %d. The plan's total is %d now: no network is cheaper.\n" % (cost(rows, before), cost(rows, marked))
     return said
 
 

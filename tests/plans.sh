@@ -15,7 +15,7 @@ for ends in 1024 '200 1024' '100 101 300 555 556 800 900 1024'; do
     verdict "districts of the city, checked: $ends" $?
 done
 try districts-street 0 '^Total 249$' '' districts $street 5 12
-try old 0 '^The marked trenches were no network, and cost 14 by the console.s own sum\. The plan.s total is 12 now: no network is cheaper\.$' '' mend $old
+try old 0 '^The marked trenches were no network, and cost 14\. The plan.s total is 12 now: no network is cheaper\.$' '' mend $old
 try old-steps 0 '^exchanged trench 1 \(1-2, price 5\) for trench 4 \(1-4, price 4\): saves 1$' '' mend $old --steps
 "${star[@]}" mend $old 2>/dev/null | "${star[@]}" check - >"$work/all"
 verdict old-checked $?

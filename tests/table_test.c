@@ -103,6 +103,17 @@ static void strike(void) {
     tell(same_answers(star_table_strike(&t, row)) && same_tables(), "strike");
 }
 
+/* A struck row, most of the time; one in use, and none, are refused. */
+static void restore(void) {
+    uint32_t row = any(4) ? any(12) : any(STAR_MAX_ROWS + 2), k;
+    for (k = 1; k <= 12 && any(10); k++)
+        if (own.left[k - 1] && !used(k)) row = k;
+    if (row >= 1 && row <= STAR_MAX_ROWS && !own.left[row - 1]) return;
+    star_restore(IN_USE, row, answer, 16);
+    if (answer[0] == STAR_PASSED) own.mark[row - 1] = 0;
+    tell(same_answers(star_table_restore(&t, row)) && same_tables(), "restore");
+}
+
 static void merge(void) {
     star_merge(IN_USE, COLUMNS, own.numbers, 1024, answer, 16);
     carry();
@@ -195,6 +206,10 @@ static void ask(void) {
     star_work_plan_digs(ROWS, MARK, ours, sizeof ours, answer, 16);
     tell(same_answers(star_table_plan_digs(&t, theirs)), "the plan's digs");
     tell(!memcmp(theirs, ours, sizeof ours), "the plan's list");
+    star_work_total(ROWS, MARK, answer, 16);
+    tell(same_answers(star_table_total(&t)), "the total");
+    if (answer[0] == STAR_PASSED)
+        tell(star_read_answer(answer).amount == sum(own.mark), "the sum of the marks");
     star_work_paths(ROWS, MARK, from, columns, 16 * (size_t)own.n, answer, 16);
     tell(same_answers(star_table_paths(&t, from, matrix)), "paths");
     tell(!memcmp(matrix, columns, sizeof matrix) && same_tables(), "the matrix");
@@ -335,9 +350,10 @@ static void start(void) {
 }
 
 static void step(unsigned long k) {
-    static void (*const calls[])(void) = {
-        add,   add,  mark, strike, merge, judge, build, mend,      outlets, which,       ask,
-        write, read, mark, judge,  mark,  mark,  judge, districts, build,   read_planner};
+    static void (*const calls[])(void) = {add,       add,   mark,         strike,  merge, judge,
+                                          build,     mend,  outlets,      which,   ask,   write,
+                                          read,      mark,  judge,        mark,    mark,  judge,
+                                          districts, build, read_planner, restore, judge, mark};
     unsigned i;
     if (k % 20 == 0) start();
     if (any(200) == 0) t.mark[3] = own.mark[3] = 2;

@@ -181,9 +181,12 @@ export class App {
     const struck = this.plan.struck[i] === 1;
     const plan = planCopy(this.plan);
     plan.struck[i] = struck ? 0 : 1;
-    const { kind, number } = struck ? this.sound(plan) : this.core.strike(this.plan, i + 1);
+    const door = struck ? 'restore' : 'strike';
+    const { kind, number } = this.core[door](this.plan, i + 1);
     if (kind !== PASSED) return this.core.refused(number, i + 1);
-    const label = `${struck ? 'restore' : 'strike'} trench ${i + 1}`;
+    const sound = struck ? this.sound(plan) : { kind, number };
+    if (sound.kind !== PASSED) return this.core.refused(sound.number, i + 1);
+    const label = `${door} trench ${i + 1}`;
     this.keep(label, { ...this.history.now, plan });
     return '';
   }

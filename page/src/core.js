@@ -55,6 +55,8 @@ export class Core {
     this.matrix = room(USE_BYTES * MAX_JUNCTIONS);
     this.records = room(12 * 2 * MAX_ROWS);
     this.numbers = room(4 * MAX_ROWS);
+    this.groupsAt = room(MAX_JUNCTIONS);
+    this.rings = room(MAX_ROWS);
     this.text = room(MAX_TEXT + 1);
     this.list = room(MAX_LIST);
     this.at = room(16 * (MAX_JUNCTIONS + 1));
@@ -171,13 +173,12 @@ export class Core {
     return { ...answer, mark: this.newMarks(p) };
   }
 
-  /** The total of marks that are a network: that of the cheaper of two claims that are the same.
+  /** The total of marks, a network or not.
    * @param {Plan} p @param {Uint8Array} mark */
   total(p, mark) {
     this.put(p);
-    for (const at of [this.mark, this.second]) this.memory.set(mark.subarray(0, MAX_ROWS), at);
-    const second = [this.second, BigInt(MAX_ROWS)];
-    return this.ask('star_work_which', p.n, ...this.table(), ...this.marks(), ...second);
+    this.memory.set(mark.subarray(0, MAX_ROWS), this.mark);
+    return this.ask('star_work_total', p.n, ...this.table(), ...this.marks());
   }
 
   /** The rows between junction 1 and each other one: 32 words of 32 bits for each junction; null
@@ -191,6 +192,34 @@ export class Core {
     if (answer.kind !== PASSED) return null;
     const end = this.matrix + USE_BYTES * p.n;
     return new Uint32Array(this.memory.slice(this.matrix, end).buffer);
+  }
+
+  /** The smallest junction of each one's group, and whether each row is marked and on a ring, of
+   * any marks; the number of groups, and of such rows.
+   * @param {Plan} p */
+  groups(p) {
+    this.put(p);
+    const lent = [this.groupsAt, BigInt(p.n), this.rings, BigInt(MAX_ROWS)];
+    const answer = this.ask('star_work_groups', p.n, ...this.table(), ...this.marks(), ...lent);
+    const group = this.memory.slice(this.groupsAt, this.groupsAt + p.n);
+    const ringed = this.memory.slice(this.rings, this.rings + p.m);
+    return { kind: answer.kind, groups: answer.amount, ringed: answer.in, group, rings: ringed };
+  }
+
+  /** Beside each row the one that it is best exchanged with, -1 for none, of marks that are a
+   * network: beside a row that is left out the dearest of its detour, beside one of the plan the
+   * cheapest that could take its place. null where they are none.
+   * @param {Plan} p */
+  detours(p) {
+    this.put(p);
+    const numbers = [this.numbers, BigInt(MAX_ROWS)];
+    const answer = this.ask(
+      'star_work_detours', p.n, ...this.table(), ...this.marks(), ...numbers);
+    if (answer.kind !== PASSED) return null;
+    const beside = Int32Array.from({ length: p.m }, (_, i) => {
+      return this.view.getUint32(this.numbers + 4 * i, true) - 1;
+    });
+    return { total: answer.amount, beside };
   }
 
   /** The least totals before and after a row, counted from 1, has another price.
@@ -277,6 +306,12 @@ export class Core {
   strike(p, row) {
     this.put(p);
     return this.ask('star_strike', this.use, 16n, row);
+  }
+
+  /** @param {Plan} p @param {number} row counted from 1 */
+  restore(p, row) {
+    this.put(p);
+    return this.ask('star_restore', this.use, 16n, row);
   }
 
   /** Reads an STP text. A longer one is refused by its length alone.

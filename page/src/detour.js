@@ -26,14 +26,10 @@ export function detourRows(matrix, p, i) {
   return rows;
 }
 
-/** @param {Plan} p @param {number[]} rows in the table's order */
-export function detourDearest(p, rows) {
-  return rows.reduce((best, r) => (best < 0 || p.price[r] > p.price[best] ? r : best), -1);
-}
-
-/** The detour of row i from its left end.
- * @param {Uint32Array} matrix @param {Plan} p @param {number} i @returns {Detour} */
-export function detourOf(matrix, p, i) {
+/** The detour of row i from its left end, whose dearest row the core has told.
+ * @param {Uint32Array} matrix @param {Plan} p @param {number} i @param {number} dearest
+ * @returns {Detour} */
+export function detourOf(matrix, p, i, dearest) {
   const set = detourRows(matrix, p, i);
   const left = new Set(set);
   const rows = [];
@@ -47,34 +43,24 @@ export function detourOf(matrix, p, i) {
     stops.push(at);
   }
   const sum = set.reduce((all, r) => all + p.price[r], 0);
-  return { rows, stops, dearest: detourDearest(p, set), sum };
-}
-
-/** For each row that is left out, the dearest of its detour; -1 for the others.
- * @param {Uint32Array} matrix @param {Plan} p */
-export function detourAllDearest(matrix, p) {
-  const dearest = new Int32Array(p.m).fill(-1);
-  for (let i = 0; i < p.m; i++) {
-    if (planLeaves(p, i)) dearest[i] = detourDearest(p, detourRows(matrix, p, i));
-  }
-  return dearest;
+  return { rows, stops, dearest, sum };
 }
 
 /** The exchange that saves most, the uppermost row of those that save as much; null where none
- * saves.
- * @param {Plan} p @param {Int32Array} dearest */
-export function detourBest(p, dearest) {
+ * saves. Beside each row stands the one that it is best exchanged with.
+ * @param {Plan} p @param {Int32Array} beside */
+export function detourBest(p, beside) {
   let best = null;
   for (let i = 0; i < p.m; i++) {
-    const out = dearest[i];
+    const out = planLeaves(p, i) ? beside[i] : -1;
     const saves = out < 0 ? 0 : p.price[out] - p.price[i];
     if (saves > (best ? best.saves : 0)) best = { out, in: i, saves };
   }
   return best;
 }
 
-/** What a row of the plan holds together: the junctions beyond it, the rows left out that join
- * both sides again, and the cheapest of these, -1 for none.
+/** What a row of the plan holds together: the junctions beyond it, and the rows left out that join
+ * both sides again.
  * @param {Uint32Array} matrix @param {Plan} p @param {number} i */
 export function detourCut(matrix, p, i) {
   /** @type {Set<number>} */
@@ -86,6 +72,5 @@ export function detourCut(matrix, p, i) {
       across.push(k);
     }
   }
-  const best = across.reduce((b, k) => (b < 0 || p.price[k] < p.price[b] ? k : b), -1);
-  return { far, across, best };
+  return { far, across };
 }

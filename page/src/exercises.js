@@ -1,7 +1,7 @@
 // Exercises on the four errors: the count, the detour's sum, two networks of one price, 256. Tables
 // come from a seed; which answer is right is asked of the core.
 import { LIGHTER, MAX_JUNCTIONS, PASSED, REFUSED } from './core.js';
-import { detourDearest, detourRows } from './detour.js';
+import { detourRows } from './detour.js';
 import { judgeExchanged } from './judge.js';
 import { planCopy, planOf } from './plan.js';
 import { randomFrom } from './random.js';
@@ -240,7 +240,7 @@ function answerDetour(core, e) {
   const now = core.total(plan, plan.mark).amount;
   const matrix = /** @type {Uint32Array} */ (core.paths(plan));
   const rows = detourRows(matrix, plan, row);
-  const dearest = detourDearest(plan, rows);
+  const dearest = /** @type {{beside: Int32Array}} */ (core.detours(plan)).beside[row];
   const sum = rows.reduce((all, r) => all + plan.price[r], 0);
   let right = 'out';
   let best = now;

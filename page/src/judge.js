@@ -1,18 +1,18 @@
 // All that is asked about a plan after each change.
 import { LIGHTER, MARK_COUNT, NOT_JOINED, PASSED, REFUSED } from './core.js';
-import { detourAllDearest, detourBest } from './detour.js';
-import { planRows, planSum } from './plan.js';
+import { detourBest } from './detour.js';
+import { planRows } from './plan.js';
 import { ringsOf } from './rings.js';
 
 /** @typedef {import('./core.js').Core} Core */
 /** @typedef {import('./core.js').Answer} Answer */
 /** @typedef {import('./plan.js').Plan} Plan */
 /** `network`: the marks are one. `drawn`: the table is sound, so that it can be drawn. `total` is
- * the core's for a network, and else the page's sum. `exchange` saves most; `after` is the core's
- * total after it.
+ * the core's, 0 where the table is refused. `exchange` saves most; `after` is the core's
+ * total after it. `beside` has what the core says of detours.
  * @typedef {{verdict: Answer, network: boolean, drawn: boolean, marks: number, total: number,
  * least: (Answer & {mark: Uint8Array}) | null, other: Answer | null,
- * matrix: Uint32Array | null, dearest: Int32Array | null,
+ * matrix: Uint32Array | null, beside: Int32Array | null,
  * exchange: {out: number, in: number, saves: number} | null, after: number,
  * rings: import('./rings.js').Rings | null}} Judgement */
 
@@ -29,29 +29,33 @@ export function judgeExchanged(p, out, into) {
  * @param {Core} core @param {Plan} p @param {Answer} verdict */
 function judgeNetwork(core, p, verdict) {
   const matrix = core.paths(p);
-  const dearest = matrix && detourAllDearest(matrix, p);
-  const exchange = dearest && verdict.kind === LIGHTER ? detourBest(p, dearest) : null;
+  const told = core.detours(p);
+  const beside = told && told.beside;
+  const exchange = beside && verdict.kind === LIGHTER ? detourBest(p, beside) : null;
   const after = exchange ? core.total(p, judgeExchanged(p, exchange.out, exchange.in)).amount : 0;
-  const total = core.total(p, p.mark).amount;
+  const total = told ? told.total : 0;
   const other = verdict.kind === PASSED && !verdict.only ? core.other(p) : null;
-  return { matrix, dearest, exchange, after, total, other };
+  return { matrix, beside, exchange, after, total, other };
 }
 
-const NONE = { matrix: null, dearest: null, exchange: null, after: 0, other: null };
+const NONE = { matrix: null, beside: null, exchange: null, after: 0, other: null };
 
 /** @param {Core} core @param {Plan} p @returns {Judgement} */
 export function judge(core, p) {
   const verdict = core.cst(p);
   const network = verdict.kind !== REFUSED;
   const drawn = network || verdict.number === MARK_COUNT || verdict.number === NOT_JOINED;
-  const found = network ? judgeNetwork(core, p, verdict) : { ...NONE, total: planSum(p) };
+  const marks = planRows(p).length;
+  const found = network
+    ? judgeNetwork(core, p, verdict)
+    : { ...NONE, total: core.total(p, p.mark).amount };
   return {
     verdict,
     network,
     drawn,
-    marks: planRows(p).length,
+    marks,
     least: drawn ? core.mst1(p) : null,
-    rings: drawn && !network ? ringsOf(p) : null,
+    rings: drawn && !network ? ringsOf(core, p, marks) : null,
     ...found,
   };
 }

@@ -16,12 +16,12 @@ const MOVES = { ArrowDown: 1, ArrowUp: -1, PageDown: 12, PageUp: -12, Home: -200
 export function listStanding(app, i) {
   const { plan, judgement } = app;
   if (plan.struck[i]) return { words: 'struck', look: 'struck', gain: 0 };
-  if (judgement.dearest) return listAgainst(plan, i, judgement.dearest[i]);
+  if (judgement.beside) return listAgainst(plan, i, planHas(plan, i) ? -1 : judgement.beside[i]);
   if (!judgement.rings) return { words: '', look: '', gain: 0 };
-  const { extra, group } = judgement.rings;
+  const { on, group } = judgement.rings;
   if (planHas(plan, i)) {
-    return extra.includes(i)
-      ? { words: 'closes a ring', look: 'saves', gain: 0 }
+    return on[i] === 1
+      ? { words: 'on a ring', look: 'saves', gain: 0 }
       : { words: '', look: 'plan', gain: 0 };
   }
   return group[plan.left[i]] === group[plan.right[i]]

@@ -342,7 +342,7 @@ class Page {
   setOffRings(setOff) {
     const { rings, marks } = this.app.judgement;
     if (!rings || marks === 0) return;
-    for (const i of rings.rings.flat()) setOff.under.push([i, 'ring']);
+    for (const i of rings.ringed) setOff.under.push([i, 'ring']);
     for (const v of rings.apart.flat()) setOff.spots.set(v, 'cut');
   }
 

@@ -1,60 +1,43 @@
-// Rings and groups of marks that are no network: arithmetic of the page.
-import { planEnd, planRows } from './plan.js';
+// Rings and groups of marks that are no network: by the core, but for the order of a ring's rows.
+import { planEnd } from './plan.js';
 
 /** @typedef {import('./plan.js').Plan} Plan */
 /** The group of each junction (its smallest junction); the groups, and those beside the largest;
- * the rows that close a ring with rows above them, and the ring of each.
- * @typedef {{group: Uint8Array, groups: number[][], apart: number[][], extra: number[],
- * rings: number[][]}} Rings */
+ * whether each row is marked and on a ring, these rows, and how many of them have to go before no
+ * ring is left.
+ * @typedef {{group: Uint8Array, groups: number[][], apart: number[][], on: Uint8Array,
+ * ringed: number[], extra: number}} Rings */
 
-const RINGS_SHOWN = 40;
-
-/** The rows on the way between two junctions over a forest.
- * @param {Plan} p @param {number[][]} rowsAt @param {number} from @param {number} to */
-function ringsWay(p, rowsAt, from, to) {
-  const by = new Map([[from, -1]]);
-  const queue = [from];
-  for (const v of queue) {
-    for (const r of rowsAt[v]) {
-      const w = planEnd(p, r, v);
-      if (!by.has(w)) {
-        by.set(w, r);
-        queue.push(w);
-      }
-    }
-  }
-  const rows = [];
-  for (let v = to; v !== from; ) {
-    const r = /** @type {number} */ (by.get(v));
-    rows.push(r);
-    v = planEnd(p, r, v);
-  }
-  return rows;
-}
-
-/** @param {Plan} p a plan whose ends are junctions @returns {Rings} */
-export function ringsOf(p) {
-  const group = Uint8Array.from({ length: p.n + 1 }, (_, v) => v);
-  const rowsAt = Array.from({ length: p.n + 1 }, () => /** @type {number[]} */ ([]));
-  const extra = [];
-  for (const i of planRows(p)) {
-    const [a, b] = [group[p.left[i]], group[p.right[i]]];
-    if (a === b) {
-      extra.push(i);
-      continue;
-    }
-    for (let v = 1; v <= p.n; v++) if (group[v] === Math.max(a, b)) group[v] = Math.min(a, b);
-    rowsAt[p.left[i]].push(i);
-    rowsAt[p.right[i]].push(i);
-  }
-  const rings = extra.slice(0, RINGS_SHOWN).map((i) => {
-    return [...ringsWay(p, rowsAt, p.left[i], p.right[i]), i];
-  });
+/** @param {import('./core.js').Core} core
+ * @param {Plan} p a plan whose ends are junctions @param {number} marks @returns {Rings} */
+export function ringsOf(core, p, marks) {
+  const told = core.groups(p);
+  const group = Uint8Array.of(0, ...told.group);
   /** @type {Map<number, number[]>} */
   const of = new Map();
   for (let v = 1; v <= p.n; v++) of.set(group[v], [...(of.get(group[v]) || []), v]);
   const groups = [...of.values()];
   const largest = groups.reduce((best, g) => (g.length > best.length ? g : best));
   const apart = groups.filter((g) => g !== largest);
-  return { group, groups, apart, extra, rings };
+  const on = told.rings;
+  const ringed = [...on.keys()].filter((i) => on[i] === 1);
+  return { group, groups, apart, on, ringed, extra: marks + told.groups - p.n };
+}
+
+/** The rows of a shortest ring through a row that is on one, in order, that row last.
+ * @param {Plan} p @param {Rings} rings @param {number} i */
+export function ringsThrough(p, rings, i) {
+  const by = new Map([[p.left[i], -1]]);
+  for (const v of by.keys()) {
+    for (const r of rings.ringed) {
+      if (r === i || (p.left[r] !== v && p.right[r] !== v)) continue;
+      const w = planEnd(p, r, v);
+      if (!by.has(w)) by.set(w, r);
+    }
+  }
+  const rows = [];
+  for (let v = p.right[i]; v !== p.left[i]; v = planEnd(p, rows[0], v)) {
+    rows.unshift(/** @type {number} */ (by.get(v)));
+  }
+  return [...rows, i];
 }

@@ -2,6 +2,7 @@
 import { LIGHTER, PASSED } from './core.js';
 import { bold, button, byId, coreSays, html, pageSays } from './dom.js';
 import { namesFew, namesRows } from './names.js';
+import { ringsThrough } from './rings.js';
 import { count, money, rowNumbers, runs, trench } from './words.js';
 
 /** @typedef {import('./app.js').App} App */
@@ -83,22 +84,30 @@ function verdictNone(app) {
 
 /** @param {App} app @param {import('./rings.js').Rings} rings */
 function verdictRings(app, rings) {
-  const { file } = app.history.now;
   const words = [];
-  if (rings.rings.length > 0) {
-    const more = rings.extra.length - 1;
-    const also = more > 0 ? ` ${count(more, 'more mark closes', 'more marks close')} a ring.` : '';
-    const rows = rowNumbers(rings.rings[0], VERDICT_SHOWN);
-    words.push(pageSays(bold('A ring', 'ring'), `: trenches ${rows}.${also}`));
+  if (rings.ringed.length > 0) {
+    const many = count(rings.ringed.length, 'marked trench is', 'marked trenches are');
+    const rows = ringsThrough(app.plan, rings, rings.ringed[0]);
+    const go = rings.extra > 1 ? ` Before no ring is left ${rings.extra} marks have to go.` : '';
+    words.push(
+      coreSays(`${many} on a ring.`),
+      pageSays(bold('A ring', 'ring'), `: trenches ${rowNumbers(rows, VERDICT_SHOWN)}.${go}`),
+    );
   }
-  if (rings.apart.length > 0) {
-    const groups = rings.groups.slice(0, GROUPS_SHOWN).map((g) => runs(g) + namesFew(file, g));
-    const more = rings.groups.length - groups.length;
-    const rest = more > 0 ? `; and ${more} more` : '';
-    const said = `: ${groups.join('; ')}${rest}.`;
-    words.push(pageSays(bold('Groups that stand apart', 'cut'), said));
-  }
+  if (rings.apart.length > 0) words.push(...verdictGroups(app, rings.groups));
   return words;
+}
+
+/** @param {App} app @param {number[][]} all the groups */
+function verdictGroups(app, all) {
+  const { file } = app.history.now;
+  const groups = all.slice(0, GROUPS_SHOWN);
+  const rest = all.length > groups.length ? `; and ${all.length - groups.length} more` : '';
+  const said = `: ${groups.map(runs).join('; ')}${rest}.`;
+  const words = [coreSays(bold('Groups that stand apart', 'cut'), said)];
+  const named = groups.filter((g) => namesFew(file, g) !== '');
+  const names = named.map((g) => runs(g) + namesFew(file, g)).join('; ');
+  return names === '' ? words : [...words, pageSays(`${names}.`)];
 }
 
 /** A table that is refused.

@@ -5,7 +5,8 @@ import { detourCut, detourOf } from './detour.js';
 import { bold, coreSays, html, pageSays } from './dom.js';
 import { judgeExchanged } from './judge.js';
 import { planHas } from './plan.js';
-import { count, ends, money, rowNumbers, some, stops } from './words.js';
+import { ringsThrough } from './rings.js';
+import { count, money, rowNumbers, some, stops, trench } from './words.js';
 
 /** @typedef {import('./app.js').App} App */
 /** Rows under and over the lines with their looks, texts at rows, looks of junctions, and whether
@@ -35,7 +36,8 @@ function whyBreaking(app, i) {
   const answer = app.core.breaking(app.plan, i + 1);
   if (answer.kind === PASSED) {
     const price = money(answer.amount);
-    return [coreSays(`Its breaking price is ${price}: above it, it is in no cheapest network.`)];
+    const words = 'below it, it is in every cheapest network, at it in some, above it in none';
+    return [coreSays(`Its breaking price is ${price}: ${words}.`)];
   }
   if (answer.kind === NEVER) {
     return [coreSays('No other route joins its ends: it is in every network.')];
@@ -63,7 +65,9 @@ function whyStays(own, dear) {
  * @param {App} app @param {number} i @returns {Why} */
 function whyLeft(app, i) {
   const p = app.plan;
-  const detour = detourOf(/** @type {Uint32Array} */ (app.judgement.matrix), p, i);
+  const { matrix, beside } = app.judgement;
+  if (!matrix || !beside) throw Error('no detours of marks that are no network');
+  const detour = detourOf(matrix, p, i, beside[i]);
   const [own, dear] = [p.price[i], p.price[detour.dearest]];
   const setOff = setOffNone();
   setOff.quiet = true;
@@ -75,12 +79,14 @@ function whyLeft(app, i) {
   setOff.over.push([i, 'chosen']);
   for (const v of detour.stops) setOff.spots.set(v, 'on');
   const words = [
-    pageSays(
-      'Left out. ',
-      bold(`${money(own)} ${whySign(own, dear)} ${money(dear)}`),
-      ', the price of the ',
+    coreSays(
+      'Left out. The ',
       bold('dearest trench', 'out'),
-      ` of its detour (${detour.dearest + 1}: ${ends(p, detour.dearest)}).`,
+      ` of its detour is ${trench(p, detour.dearest)}.`,
+    ),
+    pageSays(
+      bold(`${money(own)} ${whySign(own, dear)} ${money(dear)}`),
+      '.',
       ...whyStays(own, dear),
     ),
     barsOf(p, i, detour),
@@ -105,7 +111,9 @@ function whySide(far, n) {
  * @param {App} app @param {number} i @returns {Why} */
 function whyIn(app, i) {
   const p = app.plan;
-  const cut = detourCut(/** @type {Uint32Array} */ (app.judgement.matrix), p, i);
+  const { matrix, beside } = app.judgement;
+  if (!matrix || !beside) throw Error('no cuts of marks that are no network');
+  const cut = { ...detourCut(matrix, p, i), best: beside[i] };
   const side = whySide(cut.far, p.n);
   const setOff = setOffNone();
   setOff.quiet = true;
@@ -113,7 +121,10 @@ function whyIn(app, i) {
   for (const v of side) setOff.spots.set(v, 'far');
   const off = `${count(side.length, 'junction is', 'junctions are')} cut off (${some(side, 8)})`;
   if (cut.best < 0) {
-    const words = [pageSays(`In the plan. Without it ${off}, and no trench joins them again.`)];
+    const words = [
+      coreSays('In the plan. No trench could take its place.'),
+      pageSays(`Without it ${off}, and no trench joins them again.`),
+    ];
     return { words, setOff, swap: null, saves: 0 };
   }
   const [own, best] = [p.price[i], p.price[cut.best]];
@@ -121,10 +132,10 @@ function whyIn(app, i) {
   for (const k of cut.across) setOff.under.push([k, k === cut.best ? 'comes' : 'across']);
   setOff.tags.set(cut.best, `${cut.best + 1}: ${money(best)}`);
   const words = [
+    coreSays(`In the plan. The cheapest that could take its place is ${trench(p, cut.best)}.`),
     pageSays(
-      'In the plan. ',
       bold(`${money(own)} ${whySign(own, best)} ${money(best)}`),
-      `, the cheapest that could come for it (${cut.best + 1}: ${ends(p, cut.best)}).`,
+      '.',
       ...(own < best ? [' ', bold('It stays'), '.'] : whyStays(best, own)),
     ),
     pageSays(`Without it ${off}; ${again} them again.`),
@@ -140,21 +151,22 @@ function whyApart(app, i) {
   const rings = /** @type {import('./rings.js').Rings} */ (app.judgement.rings);
   const setOff = setOffNone();
   setOff.over.push([i, 'chosen']);
-  const ring = rings.rings.find((rows) => rows.includes(i));
   const joined = rings.group[p.left[i]] === rings.group[p.right[i]];
   let words = pageSays('Left out. It ', bold('joins two groups'), ' that no marked trench joins.');
-  if (planHas(p, i) && ring) {
-    words = pageSays(
+  const ring = rings.on[i] === 1 ? ringsThrough(p, rings, i) : [];
+  if (ring.length > 0) {
+    words = coreSays(
       'Marked, and ',
       bold('on a ring'),
-      ` (trenches ${rowNumbers(ring, 10)}): its mark can go, and the junctions stay joined.`,
+      ': its mark can go, and the junctions stay joined.',
     );
-  } else if (planHas(p, i)) words = pageSays('Marked, and on no ring that is shown.');
+  } else if (planHas(p, i)) words = coreSays('Marked, and on no ring.');
   else if (joined) {
     const joins = 'Left out. Marked trenches join its ends: marking it ';
     words = pageSays(joins, bold('closes a ring'), '.');
   }
-  return { words: [words], setOff, swap: null, saves: 0 };
+  const shown = ring.length > 0 ? [pageSays(`A ring: trenches ${rowNumbers(ring, 10)}.`)] : [];
+  return { words: [words, ...shown], setOff, swap: null, saves: 0 };
 }
 
 /** @param {App} app @param {number} i @returns {Why} */

@@ -3,7 +3,7 @@ from typing import Dict, Hashable
 
 from . import _library as lib
 from .answers import Refused
-from .columns import end, price_of
+from .columns import end, price_of, word
 from .content import Content
 
 
@@ -35,6 +35,19 @@ class Changes(Content):
             for row in self._in_use(rows, once=True):
                 lib.strike(self._at, row)
                 self._lines.pop(row, None)
+
+    def restore(self, row: int) -> None:
+        """Puts a struck row back into use, unmarked. After a merge, and after an add that packed,
+        other rows stand in its place.
+
+        >>> t = Table(3, [(1, 2, 7), (2, 3, 4), (1, 3, 9)]); t.strike(2); t.restore(2)
+        >>> t.build().total
+        11
+        """
+        with self._lock:
+            a = lib.restore(self._at, word(row))
+        if a.kind == lib.REFUSED:
+            raise Refused(a.number, a.out)
 
     def merge(self) -> Dict[int, int]:
         """Packs the rows in use to the top, and says where each one went. The plan moves with them.

@@ -106,6 +106,18 @@ class Questions(Content):
             raise Refused(a.number, a.out)
         return a.amount if a.kind == lib.PASSED else None
 
+    def total(self) -> int:
+        """The total of the marked rows, a network or not.
+
+        >>> t = Table(3, [(1, 2, 7), (2, 3, 4)]); t.mark(2); t.total()
+        4
+        """
+        with self._lock:
+            a = lib.total(self._at)
+        if a.kind == lib.REFUSED:
+            raise Refused(a.number, a.out)
+        return int(a.amount)
+
     def digs(self, plan: bool = False) -> str:
         """The dig list of a least network: a line a row, and the total. With plan that of the
         marked rows, least or not; refused (Refused) where they are no network.

@@ -8,6 +8,7 @@ import path from 'node:path';
 import { App } from '../../page/src/app.js';
 import { coreOpen } from '../../page/src/core.js';
 import { detourOf } from '../../page/src/detour.js';
+import { ringsThrough } from '../../page/src/rings.js';
 import { planLeaves } from '../../page/src/plan.js';
 import { randomFrom } from '../../page/src/random.js';
 import { runs } from '../../page/src/words.js';
@@ -81,33 +82,32 @@ function star(...words) {
 /** The plan by its detours, as `star explain --all` has them.
  * @param {App} app @param {string} said */
 function sameDetours(app, said) {
-  const { matrix, rings } = app.judgement;
-  if (matrix) {
+  const { matrix, beside, rings } = app.judgement;
+  if (matrix && beside) {
     const told = [...said.matchAll(
       /^trench (\d+) \(.* is left out\. .*\n {2}sum (-?\d+), .* dearest -?\d+ \(trench (\d+)\)/gm)];
     const left = app.plan.left.reduce((k, _, i) => k + Number(planLeaves(app.plan, i)), 0);
     return told.length === left && told.every(([, row, sum, dearest]) => {
-      const detour = detourOf(matrix, app.plan, Number(row) - 1);
+      const i = Number(row) - 1;
+      const detour = detourOf(matrix, app.plan, i, beside[i]);
       return detour.sum === Number(sum) && detour.dearest === Number(dearest) - 1;
     });
   }
   if (!rings || app.judgement.marks === 0) return true;
-  const told = [...said.matchAll(/^A ring: trenches (.*) \(/gm)].map(([, rows]) => sorted(rows));
-  const mine = rings.rings.map((ring) => sorted(ring.map((i) => i + 1).join()));
+  const told = [...said.matchAll(/^A ring: trenches (.*) \(/gm)].map(([, rows]) => rows.split(','));
+  const all = [...new Set(told.flat().map(Number))].sort((a, b) => a - b);
   const groups = [...said.matchAll(/^ {2}junctions? (.*)$/gm)].map(([, words]) => words);
   const same = rings.apart.length === 0 || groups.join('; ') === rings.groups.map(runs).join('; ');
-  return same && told.length === rings.extra.length && mine.every((ring, k) => ring === told[k]);
+  const ringed = rings.ringed.map((i) => i + 1);
+  return same && told.length === rings.extra && all.join() === ringed.join();
 }
 
-/** Numbers in order.
- * @param {string} numbers parted by commas */
-const sorted = (numbers) => numbers.split(',').map(Number).sort((a, b) => a - b).join();
-
-/** Whether a ring that is shown is one: each junction of it has two of its rows.
+/** Whether each ring that can be shown is one: each junction of it has two of its rows.
  * @param {App} app */
 function soundRings(app) {
   const { rings } = app.judgement;
-  return !rings || rings.rings.every((ring) => {
+  return !rings || rings.ringed.every((row) => {
+    const ring = ringsThrough(app.plan, rings, row);
     /** @type {Map<number, number>} */
     const at = new Map();
     for (const i of ring) {

@@ -198,7 +198,8 @@ const GROUPS = {
     await b.value('star.app.select(2)');
     await b.frame();
     const own = await textOf('card');
-    check('a trench of the plan', own.includes('In the plan. 5 = 5') && own.includes('cut off'));
+    const parts = ['The cheapest that could take its place is trench ', '5 = 5.', 'cut off'];
+    check('a trench of the plan', parts.every((part) => own.includes(part)));
   },
 
   async changes() {

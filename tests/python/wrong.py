@@ -248,6 +248,7 @@ class Threads(unittest.TestCase):
         "digs": lambda t: t.digs(), "plan_digs": lambda t: t.digs(plan=True), "mend": lambda t: t.mend(),
         "outlets": lambda t: t.outlets(1, 2), "districts": lambda t: t.districts([2, 5]),
         "add": lambda t: t.add(2, 4, 9), "strike": lambda t: t.strike(6),
+        "restore": lambda t: t.restore(6), "total": lambda t: t.total(),
         "merge": lambda t: t.merge(), "mark": lambda t: t.mark(1), "write": lambda t: t.to_text()}
 
     def test_every_call_holds_the_lock(self):
