@@ -1,5 +1,5 @@
 // The doors against a plain implementation in C and, where they are installed, LEMON, Boost Graph and igraph: MST1, CST, the quote, the breaking price,
-// a plan's dig list and total, districts, mends and outlets; MST1 and CST on working tables too. One process, one table at a time; the solvers take turns, and the median of all
+// a plan's dig list and total, districts, mends, groups and rings, and outlets; MST1 and CST on working tables too. One process, one table at a time; the solvers take turns, and the median of all
 // calls is told. What is found is compared, so that a solver that is wrong is told.
 // usage: bench [PLOT]    prints the times; writes a plot (SVG) of time against the number of rows to the file PLOT
 //        bench --count   calls each solver twice and has callgrind write out the instructions of the second call (bench/counts.sh)
@@ -111,7 +111,7 @@ void add_outlets(Rows &rows, Table &own, const char *name, uint32_t r, uint32_t 
 // The doors that make plans, on the largest tables.
 void measure_plans() {
     Table t = make(255, STAR_MAX_ROWS, 0, STAR_MAX_PRICE), boiler = boiler_house(), t_own = t, boiler_own = boiler;
-    std::vector<uint8_t> claim(t.rows()), forests(t.rows());
+    std::vector<uint8_t> claim(t.rows()), forests(t.rows()), groups(t.n), rings(t.rows());
     std::vector<star_record> records(2 * t.rows());
     uint32_t ends[STAR_MAX_RUNS];
     uint8_t answer[16];
@@ -126,11 +126,26 @@ void measure_plans() {
         star_mend(of.n, of.left.data(), of.rows(), of.right.data(), of.rows(), of.weight.data(), of.weight.size(), of.mark.data(), of.rows(), records.data(), records.size(), answer, 16);
         return amount(answer);
     };
-    std::printf("n %u, m %zu: eight districts; a claim of random marks mended; the fewest rows at a junction\n", t.n, t.rows());
+    auto grouped = [&](Table &of) { // the same claim; the number of groups is what the first call gives
+        star_groups(of.n, of.left.data(), of.rows(), of.right.data(), of.rows(), of.weight.data(), of.weight.size(), claim.data(), of.rows(), groups.data(), groups.size(), rings.data(), of.rows(), answer, 16);
+        return amount(answer);
+    };
+    struct rows ends_of{};
+    for (ends_of.m = 0; ends_of.m < t.rows(); ends_of.m++) {
+        ends_of.a[ends_of.m] = t.left[ends_of.m];
+        ends_of.b[ends_of.m] = t.right[ends_of.m];
+    }
+    auto plain_grouped = [&](Table &of) {
+        plain_rings(of.n, &ends_of, claim.data(), rings.data());
+        return int64_t(plain_groups(of.n, &ends_of, claim.data(), groups.data()));
+    };
+    std::printf("n %u, m %zu: eight districts; a claim of random marks mended, its groups and rings; the fewest rows at a junction\n", t.n, t.rows());
     Rows rows(t, plain_build(t));
     rows.add_doors();
     rows.add("star_districts", districts);
     rows.add("star_mend", mend, t, mend(t));
+    rows.add("star_groups", grouped, t, grouped(t));
+    rows.add("plain groups and rings", plain_grouped, t, grouped(t));
     add_outlets(rows, t_own, "star_outlets", t.left[t.rows() / 2], 1);
     rows.add_libraries();
     rows.print();

@@ -13,6 +13,7 @@
 
 extern "C" {
 #include "plain_asked.h"
+#include "plain_groups.h"
 }
 
 #if __has_include(<lemon/list_graph.h>)
