@@ -35,7 +35,8 @@ int paths_from(struct paths *p, const struct table *t, uint32_t from);
 int way_between(struct detour *d, struct paths *p, const struct table *t, uint32_t from,
                 uint32_t to);
 
-/* The detour of trench i, counted from 1, whose dearest trench is the door's; 0 if a door refuses. */
+/* The detour of trench i, counted from 1, whose dearest trench is the door's; 0 if a door
+ * refuses. */
 int detour_of(struct detour *d, struct paths *p, const struct table *t, size_t i);
 
 /* 'trenches 4, 3, 2' and '1-4-3-2', cut where they are long. */

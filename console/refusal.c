@@ -97,8 +97,8 @@ static void mark_count(struct message *to, const struct table *t) {
     say(to, " exactly %" PRIu32 ".", t->n - 1);
 }
 
-/* The smallest junction that no trenches join to junction 1, of a table that the builder refused 11:
-   all trenches marked, they leave it in another group. 0 if the door refuses. */
+/* The smallest junction that no trenches join to junction 1, of a table that the builder refused
+   11: all trenches marked, they leave it in another group. 0 if the door refuses. */
 static unsigned unreached(const struct table *t) {
     static struct table all;
     static uint8_t smallest[STAR_MAX_JUNCTIONS], on[KEPT];

@@ -1,5 +1,5 @@
-/* Rings and groups of junctions. The door star_groups gives the groups, and the marked trenches that
-   are on a ring. To put each ring in order the doors are asked about one group at a time: its
+/* Rings and groups of junctions. The door star_groups gives the groups, and the marked trenches
+   that are on a ring. To put each ring in order the doors are asked about one group at a time: its
    junctions and its marked trenches, all of one price. A cheapest network of these leaves out one
    trench of each ring, and the path between the ends of such a trench is the rest of its ring. */
 #include "ring.h"

@@ -534,8 +534,9 @@ uint32_t star_work_best(uint32_t n, const uint64_t *in_use, size_t in_use_words,
  * and 1. groups, n bytes, gets for each junction the smallest one that marked rows join it to:
  * itself where it is that one. rings, m bytes, gets 1 at each marked row whose ends the other
  * marked rows join, and 0 elsewhere. The answer's amount is the number of groups, and in is the
- * number of rows that close a ring: the marks are a network exactly where these are 1 and 0. Neither
- * column is read. A refusal is 1, 2, 3, 4, 15 or 6, in this order, and leaves both as they were. */
+ * number of rows that close a ring: the marks are a network exactly where these are 1 and 0.
+ * Neither column is read. A refusal is 1, 2, 3, 4, 15 or 6, in this order, and leaves both as they
+ * were. */
 uint32_t star_groups(uint32_t n, const uint8_t *left, size_t left_len, const uint8_t *right,
                      size_t right_len, const uint8_t *weight, size_t weight_len,
                      const uint8_t *mark, size_t mark_len, uint8_t *groups, size_t groups_len,
@@ -597,8 +598,8 @@ STAR_INLINE int32_t star_get_price(const uint8_t *weight, size_t index) {
     return bits <= INT32_MAX ? (int32_t)bits : -1 - (int32_t)~bits;
 }
 
-/* The sixteen bytes of every door but star_import, star_read_table and a refused star_digs_text, and the first
- * sixteen of star_quote, as fields; those that a kind lacks are 0. */
+/* The sixteen bytes of every door but star_import, star_read_table and a refused star_digs_text,
+ * and the first sixteen of star_quote and star_best, as fields; those that a kind lacks are 0. */
 struct star_answer {
     unsigned kind;   /* byte 0: enum star_kind */
     unsigned number; /* byte 1: enum star_refusal, 0 unless refused */

@@ -1,9 +1,9 @@
 /* Calls star_read_table on texts of standard input and writes what it said and left to standard
- * output. A text is four bytes of length, least significant first, and its bytes. What is written of
- * it: the answer; a byte that is 1 where the call returned 1, every guard byte stands, a refusal left
- * every column as it was, and rows and names past those read kept their content; where the text is
- * read, the rows in use, and of each row and name what the columns hold. Every call runs in a thread
- * with 64 KiB of stack. */
+ * output. A text is four bytes of length, least significant first, and its bytes. What is written
+ * of it: the answer; a byte that is 1 where the call returned 1, every guard byte stands, a refusal
+ * left every column as it was, and rows and names past those read kept their content; where the
+ * text is read, the rows in use, and of each row and name what the columns hold. Every call runs in
+ * a thread with 64 KiB of stack. */
 #include <pthread.h>
 #include <stdio.h>
 #include <stdlib.h>
