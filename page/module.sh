@@ -39,10 +39,14 @@ for part in places shapes bends coordinates; do
 done
 "$clang" $wasm -O2 -ffreestanding -isystem page/freestanding -Iinclude -c include/star.c \
     -o "$work/star.o"
+# For size, but for the readers of STP texts, which call each other once a section: with more calls
+# and frames than -O2 leaves, the deepest text does not fit a browser's stack.
 for crate; do
+    level=-Os
+    case $crate in stp_door | digs_door) level=-O2 ;; esac
     RATTLE_HOME=$work/kit sh tools/compile.sh "$crate" "$work/$crate.a"
     retarget "$work/kept1.bc" >"$work/$crate.ll"
-    "$clang" $wasm -Os -Werror -x ir -c "$work/$crate.ll" -o "$work/$crate.o"
+    "$clang" $wasm $level -Werror -x ir -c "$work/$crate.ll" -o "$work/$crate.o"
     objects="$objects $work/$crate.o"
     rm "$work/kept1.bc"
 done

@@ -25,10 +25,10 @@ add() { # COMMAND..
 
 # The same tests over doors with a fault each fail, and over doors with none do not. The faults are
 # those that a source names.
-controls() { # PROGRAM SOURCE
+controls() { # PROGRAM SOURCE TABLES
     local program=$1 said=$work/control fault status
     for fault in none $(grep -o 'fault("[^"]*")' "$2" | cut -d '"' -f 2 | sort -u); do
-        FAULT=$fault "$build/$program" 2000 >"$said" 2>&1
+        FAULT=$fault "$build/$program" "$3" >"$said" 2>&1
         status=$?
         if [ $status = 0 ] && [ "$fault" != none ] || ! [[ $(tail -n 1 "$said") =~ failed$ ]]; then
             echo "$program does not find the fault $fault"
@@ -42,9 +42,11 @@ controls() { # PROGRAM SOURCE
 
 # The test of a door, or of the short calls over a table, and how many tables it has.
 declare -A tables=([door]=200000 [work]=50000 [districts]=50000 [mend]=50000 [table]=200000)
+# How many a fault is looked for in: a step of the test of short calls is one of 24 calls.
+declare -A controlled=([table]=8000)
 door_test() { # NAME
     add "$build/$1_test" "${tables[$1]:-20000}"
-    controls "$1_test_faulty" "tests/faulty_$1.c"
+    controls "$1_test_faulty" "tests/faulty_$1.c" "${controlled[$1]:-2000}"
 }
 part_table() { door_test table; }
 

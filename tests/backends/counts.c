@@ -97,6 +97,7 @@ void counts_add(const struct call *before, const struct call *after, uint32_t re
 static int has_kind(const char *name, unsigned kind) {
     /* star_carry has no rows. */
     if (kind >= ONE_WORD && strcmp(name, "star_carry") == 0) return 0;
+    if (kind == LIGHTER && strstr(name, "best")) return 1;
     return strstr(name, kinds[kind].of) || (kinds[kind].or &&strstr(name, kinds[kind].or));
 }
 

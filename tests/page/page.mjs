@@ -53,8 +53,7 @@ async function choose(file) {
   const { root } = await b.send('DOM.getDocument');
   const found = await b.send('DOM.querySelector', { nodeId: root.nodeId, selector: '#file' });
   await b.send('DOM.setFileInputFiles', { files: [file], nodeId: found.nodeId });
-  const name = JSON.stringify(path.basename(file));
-  const opened = `star.last === ${name}`;
+  const opened = `star.last === ${JSON.stringify(path.basename(file))}`;
   for (let k = 0; k < 400 && !(await b.value(opened)); k++) await b.frame();
   await b.frame();
 }
