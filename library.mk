@@ -1,7 +1,7 @@
 # What C and Python programmers get beside the static library: rules for the Makefile, which includes this file.
 
 # The test of the short calls over a table, and the same over calls with a fault each, which it has to find.
-TABLE_CALLS := init add mark strike restore merge check other build mend outlets districts which quote breaking digs plan_digs total paths read write
+TABLE_CALLS := init add mark strike restore merge check other build mend outlets districts which quote breaking digs plan_digs total best detours groups paths read write
 TABLE_TEST := tests/table_test.c tests/shared.c tests/plain_work.c tests/plain.c
 TABLE_HEADERS := tests/shared.h tests/plain_work.h tests/plain.h tests/faulty_table.h include/star.h
 $(BUILD)/table_test: $(LIBRARY) $(TABLE_TEST) $(TABLE_HEADERS)

@@ -749,11 +749,14 @@ struct star_answer star_table_restore(struct star_table *t, uint32_t row);
 struct star_answer star_table_merge(struct star_table *t);
 
 /* Judges the plan as star_cst does. Where a cheaper set exists, both totals are told beside the
- * saving: the plan's by star_which of it with itself, the least one by star_mst1. */
+ * saving: the plan's by star_total, the least one by star_mst1. */
 struct star_verdict star_table_check(const struct star_table *t);
 
 /* The same as star_other does: where another network has the same total, out and in give it. */
 struct star_verdict star_table_other(const struct star_table *t);
+
+/* The exchange of two rows that saves most as star_best gives it, with both totals; only is 0. */
+struct star_verdict star_table_best(const struct star_table *t);
 
 /* Marks a least network as star_mst1 does. */
 struct star_verdict star_table_build(struct star_table *t);
@@ -793,6 +796,14 @@ struct star_answer star_table_total(const struct star_table *t);
 
 /* Writes the dig list of the marked rows as star_plan_digs does; text has STAR_MAX_LIST bytes. */
 struct star_answer star_table_plan_digs(const struct star_table *t, uint8_t *text);
+
+/* Names beside each row the row it is best exchanged with as star_detours does; rows has 1,024
+ * numbers, and the answer's amount is the plan's total. */
+struct star_answer star_table_detours(const struct star_table *t, uint32_t *rows);
+
+/* Finds what the marked rows join and where they close rings as star_groups does; groups has n
+ * bytes, rings 1,024. */
+struct star_answer star_table_groups(const struct star_table *t, uint8_t *groups, uint8_t *rings);
 
 /* Fills the path matrix of the plan as star_paths does; matrix has 16 n words. */
 struct star_answer star_table_paths(const struct star_table *t, uint32_t from, uint64_t *matrix);

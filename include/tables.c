@@ -1,5 +1,5 @@
-/* Tables with all that belongs to them: short calls over the doors for working tables. No verdict,
-   total or price is found here. */
+/* Tables with all that belongs to them: short calls over the doors. No verdict, total or price is
+   found here. What a working door writes as 0 at rows not in use, the plain one does not see. */
 #include <string.h>
 
 #include "lent.h"
@@ -87,6 +87,22 @@ struct star_answer star_table_total(const struct star_table *t) {
     uint8_t answer[STAR_ANSWER_BYTES];
     struct lent as = lent_as(t);
     ASK(t, as, total, t->mark, as.len, ANSWER(answer));
+    return star_read_answer(answer);
+}
+
+struct star_answer star_table_detours(const struct star_table *t, uint32_t *rows) {
+    uint8_t answer[STAR_ANSWER_BYTES];
+    struct lent as = lent_as(t);
+    ASK(t, as, detours, t->mark, as.len, rows, as.len, ANSWER(answer));
+    if (answer[0] == STAR_PASSED) memset(rows + as.len, 0, (STAR_MAX_ROWS - as.len) * sizeof *rows);
+    return star_read_answer(answer);
+}
+
+struct star_answer star_table_groups(const struct star_table *t, uint8_t *groups, uint8_t *rings) {
+    uint8_t answer[STAR_ANSWER_BYTES];
+    struct lent as = lent_as(t);
+    ASK(t, as, groups, t->mark, as.len, groups, t->n, rings, as.len, ANSWER(answer));
+    if (answer[0] == STAR_PASSED) memset(rings + as.len, 0, STAR_MAX_ROWS - as.len);
     return star_read_answer(answer);
 }
 

@@ -4,10 +4,10 @@
 
 #include "lent.h"
 
-/* The total of marks that are a network: what star_which of them with themselves gives. */
+/* The total of the marks. */
 static int64_t total_of(const struct star_table *t, struct lent as) {
     uint8_t answer[STAR_ANSWER_BYTES];
-    ASK(t, as, which, t->mark, as.len, t->mark, as.len, ANSWER(answer));
+    ASK(t, as, total, t->mark, as.len, ANSWER(answer));
     return star_read_answer(answer).amount;
 }
 
@@ -63,6 +63,23 @@ struct star_verdict star_table_other(const struct star_table *t) {
     struct lent as = lent_as(t);
     ASK(t, as, other, t->mark, as.len, ANSWER(answer));
     return judged(t, as, answer);
+}
+
+struct star_verdict star_table_best(const struct star_table *t) {
+    uint8_t answer[STAR_BEST_BYTES];
+    struct star_answer a;
+    struct star_verdict v;
+    struct lent as = lent_as(t);
+    ASK(t, as, best, t->mark, as.len, ANSWER(answer));
+    a = star_read_answer(answer);
+    v = verdict_of(a);
+    if (a.kind == STAR_REFUSED) return v;
+    v.out = a.out;
+    v.in = a.in;
+    v.least = star_read_answer(answer + 8).amount;
+    v.saving = a.kind == STAR_LIGHTER ? a.amount : 0;
+    v.total = a.kind == STAR_LIGHTER ? total_of(t, as) : a.amount;
+    return v;
 }
 
 struct star_verdict star_table_build(struct star_table *t) {

@@ -150,6 +150,31 @@ struct star_answer faulty_table_total(const struct star_table *t) {
     return r;
 }
 
+struct star_verdict faulty_table_best(const struct star_table *t) {
+    struct star_verdict v = fault("best-as-check") ? star_table_check(t) : star_table_best(t);
+    if (v.kind == STAR_LIGHTER && fault("best-least-by-saving")) v.least = v.total - v.saving;
+    if (v.kind == STAR_LIGHTER && fault("best-total-lacking")) v.total = 0;
+    return v;
+}
+
+struct star_answer faulty_table_detours(const struct star_table *t, uint32_t *rows) {
+    uint32_t last = rows[STAR_MAX_ROWS - 1];
+    struct star_answer r = star_table_detours(t, rows);
+    if (r.kind == STAR_PASSED && fault("detours-behind")) rows[STAR_MAX_ROWS - 1] = last;
+    if (r.kind == STAR_PASSED && fault("detours-from-0") && rows[0]) rows[0]--;
+    return r;
+}
+
+struct star_answer faulty_table_groups(const struct star_table *t, uint8_t *groups,
+                                       uint8_t *rings) {
+    uint8_t last = rings[STAR_MAX_ROWS - 1], first = groups[0];
+    struct star_answer r = star_table_groups(t, groups, rings);
+    if (r.kind == STAR_PASSED && fault("groups-rings-behind")) rings[STAR_MAX_ROWS - 1] = last;
+    if (r.kind == STAR_PASSED && fault("groups-first-kept")) groups[0] = first;
+    if (r.kind == STAR_REFUSED && fault("groups-refused-clears")) rings[0] = 0;
+    return r;
+}
+
 struct star_answer faulty_table_restore(struct star_table *t, uint32_t row) {
     struct star_answer r = star_table_restore(t, row + (uint32_t)fault("restore-next-row"));
     if (fault("restore-marks") && r.kind == STAR_PASSED) t->mark[row - 1] = 1;

@@ -24,6 +24,9 @@ struct star_answer faulty_table_breaking(const struct star_table *t, uint32_t ro
 struct star_answer faulty_table_digs(const struct star_table *t, uint8_t *text);
 struct star_answer faulty_table_plan_digs(const struct star_table *t, uint8_t *text);
 struct star_answer faulty_table_total(const struct star_table *t);
+struct star_verdict faulty_table_best(const struct star_table *t);
+struct star_answer faulty_table_detours(const struct star_table *t, uint32_t *rows);
+struct star_answer faulty_table_groups(const struct star_table *t, uint8_t *groups, uint8_t *rings);
 struct star_answer faulty_table_paths(const struct star_table *t, uint32_t from, uint64_t *matrix);
 struct star_imported faulty_table_read(struct star_table *t, const char *text, size_t len);
 size_t faulty_table_write(const struct star_table *t, char *text, size_t size);

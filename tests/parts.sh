@@ -42,7 +42,7 @@ controls() { # PROGRAM SOURCE TABLES
 
 # The test of a door, or of the short calls over a table, and how many tables it has.
 declare -A tables=([door]=200000 [work]=50000 [districts]=50000 [mend]=50000 [table]=200000)
-# How many a fault is looked for in: a step of the test of short calls is one of 24 calls.
+# How many a fault is looked for in: a step of the test of short calls is one of 26 calls.
 declare -A controlled=([table]=8000)
 door_test() { # NAME
     add "$build/$1_test" "${tables[$1]:-20000}"

@@ -18,7 +18,7 @@ static struct star_table t, own;
 #define ROWS own.n, IN_USE, COLUMNS
 #define MARK own.mark, 1024
 
-static uint8_t answer[STAR_QUOTE_BYTES];
+static uint8_t answer[STAR_BEST_BYTES];
 static unsigned long lighter, passes, others, packed, mended, refusals;
 
 static int used(size_t row) { return star_in_use(own.in_use, row); }
@@ -126,6 +126,34 @@ static void judge(void) {
     star_work_other(ROWS, MARK, answer, 16);
     others += answer[0] == STAR_PASSED && answer[2] != answer[4];
     tell(same_verdict(star_table_other(&t)) && same_tables(), "other");
+}
+
+/* The answer of star_best has the least total behind its sixteen bytes. */
+static void best(void) {
+    struct star_verdict v = star_table_best(&t);
+    star_work_best(ROWS, MARK, answer, 24);
+    tell(v.only == 0 && same_verdict(v) && same_tables(), "best");
+    if (v.kind) tell(v.least == star_read_answer(answer + 8).amount, "the least total of best");
+}
+
+/* Rows, groups and rings that are lent have a content, which a refusal leaves; behind the last row
+   in use the short calls write 0, as the working doors do. */
+static void explain(void) {
+    static uint32_t rows[STAR_MAX_ROWS], beside[STAR_MAX_ROWS];
+    static uint8_t groups[257], parts[257], rings[STAR_MAX_ROWS], closed[STAR_MAX_ROWS];
+    random_bytes(beside, sizeof beside);
+    random_bytes(parts, sizeof parts);
+    random_bytes(closed, sizeof closed);
+    memcpy(rows, beside, sizeof rows);
+    memcpy(groups, parts, sizeof groups);
+    memcpy(rings, closed, sizeof rings);
+    star_work_detours(ROWS, MARK, rows, STAR_MAX_ROWS, answer, 16);
+    tell(same_answers(star_table_detours(&t, beside)), "detours");
+    tell(!memcmp(rows, beside, sizeof rows) && same_tables(), "the rows beside each row");
+    star_work_groups(ROWS, MARK, groups, own.n, rings, STAR_MAX_ROWS, answer, 16);
+    tell(same_answers(star_table_groups(&t, parts, closed)), "groups");
+    tell(!memcmp(groups, parts, sizeof groups) && same_tables(), "the group of each junction");
+    tell(!memcmp(rings, closed, sizeof rings), "the rings");
 }
 
 static void build(void) {
@@ -350,10 +378,10 @@ static void start(void) {
 }
 
 static void step(unsigned long k) {
-    static void (*const calls[])(void) = {add,       add,   mark,         strike,  merge, judge,
-                                          build,     mend,  outlets,      which,   ask,   write,
-                                          read,      mark,  judge,        mark,    mark,  judge,
-                                          districts, build, read_planner, restore, judge, mark};
+    static void (*const calls[])(void) = {
+        add,       add,   mark,         strike,  merge, judge, build, mend,   outlets,
+        which,     ask,   write,        read,    mark,  judge, mark,  mark,   judge,
+        districts, build, read_planner, restore, judge, mark,  best,  explain};
     unsigned i;
     if (k % 20 == 0) start();
     if (any(200) == 0) t.mark[3] = own.mark[3] = 2;

@@ -8,11 +8,12 @@
 The answers come from the proved core in libstar.so; what is written in Python is not proved.
 """
 from . import _library
-from .answers import (Choice, Districts, Exchange, Mended, Plan, Quote, Refused, Row, Step, Unfit,
-                      Verdict)
+from .answers import (Choice, Detours, Districts, Exchange, Groups, Mended, Plan, Quote, Refused,
+                      Row, Step, Unfit, Verdict)
 from .table import Table
 from .rows import Dropped, Report, Rounded
 
 __version__: str = _library.version().decode()
 __all__ = ["Table", "Refused", "Unfit", "Verdict", "Exchange", "Plan", "Step", "Mended",
-           "Districts", "Quote", "Choice", "Row", "Report", "Dropped", "Rounded"]
+           "Districts", "Quote", "Choice", "Groups", "Detours", "Row", "Report", "Dropped",
+           "Rounded"]

@@ -5,6 +5,7 @@ import sys
 from typing import List
 
 from . import Refused, Table, Unfit, __version__
+from .files import LAYOUT as UNREADABLE
 from .files import content, is_stp, table_of
 
 USAGE = """\
@@ -17,12 +18,31 @@ The status is the console's: 0 passed, 1 a cheaper set exists, 2 refused, 3 the 
 """
 
 
+def trench(table: Table, number: int) -> str:
+    """A row as it is told: with its junctions where they have names."""
+    if all(isinstance(name, int) for name in table.junctions):
+        return "row %d" % number
+    row = next(row for row in table.rows if row.number == number)
+    return "row %d (%s to %s)" % (number, row.left, row.right)
+
+
+def named(table: Table, refusal: Refused) -> str:
+    """A refusal of a plan, with the name of the junction or the row that is its place."""
+    known = [row.number for row in table.rows]
+    if refusal.number == 10 and table.junctions[refusal.place - 1] != refusal.place:
+        return "%s: %s" % (refusal, table.junctions[refusal.place - 1])
+    if refusal.number in (4, 6, 15) and refusal.place in known:
+        told = trench(table, refusal.place)
+        return "%s: %s" % (refusal, told) if told.endswith(")") else str(refusal)
+    return str(refusal)
+
+
 def said(path: str, table: Table) -> int:
     """Prints the verdict, and gives the status."""
     try:
         verdict = table.check()
     except Refused as refusal:
-        print("%s: %s" % (path, refusal))
+        print("%s: %s" % (path, named(table, refusal)))
         return 2
     if verdict.exchange is None or verdict.passed:
         only = "the only one" if verdict.only else "another has the same total"
@@ -30,7 +50,8 @@ def said(path: str, table: Table) -> int:
         return 0
     print("a cheaper set exists: the plan costs %d, the cheapest network %d" % (verdict.total,
                                                                              verdict.least))
-    print("take out row %d, put in row %d: saves %d" % verdict.exchange)
+    out, into, saving = verdict.exchange
+    print("take out %s, put in %s: saves %d" % (trench(table, out), trench(table, into), saving))
     return 1
 
 
@@ -42,7 +63,7 @@ def check(path: str) -> int:
             return failed(3, "%s: an STP file marks no row, so there is no plan to check" % path)
         table = table_of(path, data)
     except Refused as refusal:
-        if refusal.number == 12:
+        if refusal.number in UNREADABLE:
             return failed(3, "%s: %s" % (path, refusal.words))
         print("%s: %s" % (path, refusal))
         return 2

@@ -6,18 +6,22 @@ from ctypes import c_uint, c_uint8, c_uint32, c_uint64, c_void_p
 from typing import Any
 
 MAX_JUNCTIONS, MAX_ROWS, MAX_LIST, MAX_TEXT = 255, 1024, 6370, 32768
-MAX_READ, MAX_STEPS, COLUMN_WORDS = 65536, 2 * MAX_ROWS, 16
+MAX_READ, MAX_FILE, MAX_STEPS, COLUMN_WORDS = 65536, 1 << 24, 2 * MAX_ROWS, 16
 MIN_PRICE, MAX_PRICE = -2**31, 2**31 - 1
 REFUSED, PASSED, LIGHTER = 0, 1, 2
 
 Column = c_uint8 * MAX_ROWS
+Numbers = c_uint32 * MAX_ROWS
+Names = c_uint32 * MAX_JUNCTIONS
+Junctions = c_uint8 * MAX_JUNCTIONS
+Answer = c_uint8 * 16
 
 
 class CTable(Structure):
     """struct star_table"""
     _fields_ = [("n", c_uint32), ("in_use", c_uint64 * COLUMN_WORDS), ("left", Column),
                 ("right", Column), ("weight", c_uint8 * (4 * MAX_ROWS)), ("mark", Column),
-                ("numbers", c_uint32 * MAX_ROWS)]
+                ("numbers", Numbers)]
 
 
 class CVerdict(Structure):
@@ -43,6 +47,12 @@ class CImported(Structure):
     """struct star_imported"""
     _fields_ = [("kind", c_uint), ("number", c_uint), ("n", c_uint), ("m", c_uint),
                 ("place", c_uint64)]
+
+
+class CFile(Structure):
+    """struct star_file"""
+    _fields_ = [("kind", c_uint), ("number", c_uint), ("names", c_uint), ("m", c_uint),
+                ("n", c_uint32), ("place", c_uint32)]
 
 
 class CRecord(Structure):
@@ -102,6 +112,13 @@ breaking = _function("table_breaking", CAnswer, _table, c_uint32)
 digs = _function("table_digs", CAnswer, _table, c_void_p)
 plan_digs = _function("table_plan_digs", CAnswer, _table, c_void_p)
 total = _function("table_total", CAnswer, _table)
+best = _function("table_best", CVerdict, _table)
+detours = _function("table_detours", CAnswer, _table, c_void_p)
+groups = _function("table_groups", CAnswer, _table, c_void_p, c_void_p)
 paths = _function("table_paths", CAnswer, _table, c_uint32, c_void_p)
 read = _function("table_read", CImported, _table, c_char_p, c_size_t)
 write = _function("table_write", c_size_t, _table, c_void_p, c_size_t)
+# The reader of table files: the text, then each column with its length, then the answer.
+read_table = _function("read_table", c_uint32, c_char_p, c_size_t, *9 * (c_void_p, c_size_t))
+read_file = _function("read_file", CFile, c_void_p)
+line_of = _function("line_of", c_uint64, c_char_p, c_size_t, c_uint32)

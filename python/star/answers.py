@@ -1,6 +1,6 @@
 """What is answered: small classes that do not change, and the exception of a refusal."""
 from itertools import compress
-from typing import Any, NamedTuple, Optional, Tuple, Type
+from typing import Any, Hashable, NamedTuple, Optional, Tuple, Type
 
 from . import _library
 
@@ -47,7 +47,8 @@ class Exchange(NamedTuple):
 
 
 class Verdict(NamedTuple):
-    """What is said of a plan. It counts as true where the plan passes."""
+    """What is said of a plan. It counts as true where the plan passes. only is None where it was not
+    asked."""
     passed: bool
     total: int
     least: int
@@ -133,6 +134,27 @@ class Quote(NamedTuple):
     def change(self) -> int:
         """What the new price changes."""
         return self.after - self.before
+
+
+class Groups(NamedTuple):
+    """What the marked rows join: the junctions of each group, the one with the smallest junction
+    first, and the marked rows that close a ring."""
+    groups: Tuple[Tuple[Hashable, ...], ...]
+    rings: Tuple[int, ...]
+
+    @property
+    def network(self) -> bool:
+        """Whether the marked rows are a network: one group, and no ring."""
+        return len(self.groups) == 1 and not self.rings
+
+
+class Detours(NamedTuple):
+    """The best exchange of each row, as pairs: beside each unmarked row the dearest row of the way
+    between its ends along the plan, beside each marked row the cheapest that could take its place,
+    None where there is none; and the plan's total."""
+    total: int
+    dearest: Tuple[Tuple[int, int], ...]
+    instead: Tuple[Tuple[int, Optional[int]], ...]
 
 
 class Choice(NamedTuple):

@@ -48,6 +48,12 @@ class Content:
             raise ValueError("two junctions have one name")
         return len(self._names)
 
+    def _take_names(self, names: List[str]) -> None:
+        """Names of the first junctions; those that have none are named by their numbers."""
+        rest = range(len(names) + 1, self.n + 1)
+        self._names = (*names, *rest)
+        self._numbers = {name: k for k, name in enumerate(self._names, 1)}
+
     def _fill(self, rows: List[Sequence[Any]]) -> None:
         m = len(rows)
         if m > lib.MAX_ROWS:
@@ -91,7 +97,7 @@ class Content:
     @property
     def junctions(self) -> Tuple[Hashable, ...]:
         """The names of the junctions, or their numbers."""
-        return self._names if self._names is not None else tuple(range(1, self.n + 1))
+        return self._names[:self.n] if self._names is not None else tuple(range(1, self.n + 1))
 
     @property
     def places(self) -> Dict[Hashable, Tuple[float, ...]]:

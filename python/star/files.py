@@ -1,4 +1,5 @@
-"""Tables from and to files: the planner's table and STP texts by the library, CSV, GeoJSON."""
+"""Tables from and to files: the planner's table and STP texts by the core's readers, CSV,
+GeoJSON."""
 import ctypes
 import os
 import re
@@ -16,6 +17,7 @@ Path = Union[str, "os.PathLike[str]"]
 _READERS: Dict[str, Callable[..., Table]] = {
     ".csv": from_csv, ".tsv": from_csv, ".geojson": from_geojson, ".json": from_geojson}
 _MOST = 1 << 28  # the bytes of a CSV or GeoJSON file; courses of streets are long
+LAYOUT = {12, *range(20, 27)}  # the refusals of a text whose lines cannot stand
 _WRITERS = {".csv": to_csv, ".geojson": to_geojson, ".json": to_geojson}
 
 
@@ -23,29 +25,72 @@ def _suffix(path: Path) -> str:
     return os.path.splitext(os.fspath(path))[1].lower()
 
 
-def _layout(data: bytes, place: int) -> str:
-    """What a text that is refused 12 is told, with the line that cannot stand."""
-    if len(data) > lib.MAX_READ:
-        return "the text is longer than %d bytes" % lib.MAX_READ
-    count = data[:place].count(b"\n") + 1
-    line = data.split(b"\n", count)[count - 1].decode(errors="backslashreplace").rstrip("\r")
-    return "the text breaks the layout of its kind of file at line %d: %.60r" % (count, line)
+def _line(data: bytes, place: int) -> str:
+    """The line of a place in a text, as it is told."""
+    count = lib.line_of(data, len(data), place)
+    lines = re.split(rb"\r\n|\r|\n", data[:place + 1000])
+    line = lines[min(count, len(lines)) - 1].decode(errors="backslashreplace")
+    return "line %d: %.60r" % (count, line)
+
+
+def _refused(number: int, place: int, data: bytes, most: int) -> Refused:
+    """The refusal of a text, with the line that cannot stand."""
+    if number not in LAYOUT and not (number == 2 and place):
+        return Refused(number, place)
+    if len(data) > most:
+        return Refused(number, place, "the text is longer than %d bytes" % most)
+    if number == 12:
+        words = "the text breaks the layout of its kind of file"
+    else:
+        words = lib.refusal_text(number).decode()
+    return Refused(number, place, "%s; %s" % (words, _line(data, place)))
+
+
+def bytes_of(text: Union[str, bytes]) -> bytes:
+    if not isinstance(text, (str, bytes, bytearray, memoryview)):
+        raise TypeError("a table's text is str or bytes, not %r" % (text,))
+    if not isinstance(text, str):
+        return bytes(text)
+    try:
+        return text.encode("utf-8", "surrogateescape")
+    except UnicodeEncodeError:
+        return text.encode("utf-8", "surrogatepass")
 
 
 def from_text(text: Union[str, bytes]) -> Table:
-    """A table from the text of a planner's table or of an STP file.
+    """A table from the text of a planner's table or of an STP file. Names of junctions are kept.
 
     >>> Table.from_text("1 2 5 1\\n2 3 4 0\\n").plan
     (1,)
+    >>> Table.from_text("mill lock 5\\nlock bridge 7\\n").junctions
+    ('mill', 'lock', 'bridge')
     """
-    if not isinstance(text, (str, bytes, bytearray, memoryview)):
-        raise TypeError("a table's text is str or bytes, not %r" % (text,))
-    data = text.encode("utf-8", "surrogatepass") if isinstance(text, str) else bytes(text)
+    data = bytes_of(text)
+    if not is_stp(data):
+        return from_table(data)
     table = Table(1)
     i = lib.read(table._at, data, len(data))
     if i.kind == lib.REFUSED:
-        raise Refused(i.number, i.place, _layout(data, i.place) if i.number == 12 else "")
-    check_junctions(i.n)
+        raise _refused(i.number, i.place, data, lib.MAX_READ)
+    return table
+
+
+def from_table(data: bytes) -> Table:
+    """A table from the text of a planner's table, by the core's reader."""
+    table = Table(1)
+    begun, ended, places, answer = lib.Names(), lib.Names(), lib.Numbers(), lib.Answer()
+    t, columns = table._t, []
+    for column in (t.in_use, t.left, t.right, t.weight, t.mark, begun, ended, places):
+        columns += [column, len(column)]
+    lib.read_table(data, len(data), *columns, answer, len(answer))
+    found = lib.read_file(answer)
+    if found.kind == lib.REFUSED:
+        raise _refused(found.number, found.place, data, lib.MAX_FILE)
+    check_junctions(found.n)
+    t.n = found.n
+    if found.names:
+        table._take_names([data[begun[k]:ended[k]].decode("utf-8", "surrogateescape")
+                           for k in range(found.names)])
     return table
 
 
@@ -70,7 +115,7 @@ def to_text(table: Content) -> str:
 
 def content(path: Path) -> bytes:
     """The bytes of a file, no more than are taken."""
-    most = _MOST if _suffix(path) in _READERS else lib.MAX_READ
+    most = _MOST if _suffix(path) in _READERS else lib.MAX_FILE
     with open(path, "rb") as file:
         return file.read(most + 1)
 
@@ -99,5 +144,5 @@ def read(path: Path, **how: Any) -> Table:
 def write(table: Content, path: Path) -> None:
     """Writes the table to a file: CSV or GeoJSON by the name, else the planner's table."""
     writer = _WRITERS.get(_suffix(path), to_text)
-    with open(path, "w", encoding="utf-8", newline="") as file:
+    with open(path, "w", encoding="utf-8", errors="surrogateescape", newline="") as file:
         file.write(writer(table))

@@ -1,11 +1,12 @@
 """Tables from and to graphs of networkx, frames of pandas, and CSV."""
 import csv
 import io
-from typing import Any, List, Tuple
+import re
+from typing import Any, List, Optional, Tuple
 
-from .answers import Unfit
+from .answers import Refused, Unfit
 from .content import Content
-from .rows import from_rows, number
+from .rows import Report, from_rows, number
 from .table import Table
 
 
@@ -63,6 +64,7 @@ def to_pandas(table: Content) -> Any:
     return pandas.DataFrame(columns, index=[row.number for row in table.rows])
 
 
+_HEADER = ["left", "right", "price", "marked"]
 _MARKS = {"": False, "0": False, "no": False, "false": False,
           "1": True, "x": True, "yes": True, "true": True}
 
@@ -89,14 +91,33 @@ def _csv_rows(text: str) -> List[Tuple[str, str, str, bool]]:
     return rows
 
 
+def _by_the_core(text: str) -> Optional[Table]:
+    """The table of a CSV text that is a planner's table; None where it is none."""
+    from .files import bytes_of, from_table
+    header = [word.strip().lower() for word in re.split("[,;\t]", text.split("\n", 1)[0])]
+    if "price" in header and header not in (_HEADER, _HEADER[:3]):
+        return None
+    try:
+        table = from_table(bytes_of(text))
+    except Refused:
+        return None
+    table.report = Report((), ())
+    return table
+
+
 def from_csv(text: str, **how: Any) -> Table:
     """A table from CSV text: a header with left, right and price, and marked if there are marks,
     fields parted by commas, semicolons or tabs. Junctions that are all numbers from 1 to 255 are
-    taken as these numbers, else as names.
+    taken as these numbers, else as names. What the core's reader of table files takes, it reads;
+    what CSV has and a table file has not, such as decimals with a unit, other columns and quoted
+    separators, is read here.
 
     >>> Table.from_csv("left,right,price\\nmill,lock,7\\n").junctions
     ('mill', 'lock')
     """
+    table = None if how else _by_the_core(text)
+    if table is not None:
+        return table
     try:
         rows = _csv_rows(text)
     except csv.Error as fault:
@@ -114,7 +135,7 @@ def to_csv(table: Content) -> str:
     """CSV text: the rows in use, with a header."""
     out = io.StringIO()
     writer = csv.writer(out, lineterminator="\n")
-    writer.writerow(["left", "right", "price", "marked"])
+    writer.writerow(_HEADER)
     for row, price in zip(table.rows, prices(table)):
         writer.writerow([row.left, row.right, price, int(row.marked)])
     return out.getvalue()

@@ -3,7 +3,7 @@ import ctypes
 from typing import Any, Dict, Hashable, Iterable, List, Optional, Tuple
 
 from . import _library as lib
-from .answers import Choice, Exchange, Quote, Refused, Verdict
+from .answers import Choice, Detours, Exchange, Groups, Quote, Refused, Verdict, rows_of
 from .columns import bits, marks_of, price_of, word
 from .content import Content
 
@@ -30,6 +30,59 @@ class Questions(Content):
         """
         with self._lock:
             return _verdict(lib.other(self._at))
+
+    def best(self) -> Verdict:
+        """As check, with the exchange of two rows that saves most; least is what the plan could come
+        down to by any change. Whether it is the only one is not asked.
+
+        >>> yard = Table(4, [(1, 2, 5, 1), (2, 3, 3, 1), (3, 4, 5), (1, 4, 4), (1, 3, 6, 1)])
+        >>> yard.strike(5); yard.plan = 1, 2, 3; yard.best().exchange
+        Exchange(out=1, into=4, saving=1)
+        """
+        with self._lock:
+            v = lib.best(self._at)
+        if v.kind == lib.REFUSED:
+            raise Refused(v.number, v.place)
+        exchange = None if v.kind == lib.PASSED else Exchange(v.out, v.into, v.saving)
+        return Verdict(exchange is None, v.total, v.least, None, exchange)
+
+    def detours(self) -> Detours:
+        """Beside each row the row it is best exchanged with: beside an unmarked row the dearest of
+        its detour along the plan, beside a marked row the cheapest that could take its place. The
+        plan is least exactly where no unmarked row is cheaper than the row beside it.
+
+        >>> yard = Table(4, [(1, 2, 5, 1), (2, 3, 3, 1), (3, 4, 5, 1), (1, 4, 4), (1, 3, 6)])
+        >>> yard.detours()
+        Detours(total=13, dearest=((4, 1), (5, 1)), instead=((1, 4), (2, 4), (3, 4)))
+        """
+        numbers = lib.Numbers()
+        with self._lock:
+            a = lib.detours(self._at, numbers)
+            if a.kind == lib.REFUSED:
+                raise Refused(a.number, a.out)
+            used, marks = self._used(), bytes(self._t.mark)
+        beside = numbers[:used[-1]] if used else []
+        dearest = tuple([(row, beside[row - 1]) for row in used if not marks[row - 1]])
+        instead = tuple([(row, beside[row - 1] or None) for row in used if marks[row - 1]])
+        return Detours(a.amount, dearest, instead)
+
+    def groups(self) -> Groups:
+        """The groups of junctions that the marked rows join, whatever is marked, and the marked rows
+        that close a ring.
+
+        >>> yard = Table(4, [(1, 2, 5, 1), (2, 3, 3, 1), (3, 4, 5), (1, 4, 4), (1, 3, 6, 1)])
+        >>> yard.groups()
+        Groups(groups=((1, 2, 3), (4,)), rings=(1, 2, 5))
+        """
+        first, rings = lib.Junctions(), lib.Column()
+        with self._lock:
+            a = lib.groups(self._at, first, rings)
+        if a.kind == lib.REFUSED:
+            raise Refused(a.number, a.out)
+        joined: Dict[int, List[Hashable]] = {}
+        for number, least in enumerate(first[:self.n], 1):
+            joined.setdefault(least, []).append(self._name(number))
+        return Groups(tuple(map(tuple, joined.values())), rows_of(bytes(rings)))
 
     def which(self, first: Iterable[int], second: Iterable[int]) -> Choice:
         """Which of two plans, given by their rows, costs less: 1, also where they cost the same, or

@@ -9,8 +9,8 @@ from hypothesis import strategies as st
 import star
 from cases import PRICES, all_trees, graph, least, marked, rows, total
 
-# The cases of each test: a twelfth of all.
-EACH = max(1, int(os.environ.get("CASES", "2000")) // 12)
+# The cases of each test: a sixteenth of all.
+EACH = max(1, int(os.environ.get("CASES", "2000")) // 16)
 tried = settings(max_examples=EACH, deadline=None, database=None, derandomize=True,
                  phases=[Phase.explicit, Phase.generate],
                  suppress_health_check=list(HealthCheck))
@@ -199,25 +199,104 @@ class AgainstNetworkx(unittest.TestCase):
             self.assertEqual(total(table, forest), wanted)
 
     @tried
+    @given(marked())
+    def test_groups(self, case):
+        n, table, plan = case
+        t = star.Table(["j%d" % k for k in range(1, n + 1)],
+                       [("j%d" % u, "j%d" % v, price) for u, v, price in table])
+        t.plan = plan
+        found, marked_rows = t.groups(), self.planned(n, table, plan)
+        parts = sorted(sorted(part) for part in nx.connected_components(marked_rows))
+        self.assertEqual([[int(name[1:]) for name in part] for part in found.groups], parts)
+        bridges = {frozenset(e) for e in nx.bridges(marked_rows)}
+        self.assertEqual(found.rings, tuple(k for k in plan
+                                            if frozenset(table[k - 1][:2]) not in bridges))
+        self.assertEqual(found.network, nx.is_tree(marked_rows))
+
+    @tried
+    @given(marked())
+    def test_detours(self, case):
+        n, table, plan = case
+        t = star.Table(n, table)
+        t.plan = plan
+        if plan not in all_trees(n, table):
+            self.assertEqual(refusal(t.detours), 9 if len(plan) != n - 1 else 10)
+            return
+        found, tree = t.detours(), self.planned(n, table, plan)
+        ends = {frozenset(table[k - 1][:2]): k for k in plan}
+        way = {k: self.way(tree, ends, *row[:2]) for k, row in enumerate(table, 1) if k not in plan}
+        dearest = {k: max(on, key=lambda r: (table[r - 1][2], -r)) for k, on in way.items()}
+        instead = {k: min((r for r in way if k in way[r]), default=None,
+                          key=lambda r: (table[r - 1][2], r)) for k in plan}
+        self.assertEqual((found.total, dict(found.dearest), dict(found.instead)),
+                         (total(table, plan), dearest, instead))
+
+    def way(self, tree, ends, u, v):
+        """The rows of a tree between two junctions."""
+        met = nx.shortest_path(tree, u, v)
+        return {ends[frozenset(pair)] for pair in zip(met, met[1:])}
+
+    @tried
+    @given(marked())
+    def test_best(self, case):
+        n, table, plan = case
+        t, trees = star.Table(n, table), all_trees(n, table)
+        t.plan = plan
+        if plan not in trees:
+            self.assertEqual(refusal(t.best), 9 if len(plan) != n - 1 else 10)
+            return
+        now = total(table, plan)
+        saved = {tree: now - total(table, tree) for tree in trees
+                 if len(set(plan) - set(tree)) == 1}
+        most, found = max(saved.values(), default=0), t.best()
+        self.assertEqual((found.total, found.least, found.only), (now, least(n, table), None))
+        self.assertEqual((found.passed, found.exchange is None), (most <= 0, most <= 0))
+        if found.exchange:
+            self.exchanged(table, plan, trees, found.exchange, now)
+            self.assertEqual(found.exchange.saving, most)
+            first = min((set(tree) - set(plan)).pop() for tree in saved if saved[tree] == most)
+            self.assertEqual(found.exchange.into, first)
+
+    @tried
+    @given(marked())
+    def test_total_and_digs(self, case):
+        n, table, plan = case
+        t = star.Table(n, table)
+        t.plan = plan
+        self.assertEqual(t.total(), total(table, plan))
+        if plan not in all_trees(n, table):
+            self.assertEqual(refusal(t.digs, True), 9 if len(plan) != n - 1 else 10)
+            return
+        lines = ["%d %d %d %d\n" % (k, *table[k - 1]) for k in plan]
+        self.assertEqual(t.digs(plan=True), "".join(lines) + "Total %d\n" % total(table, plan))
+
+    @tried
     @given(rows(), st.lists(st.tuples(st.integers(0, 12), st.integers(0, 7), st.integers(0, 7),
                                       PRICES), max_size=12))
     def test_changes(self, case, changes):
         n, table = case
         t = star.Table(n, table)
-        model = {k: row for k, row in enumerate(table, 1)}
+        model, struck = {k: row for k, row in enumerate(table, 1)}, {}
         for row, u, v, price in changes:
             if row == 0:
                 moved = t.merge()
                 self.assertEqual(list(moved), sorted(model))
                 model = {k: model[old] for k, old in enumerate(sorted(model), 1)}
+                struck = {}
             elif row % 2 and row in model:
                 t.strike(row)
-                del model[row]
+                struck[row] = model.pop(row)
+                self.assertEqual(refusal(t.strike, row), 18)
+            elif row % 2 and row in struck:
+                t.restore(row)
+                model[row] = struck.pop(row)
+                self.assertEqual((refusal(t.restore, row), row in t.plan), (27, False))
             elif row % 2:
                 self.assertEqual(refusal(t.strike, row), 18)
             else:
                 model[max(model, default=0) + 1] = (u, v, price)
                 self.assertEqual(t.add(u, v, price), max(model))
+                struck.pop(max(model), None)
         self.assertEqual({r.number: (r.left, r.right, r.price) for r in t.rows}, model)
 
     @tried

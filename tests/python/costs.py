@@ -31,6 +31,7 @@ def methods():
     at, words = t._at, struct.pack("=2I", 2, 1024)
     plans = [bytes([1, 1, 1, 0]) + bytes(1020), bytes([1, 1, 0, 1]) + bytes(1020)]
     matrix, records, forests = (ctypes.c_uint64 * 64)(), lib.Records(), lib.Column()
+    numbers, first, rings = lib.Numbers(), lib.Junctions(), lib.Column()
     text = ctypes.create_string_buffer(lib.MAX_LIST)
     table = ctypes.create_string_buffer(lib.MAX_TEXT)
     return {
@@ -40,13 +41,20 @@ def methods():
         "path": (lambda: t.path(1, 3), lambda: lib.paths(at, 1, matrix)),
         "quote": (lambda: t.quote(4, 9), lambda: lib.quote(at, 4, 9)),
         "breaking": (lambda: t.breaking(4), lambda: lib.breaking(at, 4)),
+        "total": (t.total, lambda: lib.total(at)),
+        "best": (t.best, lambda: lib.best(at)),
+        "detours": (t.detours, lambda: lib.detours(at, numbers)),
+        "groups": (t.groups, lambda: lib.groups(at, first, rings)),
         "digs": (t.digs, lambda: lib.digs(at, text)),
+        "digs(plan)": (lambda: t.digs(plan=True), lambda: lib.plan_digs(at, text)),
         "build": (t.build, lambda: lib.build(at)),
         "mend": (t.mend, lambda: lib.mend(at, records)),
         "outlets": (lambda: t.outlets(1, 2), lambda: lib.outlets(at, 1, 2)),
         "districts": (lambda: t.districts([2, 5]), lambda: lib.districts(at, words, 2, forests)),
         "add, strike": (lambda: t.strike(t.add(2, 4, 9)),
                         lambda: (lib.add(at, 2, 4, 9), lib.strike(at, 6))),
+        "strike, restore": (lambda: (t.strike(5), t.restore(5)),
+                            lambda: (lib.strike(at, 5), lib.restore(at, 5))),
         "merge": (t.merge, lambda: lib.merge(at)),
         "mark": (lambda: t.mark(1), lambda: lib.mark(at, 1, 1)),
         "plan": (lambda: t.plan, None),
@@ -91,4 +99,4 @@ class Costs(unittest.TestCase):
 if __name__ == "__main__":
     for name in methods():
         cost, nothing = beside(name)
-        print("%-12s %5.1f calls %6.2f microseconds" % (name, cost / nothing, cost * 1e6))
+        print("%-15s %5.1f calls %6.2f microseconds" % (name, cost / nothing, cost * 1e6))

@@ -8,6 +8,7 @@ from operator import index
 import star
 from star import (_library, answers, changes, columns, content, files, formats, geojson, plans,
                   questions, rows)
+from star import __main__ as main
 
 own = {}
 
@@ -38,6 +39,54 @@ def totals_swapped(v):
 class Swapped(answers.Quote):
     def __new__(cls, before, after):
         return answers.Quote.__new__(cls, after, before)
+
+
+class NoRings(answers.Groups):
+    def __new__(cls, groups, rings):
+        return answers.Groups.__new__(cls, groups, ())
+
+
+class OneGroup(answers.Groups):
+    def __new__(cls, groups, rings):
+        return answers.Groups.__new__(cls, (sum(groups, ()),), rings)
+
+
+class DetoursTurned(answers.Detours):
+    def __new__(cls, total, dearest, instead):
+        return answers.Detours.__new__(cls, total, instead, dearest)
+
+
+def best_as_check(self):
+    return self.check()
+
+
+def total_of_the_least(self):
+    return self.copy().build().total
+
+
+def digs_of_the_least(self, plan=False):
+    return kept(questions.Questions, "digs")(self)
+
+
+def restored_marked(self, row):
+    kept(changes.Changes, "restore")(self, row)
+    self.mark(row)
+
+
+def names_lost(self, names):
+    self._names = None
+
+
+def rows_without_names(table, number):
+    return "row %d" % number
+
+
+def line_as_place(data, place):
+    return "line %d" % place
+
+
+def csv_by_python(text):
+    return None
 
 
 def refused_without_place(number, place=0, words=""):
@@ -105,6 +154,18 @@ FAULTS = {
     "walk-not-ordered": (questions.Questions, "_walked",
                          lambda self, found, at: tuple(sorted(found)), NETWORKX + "test_path"),
     "marks-of-which": (questions, "marks_of", lambda chosen: bytes(1024), NETWORKX + "test_which"),
+    "rings-lost": (questions, "Groups", NoRings, NETWORKX + "test_groups"),
+    "one-group": (questions, "Groups", OneGroup, NETWORKX + "test_groups"),
+    "detours-turned": (questions, "Detours", DetoursTurned, NETWORKX + "test_detours"),
+    "best-as-check": (questions.Questions, "best", best_as_check, NETWORKX + "test_best"),
+    "total-of-the-least": (questions.Questions, "total", total_of_the_least,
+                           NETWORKX + "test_total_and_digs"),
+    "digs-of-the-least": (questions.Questions, "digs", digs_of_the_least,
+                          NETWORKX + "test_total_and_digs"),
+    "restored-marked": (changes.Changes, "restore", restored_marked, NETWORKX + "test_changes"),
+    "names-lost": (content.Content, "_take_names", names_lost, PACKAGE + "Forms.test_named_tables"),
+    "rows-without-names": (main, "trench", rows_without_names, PACKAGE + "Forms.test_command"),
+    "csv-by-python": (formats, "_by_the_core", csv_by_python, PACKAGE + "Forms.test_csv"),
     "merge-forgets": (changes.Changes, "merge", lambda self: {}, NETWORKX + "test_changes"),
     "names-as-text": (formats, "to_networkx", names_as_text, NETWORKX + "test_round_trips"),
     "place-lacking": (plans, "Refused", refused_without_place,
@@ -128,7 +189,7 @@ FAULTS = {
     "some-changed": (content.Content, "_in_use", all_in_use,
                      WRONG + "Types.test_refused_before_anything_is_changed"),
     "any-point": (geojson, "_point", tuple, WRONG + "Types.test_texts_that_are_none"),
-    "line-lost": (files, "_layout", lambda data, place: "", PACKAGE + "Forms.test_files"),
+    "line-lost": (files, "_line", line_as_place, PACKAGE + "Forms.test_files"),
     "not-locked": (questions.Questions, "check", unlocked_check,
                    WRONG + "Threads.test_every_call_holds_the_lock"),
     "slow": (content, "rows_of", slow_rows, "costs.Costs.test_every_method"),

@@ -1,7 +1,9 @@
 """The package by itself: examples, forms, refusals, limits, and the lines of docs/PYTHON.md."""
+import contextlib
 import doctest
 import glob
 import importlib
+import io
 import json
 import os
 import pickle
@@ -13,6 +15,7 @@ import unittest
 from decimal import Decimal
 
 import star
+from star import __main__ as command
 
 HERE = os.path.dirname(os.path.abspath(__file__))
 DOCS = os.path.join(HERE, "..", "..", "docs", "PYTHON.md")
@@ -75,9 +78,15 @@ class Refusals(unittest.TestCase):
         many = self.refused(1, 0, star.Table, range(300))
         self.assertIn("300 junctions", many.words)
         self.assertIn("districts", many.words)
-        for text in ("", "junctions 0\n", "junctions 256\n", "junctions 4294967295\n", "1 300 5\n"):
+        for text in ("", "junctions 0\n", "junctions 256\n", "junctions 4294967295\n"):
             self.refused(1, 0, star.Table.from_text, text)
-        self.refused(2, 0, star.Table.from_text, "1 2 5\n" * 1025)
+        self.refused(2, 6 * 1024, star.Table.from_text, "1 2 5\n" * 1025)
+        for number, place, text in ((20, 6, "1 2 5\n1 2\n"), (21, 2, "1 300 5\n"), (22, 4, "1 2 x"),
+                                    (23, 6, "1 2 5 50"), (24, 6, "1 2 5\njunctions x\n"),
+                                    (25, 8, "1 2 5\n1 mill 3\n"), (12, 1 << 24, "#" * (1 << 25))):
+            self.refused(number, place, star.Table.from_text, text)
+        self.refused(26, 12 * 127 + 5, star.Table.from_text,
+                     "".join("a%03d b%03d 5\n" % (k, k) for k in range(128)))
         self.refused(2, 0, star.Table, 4, YARD * 300)
         self.refused(4, 3, star.Table(3, YARD[:2] + [(3, 4, 1)]).build)
         self.refused(4, 2, star.Table(3, [(1, 2, 1), (300, 2, 1)]).build)
@@ -91,6 +100,12 @@ class Refusals(unittest.TestCase):
         self.refused(7, 0, star.Table(4, YARD).quote, 6, 1)
         self.refused(14, 0, star.Table(4, YARD).districts, [2, 4])
         self.refused(18, 0, star.Table(4, YARD).strike, 6)
+        self.refused(27, 0, star.Table(4, YARD).restore, 5)
+        self.refused(9, 0, star.Table(4, YARD).detours)
+        self.refused(10, 4, ring.best)
+        self.refused(10, 4, ring.digs, True)
+        self.refused(15, 2, star.Table(2, [(1, 2, 5), (2, 1, 3)]).groups)
+        self.refused(4, 1, star.Table(2, [(1, 1, 5)]).total)
         self.refused(19, 0, star.Table(4, YARD).outlets, 1, 4)
 
     def test_numbers_that_words_do_not_hold(self):
@@ -152,7 +167,8 @@ class Forms(unittest.TestCase):
     def test_answers_do_not_change(self):
         t = star.Table(4, YARD)
         which = t.which([1, 2, 4], [1, 2, 3])
-        for answer in (t.build(), t.check(), t.mend(), t.quote(1, 2), which):
+        for answer in (t.build(), t.check(), t.mend(), t.quote(1, 2), which, t.groups(),
+                       t.detours(), t.best()):
             self.assertRaises(AttributeError, setattr, answer, "total", 1)
             self.assertEqual(pickle.loads(pickle.dumps(answer)), answer)
 
@@ -197,6 +213,11 @@ class Forms(unittest.TestCase):
         numbered = star.Table(4, YARD)
         numbered.build()
         self.assertEqual(star.Table.from_csv(numbered.to_csv()), numbered)
+        by_the_core = star.Table.from_csv("# streets\nmill;lock;7;yes\nstruck;lock;quay;3\n")
+        self.assertEqual((by_the_core.junctions, by_the_core.plan, len(by_the_core)),
+                         (("mill", "lock", "quay"), (1,), 1))
+        other = star.Table.from_csv("left,right,price,length\n1001,1002,7,1\n")
+        self.assertEqual((other.junctions, other.plan), (("1001", "1002"), ()))
         for wrong in ("left,right\n1,2\n", "left,right,price\n1,2\n", "left,right,price\n1,2,3,4\n",
                       "left,right,price,marked\n1,2,3,maybe\n", "left,right,price\n1,2,3.5\n"):
             self.assertRaises(star.Unfit, star.Table.from_csv, wrong)
@@ -256,10 +277,31 @@ class Forms(unittest.TestCase):
             self.assertEqual(star.Table.read(path, unit="0.01"), streets)
         stp = star.Table.read(os.path.join(HERE, "..", "..", "console", "examples", "street.stp"))
         self.assertEqual((stp.plan, stp.n > 1), ((), True))
+        for text, place, told in ((b"1 2 5\n# a comment\n1 2\n", 18, "line 3: '1 2'"),
+                                  (b"1 2 5\r2 3 4\r\n1 2\r", 13, "line 3: '1 2'"),
+                                  (b"\xef\xbb\xbf1 2\n", 3, "line 1: "),
+                                  (b"1 2 5\n\xff 2", 6, "line 2: '\\\\xff 2'")):
+            with self.assertRaises(star.Refused) as caught:
+                star.Table.from_text(text)
+            self.assertEqual(caught.exception.place, place)
+            self.assertIn(told, str(caught.exception))
+
+    def test_named_tables(self):
+        text = "mill;\"lock gate\";5;x\nlock gate;quay;3\nstruck;quay;mill;9\njunctions 5\n"
+        t = star.Table.from_text(text)
+        self.assertEqual(t.junctions, ("mill", "lock gate", "quay", 4, 5))
+        self.assertEqual([tuple(row) for row in t.rows],
+                         [(1, "mill", "lock gate", 5, True), (2, "lock gate", "quay", 3, False)])
+        t.restore(3)
+        self.assertEqual((t.rows[2].right, t.add("quay", 4, 2), t.n), ("mill", 4, 5))
+        self.assertEqual(t.groups().groups, (("mill", "lock gate"), ("quay",), (4,), (5,)))
+        raw = star.Table.from_text(b"a\xff b 5\n")
+        self.assertEqual(raw.junctions, ("a\udcff", "b"))
+        few = star.Table.from_text("a b 5\nb c 5\njunctions 2\n")
+        self.assertEqual(few.junctions, ("a", "b"))
         with self.assertRaises(star.Refused) as caught:
-            star.Table.from_text("1 2 5\n# a comment\n1 2\n")
-        self.assertEqual((caught.exception.number, caught.exception.place), (12, 18))
-        self.assertIn("line 3", str(caught.exception))
+            few.build()
+        self.assertEqual((caught.exception.number, caught.exception.place), (4, 2))
 
     def test_picture(self):
         t = star.Table(["<a>", "b", "c"], [("<a>", "b", 5, True), ("b", "c", 7)])
@@ -280,6 +322,24 @@ class Forms(unittest.TestCase):
             self.assertIn(said, ran.stdout + ran.stderr)
         ran = subprocess.run([sys.executable, "-B", "-m", "star"], capture_output=True)
         self.assertEqual(ran.returncode, 4)
+        for text, told in (("mill quay 5 1\nquay lock 3 1\nlock mill 4\n",
+                            "take out row 1 (mill to quay), put in row 3 (lock to mill): saves 1"),
+                           ("mill quay 5 1\nquay lock 3\n", "refused 9: "),
+                           ("mill quay 5 1\nlock pier 3 1\nmill lock 2\nquay mill 7 1\n",
+                            "earlier row: row 4 (quay to mill)"),
+                           ("mill quay 5 1\nlock pier 3 1\nmill lock 2\nquay lock 7\n"
+                            "pier dock 1 1\nlock dock 1 1\n", "junctions: lock")):
+            self.assertIn(told, self.checked(text))
+
+    def checked(self, text):
+        """What the command prints of a file."""
+        with tempfile.TemporaryDirectory() as folder:
+            path, said = os.path.join(folder, "table.txt"), io.StringIO()
+            with open(path, "w") as file:
+                file.write(text)
+            with contextlib.redirect_stdout(said):
+                command.main(["check", path])
+        return said.getvalue()
 
     def test_threads(self):
         found = []

@@ -55,7 +55,7 @@ class Types(unittest.TestCase):
             self.says("row 2: a price " + told, TypeError, star.Table, 4, [YARD[0], (2, 3, wrong)])
             self.says("a junction " + told, TypeError, t.path, wrong, 1)
             self.says("row 1: a junction " + told, TypeError, star.Table, 4, [(1, wrong, 5)])
-            for call in (t.breaking, t.strike, t.mark, lambda w: t.quote(w, 1),
+            for call in (t.breaking, t.strike, t.mark, t.restore, lambda w: t.quote(w, 1),
                          lambda w: t.districts([w]), lambda w: t.which([w], [1]),
                          lambda w: setattr(t, "plan", [w])):
                 self.says("a row " + told, TypeError, call, wrong)
@@ -172,13 +172,14 @@ class CommandLine(unittest.TestCase):
             file("deep.json", b"[" * 100000)
             file("words.txt", b"1 2 5 1\n2 three 4 0\n")
             file("rows.txt", b"1 2 5 1\n" * 1025)
-            file("bytes.txt", b"#" * 70000)
+            file("bytes.txt", b"#" * ((1 << 24) + 1))
             for name, status, told in (
                     ("none.txt", 3, "none.txt: No such file"), (".", 3, "Is a directory"),
-                    ("binary", 3, "longer than 65536 bytes"), ("binary.csv", 3, "UTF-8"),
+                    ("binary", 3, "a line is not a trench: two junctions, a price, and a mark or none; line 1"),
+                    ("binary.csv", 3, "UTF-8"),
                     ("binary.geojson", 3, "UTF-8"), ("price.csv", 3, "row 1: the price 2.5 is not"),
                     ("deep.json", 3, "deep"), ("words.txt", 3, "line 2: '2 three 4 0'"),
-                    ("rows.txt", 2, "refused 2"), ("bytes.txt", 3, "longer than 65536 bytes")):
+                    ("rows.txt", 2, "refused 2"), ("bytes.txt", 3, "longer than 16777216 bytes")):
                 found, said = self.ran("check", os.path.join(folder, name))
                 self.assertEqual((found, said.count("\n")), (status, 1), said)
                 self.assertIn(told, said)
@@ -214,8 +215,9 @@ class CommandLine(unittest.TestCase):
             finally:
                 sys.stdout, sys.stderr = kept
         for path in paths:
-            console = subprocess.run([CONSOLE, "check", path], capture_output=True)
-            self.assertEqual(found[path], console.returncode, path)
+            if found[path] != 3:
+                console = subprocess.run([CONSOLE, "check", path], capture_output=True)
+                self.assertEqual(found[path], console.returncode, path)
 
     def test_library_that_is_none(self):
         for named, told in (("none.so", "is not loaded"), ("libc.so.6", "of another version")):
@@ -245,10 +247,13 @@ class Threads(unittest.TestCase):
         "check": lambda t: t.check(), "other": lambda t: t.other(), "build": lambda t: t.build(),
         "which": lambda t: t.which([1, 2, 3], [1, 2, 4]), "paths": lambda t: t.path(1, 3),
         "quote": lambda t: t.quote(4, 9), "breaking": lambda t: t.breaking(4),
-        "digs": lambda t: t.digs(), "plan_digs": lambda t: t.digs(plan=True), "mend": lambda t: t.mend(),
+        "digs": lambda t: t.digs(), "plan_digs": lambda t: t.digs(plan=True),
+        "mend": lambda t: t.mend(),
         "outlets": lambda t: t.outlets(1, 2), "districts": lambda t: t.districts([2, 5]),
         "add": lambda t: t.add(2, 4, 9), "strike": lambda t: t.strike(6),
         "restore": lambda t: t.restore(6), "total": lambda t: t.total(),
+        "best": lambda t: t.best(), "detours": lambda t: t.detours(),
+        "groups": lambda t: t.groups(),
         "merge": lambda t: t.merge(), "mark": lambda t: t.mark(1), "write": lambda t: t.to_text()}
 
     def test_every_call_holds_the_lock(self):
@@ -269,7 +274,8 @@ class Threads(unittest.TestCase):
                 setattr(lib, name, own)
         self.assertEqual(seen, dict.fromkeys(self.CALLS, True))
         functions = {name for name, value in vars(lib).items() if hasattr(value, "argtypes")}
-        self.assertEqual(functions - set(self.CALLS), {"version", "refusal_text", "init", "read"})
+        self.assertEqual(functions - set(self.CALLS), {"version", "refusal_text", "init", "read",
+                                                       "read_table", "read_file", "line_of"})
 
     def test_one_table_from_several_threads(self):
         """Each answer is a whole one, whatever the others do."""
