@@ -157,7 +157,7 @@ $(BUILD)/%_test: $(BUILD)/tests/%_test.o $(BUILD)/tests/faultless.o $(BUILD)/tes
 $(BUILD)/%_test_faulty: $(BUILD)/tests/%_test.o $(BUILD)/tests/faulty_%.o $(BUILD)/tests/libharness.a $(ARCHIVE)
 	$(CC) $(CFLAGS) -o $@ $^ -pthread
 
-PLAIN := $(BUILD)/tests/plain.o $(BUILD)/tests/plain_work.o $(BUILD)/tests/plain_asked.o $(BUILD)/tests/plain_groups.o $(BUILD)/tests/rows.o
+PLAIN := $(patsubst %,$(BUILD)/tests/%.o,plain plain_work plain_asked plain_mend plain_outlets plain_detours plain_groups rows)
 $(BUILD)/bench: $(ARCHIVE) $(wildcard bench/*.[ch]pp) $(PLAIN) include/star.h
 	$(CXX) -std=c++17 $(CXXFLAGS) -Iinclude -Itests $$(pkg-config --cflags igraph 2>/dev/null) -o $@ bench/bench.cpp $(PLAIN) $(ARCHIVE) $$(pkg-config --libs igraph 2>/dev/null)
 

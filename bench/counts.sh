@@ -13,5 +13,5 @@ for ((k = 1; ; k++)); do
     name=$(sed -n 's/^desc: Trigger: Client Request: //p' "$work/out.$k")
     [ -n "$name" ] || continue
     case $name in star_mst1 | star_work_mst1) echo "${titles[table++]}" ;; esac
-    printf '  %-22s %12d\n' "$name" "$(sed -n 's/^\(totals\|summary\): \([0-9]*\).*/\2/p' "$work/out.$k" | head -n 1)"
+    printf '  %-30s %12d\n' "$name" "$(sed -n 's/^\(totals\|summary\): \([0-9]*\).*/\2/p' "$work/out.$k" | head -n 1)"
 done

@@ -1,10 +1,11 @@
-// The time of a call, or its instructions under callgrind, and what is printed of the solvers of one table.
+// The time of a call, or its instructions under callgrind, and what is printed of the tasks of one
+// table, or of many in turn.
 #pragma once
 
 #include <chrono>
 #include <cstdio>
 #include <cstdlib>
-#include <functional>
+#include <string>
 
 #if __has_include(<valgrind/callgrind.h>)
 #include <valgrind/callgrind.h>
@@ -13,46 +14,55 @@
 #define CALLGRIND_DUMP_STATS_AT(name) (void)(name)
 #endif
 
-#include "solvers.hpp"
+#include "tasks.hpp"
 
 namespace {
 
 // What is measured: the time of each call or, under callgrind, its instructions (bench/counts.sh).
 bool counting = false;
 
-void check(int64_t got, int64_t expected, const char *name) {
-    if (got == expected) return;
-    std::printf("%s gives %lld, expected %lld\n", name, (long long)got, (long long)expected);
-    std::exit(1);
-}
+using Clock = std::chrono::steady_clock;
 
-// One call, after another, of which callgrind writes out what it counted, under the solver's name.
-template <class F> void count_of(F solve, Table &t, int64_t expected, const char *name) {
-    check(solve(t), expected, name);
-    CALLGRIND_ZERO_STATS;
-    int64_t got = solve(t);
-    CALLGRIND_DUMP_STATS_AT(name);
-    check(got, expected, name);
-}
-
-// A solver of one table, what it has to give, and the times of its calls in microseconds.
-struct Row {
-    const char *name;
-    std::function<int64_t()> solve;
-    int64_t expected;
+// A solver over tables that come one after the other, and the times of its calls in microseconds.
+// What it finds is compared with what the door found, after the time is taken.
+struct Timed {
+    Solver solver;
+    int64_t (*value)(const Table &);
     std::vector<double> times{};
+    size_t next = 0;
     double us = 0; // the median
 
-    // Calls for some ten milliseconds. A solver that is wrong ends the run.
-    void round() {
-        using clock = std::chrono::steady_clock;
-        auto end = clock::now() + std::chrono::milliseconds(10);
-        do {
-            auto from = clock::now();
-            int64_t got = solve();
-            times.push_back(std::chrono::duration<double, std::micro>(clock::now() - from).count());
-            check(got, expected, name);
-        } while (clock::now() < end);
+    void call(std::vector<Table> &tables, const std::vector<int64_t> &expected) {
+        Table &t = tables[next];
+        auto from = Clock::now();
+        solver.solve(t);
+        times.push_back(std::chrono::duration<double, std::micro>(Clock::now() - from).count());
+        compare(t, expected[next]);
+        next = (next + 1) % tables.size();
+    }
+
+    void compare(const Table &t, int64_t expected) const {
+        int64_t got = value(t);
+        if (got == expected) return;
+        std::printf("%s gives %lld, expected %lld\n", solver.name, (long long)got,
+                    (long long)expected);
+        std::exit(1);
+    }
+
+    // Calls for some milliseconds.
+    void round(std::vector<Table> &tables, const std::vector<int64_t> &expected) {
+        auto end = Clock::now() + std::chrono::milliseconds(4);
+        do call(tables, expected);
+        while (Clock::now() < end);
+    }
+
+    // One call, after another, of which callgrind writes out what it counted, under its name.
+    void count(Table &t, int64_t expected) const {
+        solver.solve(t);
+        CALLGRIND_ZERO_STATS;
+        solver.solve(t);
+        CALLGRIND_DUMP_STATS_AT(solver.name);
+        compare(t, expected);
     }
 
     void settle() {
@@ -61,53 +71,67 @@ struct Row {
     }
 };
 
-// The solvers of one table with their times. The first two are MST1 and CST, to which the others are related, and to the fastest library. They take turns, round by round, so that
-// what else the machine does falls on all of them.
-struct Rows {
-    Table &t;
-    int64_t expected;
-    std::vector<Row> rows{};
-    const Row *fastest = nullptr;
-    size_t first_library = 0;
-
-    Rows(Table &table, int64_t total) : t(table), expected(total) {}
-
-    template <class F> void add(const char *name, F solve) { add(name, solve, t, expected); }
-
-    // On another table, or with another result.
-    template <class F> void add(const char *name, F solve, Table &other, int64_t result) {
-        if (counting) count_of(solve, other, result, name);
-        rows.push_back({name, [solve, &other]() mutable { return solve(other); }, result});
+// A task with its times; the door is the first.
+struct Measured {
+    std::vector<Timed> solvers;
+    std::vector<int64_t> expected;
+    const Timed &door() const { return solvers[0]; }
+    const Timed *fastest() const { // of those that do the same
+        const Timed *found = nullptr;
+        for (size_t i = 1; i < solvers.size(); i++)
+            if (!found || solvers[i].us < found->us) found = &solvers[i];
+        return found;
     }
+    double over_fastest() const { return fastest() ? door().us / fastest()->us : 0; }
+};
 
-    void add_doors() {
-        add("star_mst1", door_mst1);
-        add("star_cst", door_cst);
+Measured of_task(const Task &task, std::vector<Table> &tables) {
+    Measured m;
+    m.solvers.push_back({task.door, task.value});
+    for (const Solver &rival : task.rivals) m.solvers.push_back({rival, task.value});
+    for (Table &t : tables) {
+        task.door.solve(t);
+        m.expected.push_back(task.value(t));
     }
+    return m;
+}
 
-    void add_libraries() {
-        first_library = rows.size();
-        for (const Library &l : libraries()) add(l.name, l.solve);
+// The tasks of some tables. The solvers take turns, round by round, so that what else the machine
+// does falls on all of them. A least network is marked first, for the tasks that take one.
+std::vector<Measured> measure(const std::vector<Task> &tasks, std::vector<Table> &tables) {
+    std::vector<Measured> all;
+    for (Table &t : tables) {
+        door_mst1(t);
+        t.mark.assign(out.marks, out.marks + t.rows());
     }
-
-    void run() {
-        if (counting) return;
-        for (int k = 0; k < 30; k++)
-            for (Row &r : rows) r.round();
-        for (Row &r : rows) r.settle();
-        for (size_t i = first_library; i < rows.size(); i++)
-            if (!fastest || rows[i].us < fastest->us) fastest = &rows[i];
+    for (const Task &task : tasks) all.push_back(of_task(task, tables));
+    if (counting) {
+        for (Measured &m : all)
+            for (Timed &s : m.solvers) s.count(tables[0], m.expected[0]);
+        return all;
     }
+    for (int k = 0; k < 12; k++)
+        for (Measured &m : all)
+            for (Timed &s : m.solvers) s.round(tables, m.expected);
+    for (Measured &m : all)
+        for (Timed &s : m.solvers) s.settle();
+    return all;
+}
 
-    void print() {
-        run();
-        if (counting) return;
-        for (const Row &r : rows) {
-            std::printf("  %-22s %9.1f us   %6.2f of MST1  %6.2f of CST", r.name, r.us, r.us / rows[0].us, r.us / rows[1].us);
-            if (fastest) std::printf("  %6.2f of %s", r.us / fastest->us, fastest->name);
+// The first two tasks are MST1 and CST.
+void print(const std::string &title, const std::vector<Measured> &all) {
+    std::printf("%s\n", title.c_str());
+    if (counting) return;
+    double mst1 = all[0].door().us, cst = all[1].door().us;
+    for (const Measured &m : all)
+        for (const Timed &s : m.solvers) {
+            bool door = &s == &m.door();
+            std::printf("%s%-*s %9.1f us %7.2f of MST1 %7.2f of CST", door ? "  " : "      ",
+                        door ? 31 : 27, s.solver.name, s.us, s.us / mst1, s.us / cst);
+            if (door && m.fastest())
+                std::printf(" %6.2f of %s", m.over_fastest(), m.fastest()->solver.name);
             std::printf("\n");
         }
-    }
-};
+}
 
 } // namespace
