@@ -117,11 +117,10 @@ $(READSTP) $(DIGLIST): $(BUILD)/%: programs/run.c $(RUNS)
 	@mkdir -p $(BUILD)
 	$(CC) -std=c99 $(CFLAGS) -DPROGRAM=star_run_$* -o $@ $< $(RUNS) $(KIT)/lib/libos_c.a
 
-# The part of the library that is written in C, with the console's reader of tables: one object, whose global names are those of the header. It is
-# position-independent on purpose, as the proved objects are: the static and the shared library have the same objects.
-READER := console/table.c console/text.c console/price.c
-PARTS := $(patsubst %.c,$(BUILD)/parts/%.o,$(sort $(wildcard include/*.c)) $(READER))
-$(PARTS): $(BUILD)/parts/%.o: %.c $(wildcard include/*.h console/*.h)
+# The part of the library that is written in C: one object, whose global names are those of the header. It is position-independent on purpose, as the
+# proved objects are: the static and the shared library have the same objects.
+PARTS := $(patsubst %.c,$(BUILD)/parts/%.o,$(sort $(wildcard include/*.c)))
+$(PARTS): $(BUILD)/parts/%.o: %.c $(wildcard include/*.h)
 	@mkdir -p $(@D)
 	$(CC) -std=c99 $(CFLAGS) -fPIC -Iinclude -c -o $@ $<
 
@@ -135,7 +134,7 @@ $(LIBRARY): $(ARCHIVE) $(BUILD)/star.o
 	cp $(ARCHIVE) $@
 	$(AR) rs $@ $(BUILD)/star.o
 
-$(BUILD)/star: $(LIBRARY) $(CONSOLE) $(wildcard console/*.h) include/star.h
+$(BUILD)/star: $(LIBRARY) $(CONSOLE) $(wildcard console/*.h include/*.h)
 	$(CC) -std=c99 $(CFLAGS) -ffp-contract=off -Iinclude -o $@ $(CONSOLE) $(LIBRARY) -lm
 
 # The tests of the doors, over one harness: each over the doors, and over doors with a fault each, which it has to find.

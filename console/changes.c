@@ -19,15 +19,6 @@ static int refused(const struct message *words) {
     return EXIT_REFUSED;
 }
 
-/* A file with more trenches than a working table has rows is refused as any table of its size. */
-static int too_many(const struct table *t) {
-    struct star_answer a = {STAR_REFUSED, STAR_TOO_MANY_ROWS, 0, 0, 0, 0};
-    struct message words = {{0}, 0};
-    if (t->m <= STAR_MAX_ROWS) return 0;
-    refusal_words(&words, t, a);
-    return refused(&words);
-}
-
 /* ---- Trenches that are named: strike, unstrike, mark, unmark, price ---- */
 
 /* Whether a number is that of a trench of the table, struck or not. */
@@ -80,9 +71,8 @@ typedef int change_one(struct table *t, uint32_t trench, const char *word);
 
 static int change_each(struct table *t, const struct options *with, const char *command,
                        enum change change, change_one *one) {
-    int i, status = too_many(t);
-    if (status == 0 && with->count == 0)
-        return misused("the number of a trench follows the file of", command);
+    int i, status = 0;
+    if (with->count == 0) return misused("the number of a trench follows the file of", command);
     for (i = 0; i < with->count && status == 0; i++) {
         uint32_t trench;
         status = once_named(t, with->words[i], &trench);
@@ -148,7 +138,6 @@ int command_price(struct table *t, const struct options *with, struct output *o)
         return misused("the number of a trench and its price follow the file of", "price");
     status = trench_named(with->words[0], &trench);
     if (status == 0) status = price_named(with->words[1], price);
-    if (status == 0) status = too_many(t);
     if (status == 0) status = in_use(t, trench, with->words[0]);
     if (status != 0) return status;
     own = t->weight + PRICE_BYTES * (trench - 1);
@@ -216,20 +205,34 @@ static void json_renumbered(struct json *j, const struct table *t) {
     json_close(j, ']');
 }
 
-/* The words LEFT RIGHT PRICE as a trench and as the line of it. */
-static int new_trench(const struct options *with, struct trench *new, struct message *as) {
-    uint32_t end[2];
-    char price[FIGURES];
+/* The words LEFT RIGHT PRICE. */
+static int new_trench(const struct table *t, const struct options *with, struct entered *new) {
     int i, status = 0;
     if (with->count != 3) return misused("two junctions and a price follow the file of", "add");
-    for (i = 0; i < 2 && status == 0; i++) status = junction_named(with->words[i], &end[i]);
-    if (status == 0) status = price_named(with->words[2], new->price);
-    if (status != 0) return status;
-    new->left = (uint8_t)end[0];
-    new->right = (uint8_t)end[1];
-    price_figures(price, new->price); /* the word itself may be of any length */
-    say(as, "%u %u %s 0", (unsigned)end[0], (unsigned)end[1], price);
-    return 0;
+    for (i = 0; i < 2 && status == 0; i++)
+        status = junction_entered(t, with->words[i], &new->end[i]);
+    return status == 0 ? price_named(with->words[2], new->price) : status;
+}
+
+/* The junctions with those of a new trench. */
+static uint32_t junctions_with(const struct table *t, const struct entered *new) {
+    uint32_t n = t->n, number;
+    int i;
+    for (i = 0; i < 2; i++)
+        if (!text_number(new->end[i], &number)) n += table_named(t, new->end[i]) == 0;
+        else if (number > n) n = number;
+    return n;
+}
+
+/* A name that no line had: it may be mistyped. */
+static void note_names(const struct table *t, const struct entered *new, struct message *notes) {
+    int i;
+    for (i = 0; t->names > 0 && i < 2; i++)
+        if (table_named(t, new->end[i]) == 0) {
+            say(notes, "%sJunction ", notes->len > 0 ? " " : "");
+            say_word(notes, new->end[i]);
+            say(notes, " is new: no other line names it.");
+        }
 }
 
 static int add_json(const struct table *t, const struct options *with, size_t at,
@@ -244,28 +247,26 @@ static int add_json(const struct table *t, const struct options *with, size_t at
 }
 
 int command_add(struct table *t, const struct options *with, struct output *o) {
-    struct message words = {{0}, 0}, notes = {{0}, 0}, line = {{0}, 0};
-    struct trench new;
+    struct message words = {{0}, 0}, notes = {{0}, 0};
+    struct entered new;
     struct star_answer a;
     size_t at, last = t->m;
-    int status = new_trench(with, &new, &line);
-    if (status == 0) status = too_many(t);
+    int status = new_trench(t, with, &new);
     if (status != 0) return status;
-    a = table_add(t, &new, numbers);
+    a = table_add(t, numbers);
     if (a.kind != STAR_PASSED) {
         refusal_words(&words, t, a);
         return refused(&words);
     }
     at = (size_t)a.amount;
     while (last > 0 && t->struck[last - 1]) last--;
-    edit.line = line.text;
+    edit.new = &new;
     edit.merge = at <= last; /* the table was packed first */
     edit.instead = !edit.merge && at <= t->m ? at : 0;
-    edit.n = t->n;
-    if (new.left > edit.n) edit.n = new.left;
-    if (new.right > edit.n) edit.n = new.right;
+    edit.n = junctions_with(t, &new);
     status = write_sound(o, t, &notes);
     if (status != 0) return status;
+    note_names(t, &new, &notes);
     if (with->json) return add_json(t, with, at, &notes);
     if (edit.merge) tell_numbers(t);
     fprintf(stderr, "trench %zu is new\n", at);
@@ -284,8 +285,7 @@ static int merge_json(const struct table *t, const struct options *with) {
 int command_merge(struct table *t, const struct options *with, struct output *o) {
     struct message words = {{0}, 0};
     struct star_answer a;
-    int status = too_many(t);
-    if (status != 0) return status;
+    int status;
     a = table_merge(t, numbers);
     if (a.kind != STAR_PASSED) {
         refusal_words(&words, t, a);

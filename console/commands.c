@@ -48,7 +48,7 @@ static void check_json(FILE *to, const struct table *t, struct star_answer a,
 int command_check(struct table *t, const struct options *with, struct output *o) {
     static const int status[] = {
         [STAR_PASSED] = EXIT_PASSED, [STAR_LIGHTER] = EXIT_LIGHTER, [STAR_REFUSED] = EXIT_REFUSED};
-    struct star_answer a = table_cst(t);
+    struct star_answer a = table_judged(t);
     FILE *to;
     if (with->json && with->certificate)
         return misused("an object or a certificate is written, and not both, by", "check");
@@ -143,7 +143,7 @@ int command_table(struct table *t, const struct options *with, struct output *o)
    sound, and its refusal is told; where no trench is marked there is no plan to refuse. */
 static int picture(struct table *t, struct output *o,
                    void (*paint)(FILE *, const struct picture *)) {
-    struct star_answer a = table_cst(t);
+    struct star_answer a = table_judged(t);
     struct picture p = {t, 0, 0, {{0}, 0}, 0};
     char amount[FIGURES];
     int status = EXIT_PASSED;

@@ -18,6 +18,7 @@ struct options {
     char **words;    /* what follows the file */
     int count;
     const char *command, *file; /* their names, for the object */
+    const struct table *read;   /* the table that was read, for its names; NULL for none */
 };
 
 /* What every command is: it gives the exit status. */

@@ -65,12 +65,14 @@ void detour_rows(struct message *to, const unsigned *row, size_t count) {
     if (k < count) say(to, " and %zu more", count - k);
 }
 
-void detour_stops(struct message *to, const unsigned *stop, size_t count) {
+void detour_stops(struct message *to, const struct table *t, const unsigned *stop, size_t count) {
+    const char *between = t->names > 0 ? " - " : "-";
     size_t k;
     for (k = 0; k < count; k++)
-        if (count <= SHOWN + 1 || k < SHOWN - 1 || k + 1 == count)
-            say(to, "%s%u", k > 0 ? "-" : "", stop[k]);
-        else if (k == SHOWN - 1) say(to, "-..");
+        if (count <= SHOWN + 1 || k < SHOWN - 1 || k + 1 == count) {
+            if (k > 0) say(to, "%s", between);
+            say_junction(to, t, stop[k]);
+        } else if (k == SHOWN - 1) say(to, "%s..", between);
 }
 
 void detour_compared(struct message *to, const struct table *t, size_t i, const struct detour *d,

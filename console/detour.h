@@ -39,9 +39,9 @@ int way_between(struct detour *d, struct paths *p, const struct table *t, uint32
  * refuses. */
 int detour_of(struct detour *d, struct paths *p, const struct table *t, size_t i);
 
-/* 'trenches 4, 3, 2' and '1-4-3-2', cut where they are long. */
+/* 'trenches 4, 3, 2' and '1-4-3-2', or 'Rathaus - Hof - Markt', cut where they are long. */
 void detour_rows(struct message *to, const unsigned *row, size_t count);
-void detour_stops(struct message *to, const unsigned *stop, size_t count);
+void detour_stops(struct message *to, const struct table *t, const unsigned *stop, size_t count);
 
 /* What the comparison comes to: '5 = 5: the exchange gives another network of 12, equal, no
    contradiction'. total is the plan's. */

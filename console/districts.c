@@ -12,7 +12,7 @@
 /* The ends that are looked at: one more than are taken. */
 enum { ENDS = STAR_MAX_RUNS + 1 };
 
-static uint8_t forests[KEPT];
+static uint8_t forests[STAR_MAX_ROWS];
 
 /* Reads the ends; those after the first ENDS are counted and not kept. */
 static int ends_read(const struct options *with, uint32_t ends[ENDS]) {

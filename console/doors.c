@@ -1,5 +1,5 @@
 /* Asks the doors about a table: those of working tables where a trench is struck, and else the
-   plain ones, which also see that a table has too many trenches. */
+   plain ones. */
 #include <string.h>
 
 #include "table.h"
@@ -21,9 +21,8 @@ struct lent {
                   : star_##door((t)->n, COLUMNS(t, (as).m), __VA_ARGS__))
 
 static struct lent lent_as(const struct table *t) {
-    struct lent as = {0, t->m < KEPT ? t->m : KEPT, {0}};
+    struct lent as = {0, t->m, {0}};
     size_t i;
-    if (t->m > STAR_MAX_ROWS) return as;
     for (i = table_next(t, 0); i <= t->m; i = table_next(t, i)) star_set_in_use(as.in_use, i, 1);
     as.working = t->strikes > 0;
     if (as.working) as.m = STAR_MAX_ROWS;
@@ -42,6 +41,21 @@ struct star_answer table_other(const struct table *t) {
     struct lent as = lent_as(t);
     ASK(t, as, other, MARKS(t, as), answer, sizeof answer);
     return star_read_answer(answer);
+}
+
+struct best table_best(const struct table *t) {
+    uint8_t answer[STAR_BEST_BYTES];
+    struct lent as = lent_as(t);
+    struct best best;
+    ASK(t, as, best, MARKS(t, as), answer, sizeof answer);
+    best.answer = star_read_answer(answer);
+    best.least = star_read_answer(answer + 8).amount;
+    return best;
+}
+
+struct star_answer table_judged(const struct table *t) {
+    struct star_answer a = table_cst(t);
+    return a.kind == STAR_LIGHTER ? table_best(t).answer : a;
 }
 
 struct star_answer table_paths(const struct table *t, uint32_t from, uint64_t *matrix,
@@ -93,7 +107,7 @@ struct star_answer table_plan_digs(const struct table *t, uint8_t *text, size_t 
 }
 
 struct star_answer table_groups(const struct table *t, uint8_t groups[STAR_MAX_JUNCTIONS],
-                                uint8_t rings[KEPT]) {
+                                uint8_t rings[STAR_MAX_ROWS]) {
     uint8_t answer[STAR_ANSWER_BYTES];
     struct lent as = lent_as(t);
     size_t n = t->n < STAR_MAX_JUNCTIONS ? t->n : STAR_MAX_JUNCTIONS; /* more are refused */
@@ -101,7 +115,7 @@ struct star_answer table_groups(const struct table *t, uint8_t groups[STAR_MAX_J
     return star_read_answer(answer);
 }
 
-struct star_answer table_detours(const struct table *t, uint32_t rows[KEPT]) {
+struct star_answer table_detours(const struct table *t, uint32_t rows[STAR_MAX_ROWS]) {
     uint8_t answer[STAR_ANSWER_BYTES];
     struct lent as = lent_as(t);
     ASK(t, as, detours, MARKS(t, as), rows, as.m, answer, sizeof answer);
@@ -134,7 +148,7 @@ static uint32_t end_of(const struct table *t, uint32_t end) {
 }
 
 struct star_answer table_districts(struct table *t, const uint32_t *ends, size_t count,
-                                   uint8_t forests[KEPT]) {
+                                   uint8_t forests[STAR_MAX_ROWS]) {
     uint8_t answer[STAR_ANSWER_BYTES];
     struct lent as = lent_as(t);
     uint32_t own[STAR_MAX_RUNS + 1];
@@ -172,13 +186,13 @@ struct star_answer table_strike(struct table *t, size_t i) {
     return a;
 }
 
-struct star_answer table_add(const struct table *t, const struct trench *new, uint32_t *numbers) {
+struct star_answer table_add(const struct table *t, uint32_t *numbers) {
     static struct table copy;
     uint8_t answer[STAR_ANSWER_BYTES];
     struct lent as = lent_as(t);
     copy = *t;
-    star_add(ROWS(as), COLUMNS(&copy, STAR_MAX_ROWS), numbers, STAR_MAX_ROWS, new->left, new->right,
-             star_get_price(new->price, 0), answer, sizeof answer);
+    star_add(ROWS(as), COLUMNS(&copy, STAR_MAX_ROWS), numbers, STAR_MAX_ROWS, 1, 2, 0, answer,
+             sizeof answer);
     return star_read_answer(answer);
 }
 

@@ -20,7 +20,17 @@ void picture_dot(FILE *to, const struct picture *p) {
     fprintf(to, ";\n  overlap=false;\n  fontname=Arial;\n  node [shape=circle, width=0.35, "
                 "fixedsize=true, fontname=Arial, fontsize=11];\n"
                 "  edge [fontname=Arial, fontsize=10, len=1.6];\n");
-    for (v = 1; v <= t->n; v++) fprintf(to, "  %u;\n", (unsigned)v);
+    for (v = 1; v <= t->n; v++) {
+        struct message name = {{0}, 0};
+        say_junction(&name, t, v);
+        fprintf(to, "  %u", (unsigned)v);
+        if (v <= t->names) {
+            fputs(" [shape=plaintext, fixedsize=false, label=", to);
+            quoted(to, name.text);
+            putc(']', to);
+        }
+        fputs(";\n", to);
+    }
     for (i = table_next(t, 0); i <= t->m; i = table_next(t, i)) {
         enum look look = picture_look(p, i);
         fprintf(to,

@@ -1,6 +1,7 @@
 /* Changes to a table file: lines that are struck, left out, replaced, added, or that get another
-   mark or price. All else stands as it did, comments, a byte order mark and the ends of lines
-   too. */
+   mark or price. All else stands as it did, comments, a byte order mark, names and the ends of
+   lines too. What is to be written is read by star_read_table first, and written only where that
+   gives the table that is meant. */
 #ifndef CONSOLE_EDIT_H
 #define CONSOLE_EDIT_H
 
@@ -16,12 +17,19 @@ enum change {
     CHANGE_PRICE     /* it gets the price that the table has now */
 };
 
+/* A trench that is entered, unmarked: its junctions as its line has them, and its price. */
+struct entered {
+    struct span end[2];
+    uint8_t price[PRICE_BYTES];
+};
+
 struct edit {
-    uint8_t change[KEPT]; /* trench i at index i - 1 */
-    int merge;            /* whether the lines of struck trenches are left out */
-    size_t instead;       /* the trench whose line is replaced by the new one; 0: it is added */
-    const char *line;     /* the line of a new trench, NULL for none */
-    uint32_t n;           /* what a line 'junctions N' says, where lines go and none says it yet */
+    uint8_t change[STAR_MAX_ROWS]; /* trench i at index i - 1 */
+    int merge;                     /* whether the lines of struck trenches are left out */
+    size_t instead;                /* the trench whose line is replaced by the new one; 0: it is
+                                      added */
+    const struct entered *new;     /* the new trench, NULL for none */
+    uint32_t n; /* what a line 'junctions N' says, where lines go and none says it yet */
 };
 
 /* Writes the table's file as it is after the changes, and closes the output: what is told of the

@@ -23,7 +23,7 @@ static void left_out(FILE *to, const struct table *t, size_t i, const struct det
     say(&words, " is left out. Its detour: ");
     detour_rows(&words, d->row, d->count);
     say(&words, " (");
-    detour_stops(&words, d->stop, d->count + 1);
+    detour_stops(&words, t, d->stop, d->count + 1);
     say(&words, ")");
     line(to, &words);
     say(&words, "  sum %s, does not count; dearest %s (trench %u); ", amount_figures(sum, d->sum),
@@ -171,7 +171,7 @@ static void explain_words(FILE *to, const struct table *t, struct star_answer a,
 }
 
 int command_explain(struct table *t, const struct options *with, struct output *o) {
-    struct star_answer a = table_cst(t);
+    struct star_answer a = table_judged(t);
     struct message words = {{0}, 0};
     uint32_t trench;
     int status = trench_asked(with, &trench);

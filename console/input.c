@@ -7,6 +7,7 @@
 #include <stdlib.h>
 #include <string.h>
 
+#include "reading.h"
 #include "status.h"
 #include "stp.h"
 
@@ -63,11 +64,10 @@ int input_open(struct input *in, const char *file, struct message *fault) {
     in->text.len = len;
     if (opens(in->text, "\xff\xfe") || opens(in->text, "\xfe\xff"))
         return unreadable(in, fault, "it is UTF-16 text; save it as UTF-8 or ASCII");
-    if (opens(in->text, "\xef\xbb\xbf")) {
-        in->text.at += 3;
-        in->text.len -= 3;
-    }
-    in->stp = stp_opens(in->text);
+    len = reading_order_mark(in->text.at, in->text.len);
+    in->text.at += len;
+    in->text.len -= len;
+    in->stp = reading_is_stp(in->text.at, in->text.len);
     return 0;
 }
 
@@ -78,7 +78,7 @@ int input_table(const struct input *in, struct table *t, struct message *fault) 
     t->order_mark = (size_t)(in->text.at - in->bytes);
     t->stp = in->stp;
     if (in->stp) return stp_read(t, in->text, fault) ? 0 : EXIT_REFUSED;
-    return table_read(t, in->text, fault) ? 0 : EXIT_UNREADABLE;
+    return table_read(t, fault);
 }
 
 void input_close(struct input *in) { free(in->bytes); }

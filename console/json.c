@@ -2,51 +2,39 @@
 #include "json.h"
 
 #include <inttypes.h>
+#include <string.h>
 
 #include "faults.h"
 #include "refusal.h"
 #include "status.h"
 
-/* The bytes that a letter in UTF-8 has by its first one; 0 where no letter opens so. */
-static size_t letter_opened(unsigned char first) {
-    if (first < 0x80) return 1;
-    if (first >= 0xc2 && first < 0xe0) return 2;
-    if (first >= 0xe0 && first < 0xf0) return 3;
-    return first >= 0xf0 && first < 0xf5 ? 4 : 0;
-}
-
-/* The bytes of a letter in UTF-8 that stands at the front of a text; 0 where none does: also where
-   it could be shorter, is half of a pair, or is above the last letter. */
-static size_t letter(const unsigned char *at) {
-    size_t len = letter_opened(at[0]), k;
-    for (k = 1; k < len; k++)
-        if (at[k] < 0x80 || at[k] > 0xbf) return 0;
-    if ((at[0] == 0xe0 && at[1] < 0xa0) || (at[0] == 0xed && at[1] > 0x9f)) return 0;
-    if ((at[0] == 0xf0 && at[1] < 0x90) || (at[0] == 0xf4 && at[1] > 0x8f)) return 0;
-    return len;
-}
-
 /* A text in quotation marks; bytes that are no UTF-8 stand as U+FFFD. */
-static void quoted(FILE *to, const char *text) {
-    const unsigned char *at = (const unsigned char *)text;
+static void quoted(FILE *to, struct span s) {
+    size_t len;
     putc('"', to);
-    while (*at) {
-        size_t len = letter(at);
+    for (; s.len > 0; s.at += len, s.len -= len) {
+        unsigned char first = (unsigned char)s.at[0];
+        len = text_letter(s);
         if (len == 0) fputs("\\ufffd", to);
-        else if (*at == '"' || *at == '\\') fprintf(to, "\\%c", *at);
-        else if (*at == '\n') fputs("\\n", to);
-        else if (*at < 0x20 || *at == 0x7f) fprintf(to, "\\u%04x", (unsigned)*at);
-        else fwrite(at, 1, len, to);
-        at += len > 0 ? len : 1;
+        else if (first == '"' || first == '\\') fprintf(to, "\\%c", first);
+        else if (first == '\n') fputs("\\n", to);
+        else if (first < 0x20 || first == 0x7f) fprintf(to, "\\u%04x", (unsigned)first);
+        else fwrite(s.at, 1, len, to);
+        if (len == 0) len = 1;
     }
     putc('"', to);
+}
+
+static struct span words(const char *text) {
+    struct span s = {text, strlen(text)};
+    return s;
 }
 
 static void key_of(struct json *j, const char *key) {
     if (j->any) fputs(", ", j->to);
     j->any = 1;
     if (!key) return;
-    quoted(j->to, key);
+    quoted(j->to, words(key));
     fputs(": ", j->to);
 }
 
@@ -63,7 +51,7 @@ void json_close(struct json *j, char bracket) {
 
 void json_text(struct json *j, const char *key, const char *text) {
     key_of(j, key);
-    quoted(j->to, text);
+    quoted(j->to, words(text));
 }
 
 void json_number(struct json *j, const char *key, int64_t number) {
@@ -106,6 +94,18 @@ void json_rows(struct json *j, const char *key, const struct table *t, const uin
     json_close(j, ']');
 }
 
+/* The names of the junctions in the order of their numbers; nothing where the file has none. */
+static void json_names(struct json *j, const struct table *t) {
+    size_t v;
+    if (t->names == 0) return;
+    json_open(j, "names", '[');
+    for (v = 0; v < t->names; v++) {
+        key_of(j, NULL);
+        quoted(j->to, t->name[v]);
+    }
+    json_close(j, ']');
+}
+
 void json_begin(struct json *j, FILE *to, const struct options *with, const char *verdict,
                 int status) {
     j->to = to;
@@ -115,6 +115,7 @@ void json_begin(struct json *j, FILE *to, const struct options *with, const char
     json_text(j, "file", with->file);
     json_text(j, "verdict", verdict);
     json_number(j, "status", status);
+    if (with->read) json_names(j, with->read);
 }
 
 void json_end(struct json *j) {

@@ -56,7 +56,9 @@ static int free_of(const struct layout *l, const struct table *t, size_t i, enum
     uint32_t v;
     if (own->at.x < own->width / 2 || own->at.x > l->width - own->width / 2) return 0;
     for (v = 1; v <= t->n; v++)
-        if (covers(own, l->at[v], l->dot + 1)) return 0;
+        if (covers(own, l->at[v], l->dot + 1) ||
+            (l->name[v].shown && labels_touch(own, &l->name[v])))
+            return 0;
     for (k = table_next(t, 0); k <= t->m; k = table_next(t, k)) {
         if (l->label[k - 1].shown && labels_touch(own, &l->label[k - 1])) return 0;
         if (k != i && (may == NONE || (may == LIGHT && l->trench[k - 1].heavy)) &&

@@ -133,6 +133,33 @@ static struct curve line_of(const struct layout *l, const struct table *t, size_
     return c;
 }
 
+void layout_name(struct message *to, const struct table *t, uint32_t v) {
+    struct span name = t->name[v - 1], rest = name;
+    size_t letters, len;
+    for (letters = 0; rest.len > 0 && letters < NAME_LETTERS; letters++) {
+        len = text_letter(rest);
+        if (len == 0) len = 1;
+        rest.at += len;
+        rest.len -= len;
+    }
+    name.len -= rest.len;
+    say_word(to, name);
+    if (rest.len > 0) say(to, "..");
+}
+
+/* Names stand below their junctions. */
+static void place_names(struct layout *l, const struct table *t) {
+    uint32_t v;
+    for (v = 1; v <= t->names && v <= t->n; v++) {
+        struct message name = {{0}, 0};
+        layout_name(&name, t, v);
+        l->name[v].at.x = l->at[v].x;
+        l->name[v].at.y = l->at[v].y + l->dot + LABEL_HEIGHT / 2.0;
+        l->name[v].width = (double)name.len * LABEL_FONT * 0.55;
+        l->name[v].shown = 1;
+    }
+}
+
 void layout_sheet(struct layout *l, const struct table *t) {
     static double bend[PLACES_ROWS];
     size_t i;
@@ -144,4 +171,5 @@ void layout_sheet(struct layout *l, const struct table *t) {
         l->rows[t->right[i - 1]]++;
     }
     fit(l, t);
+    place_names(l, t);
 }

@@ -19,14 +19,15 @@ struct label {
     int shown; /* 0 where there is no room for it */
 };
 
-enum { LABEL_FONT = 11, LABEL_HEIGHT = 13 };
+enum { LABEL_FONT = 11, LABEL_HEIGHT = 13, NAME_LETTERS = 18 };
 
 struct layout {
     struct point at[STAR_MAX_JUNCTIONS + 1]; /* junction v at index v */
     struct curve trench[STAR_MAX_ROWS];      /* trench i at index i - 1, and so for labels */
     struct label label[STAR_MAX_ROWS];
-    double width, height, dot;           /* dot: the radius of a junction */
-    size_t rows[STAR_MAX_JUNCTIONS + 1]; /* the trenches in use at each junction */
+    struct label name[STAR_MAX_JUNCTIONS + 1]; /* below junction v, where the file has names */
+    double width, height, dot;                 /* dot: the radius of a junction */
+    size_t rows[STAR_MAX_JUNCTIONS + 1];       /* the trenches in use at each junction */
 };
 
 /* Places junctions (places.h) and the trenches in use on a sheet. */
@@ -36,6 +37,9 @@ void layout_sheet(struct layout *l, const struct table *t);
    there is no room. It covers no junction and no label already placed; no other trench if that can
    be had; a heavy one only where its own is heavy too. */
 void layout_label(struct layout *l, const struct table *t, size_t i, size_t letters);
+
+/* The name of a junction as pictures have it, shorter than in sentences. */
+void layout_name(struct message *to, const struct table *t, uint32_t v);
 
 /* A point of a curve: k from 0, its start, to 1, its end. */
 struct point layout_on(const struct curve *c, double k);

@@ -163,7 +163,9 @@ static int run(struct request *r) {
     }
     if (status == 0) status = input_table(&in, &t, &fault);
     if (status == 0) {
+        r->with.read = &t;
         status = r->command->run(&t, &r->with, &r->out);
+        r->with.read = NULL;
     } else if (status == EXIT_REFUSED &&
                r->command->needs == TEXT) { /* the list of a text that is refused has one line, and
                                                the words stand beside it */

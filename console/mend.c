@@ -45,13 +45,24 @@ static size_t tell_changed(const struct table *t, const uint8_t *before, int mar
     return count;
 }
 
-/* What the marks were before: their number, their cost, and whether they were a network. */
+/* What the marks were before: their number, their cost, and what was said of them. */
 struct past {
-    uint8_t mark[KEPT];
+    uint8_t mark[STAR_MAX_ROWS];
     size_t marks;
     int64_t cost;
-    int network;
+    struct star_answer judged;
 };
+
+/* The exchange that alone saves most, of a network for which there is more to change. */
+static void tell_best(const struct table *t, struct star_answer best) {
+    struct message words = {{0}, 0};
+    char saving[FIGURES];
+    say_trench(&words, t, best.out);
+    say(&words, ", put in ");
+    say_trench(&words, t, best.in);
+    fprintf(stderr, "One exchange alone saves %s at most: take out %s.\n",
+            amount_figures(saving, best.amount), words.text);
+}
 
 /* What changed in the end, and what the marked trenches cost before and after. */
 static void tell(const struct table *t, const struct past *past) {
@@ -63,7 +74,7 @@ static void tell(const struct table *t, const struct past *past) {
     if (changed == 0)
         fprintf(stderr, "There is nothing to mend: the plan is a cheapest network. Total %s.\n",
                 now);
-    else if (past->network)
+    else if (past->judged.kind != STAR_REFUSED)
         fprintf(stderr, "The plan's total was %s and is %s now: no network is cheaper.\n", before,
                 now);
     else if (past->marks == 0)
@@ -74,6 +85,7 @@ static void tell(const struct table *t, const struct past *past) {
                 "The marked trenches were no network, and cost %s. The plan's "
                 "total is %s now: no network is cheaper.\n",
                 before, now);
+    if (changed > 2 && past->judged.kind == STAR_LIGHTER) tell_best(t, past->judged);
 }
 
 static void tell_steps(const struct table *t, size_t steps) {
@@ -88,7 +100,7 @@ static void tell_steps(const struct table *t, size_t steps) {
 /* The trenches whose marks changed to one state, as a list. */
 static void json_changed(struct json *j, const char *key, const struct table *t,
                          const uint8_t *before, int marked) {
-    static uint8_t changed[KEPT];
+    static uint8_t changed[STAR_MAX_ROWS];
     size_t i;
     for (i = 1; i <= t->m; i++)
         changed[i - 1] = (uint8_t)(before[i - 1] != t->mark[i - 1] && t->mark[i - 1] == marked);
@@ -120,7 +132,7 @@ static int mend_json(const struct table *t, const struct past *past, size_t step
     json_changed(&j, "in", t, past->mark, 1);
     json_open(&j, "marked", '{');
     json_number(&j, "cost", past->cost);
-    json_truth(&j, "network", past->network);
+    json_truth(&j, "network", past->judged.kind != STAR_REFUSED);
     json_close(&j, '}');
     json_number(&j, "total", table_plan_total(t));
     if (with->steps) json_steps(&j, t, steps);
@@ -134,7 +146,7 @@ int command_mend(struct table *t, const struct options *with, struct output *o) 
     memcpy(past.mark, t->mark, sizeof past.mark);
     past.marks = table_marks(t);
     past.cost = table_plan_total(t);
-    past.network = table_cst(t).kind != STAR_REFUSED;
+    past.judged = table_judged(t);
     a = table_mend(t, records);
     if (a.kind != STAR_PASSED) {
         struct message words = {{0}, 0};

@@ -34,7 +34,9 @@ static void say_no_outlets(struct message *to, const struct table *t, const uint
     refusal_opens(to, STAR_NO_OUTLETS, t->file, 0);
     say(to, "no network has exactly ");
     say_given(to, words[1]);
-    say(to, " %s at junction %u; ", asked[1] == 1 ? "trench" : "trenches", (unsigned)asked[0]);
+    say(to, " %s at junction ", asked[1] == 1 ? "trench" : "trenches");
+    say_junction(to, t, asked[0]);
+    say(to, "; ");
     if (least == largest) say(to, "every network has %u there.", (unsigned)least);
     else say(to, "from %u to %u are possible.", (unsigned)least, (unsigned)largest);
     if (t->strikes == 0) return;
@@ -79,20 +81,19 @@ static int64_t least_total(const struct table *t) {
 
 static void outlets_words(FILE *to, const struct table *t, const uint32_t asked[2],
                           int64_t amount) {
-    struct message words = {{0}, 0};
+    struct message words = {{0}, 0}, at = {{0}, 0};
     char figures[2][FIGURES];
     int64_t least = least_total(t);
     say_count(&words, asked[1], "trench", "trenches");
-    fprintf(to, "A cheapest network with exactly %s at junction %u:\n", words.text,
-            (unsigned)asked[0]);
+    say(&at, "at junction ");
+    say_junction(&at, t, asked[0]);
+    fprintf(to, "A cheapest network with exactly %s %s:\n", words.text, at.text);
     table_list(to, t, t->mark, 1, t->m);
     fprintf(to, "Total %s\n", amount_figures(figures[0], amount));
-    if (least == amount)
-        fprintf(to, "No network is cheaper, whatever it has at junction %u.\n", (unsigned)asked[0]);
+    if (least == amount) fprintf(to, "No network is cheaper, whatever it has %s.\n", at.text);
     else
-        fprintf(to, "With any number at junction %u the cheapest network costs %s: %s less.\n",
-                (unsigned)asked[0], amount_figures(figures[0], least),
-                amount_figures(figures[1], amount - least));
+        fprintf(to, "With any number %s the cheapest network costs %s: %s less.\n", at.text,
+                amount_figures(figures[0], least), amount_figures(figures[1], amount - least));
 }
 
 static void outlets_json(FILE *to, const struct table *t, const uint32_t asked[2], int64_t amount,
@@ -108,12 +109,12 @@ static void outlets_json(FILE *to, const struct table *t, const uint32_t asked[2
 }
 
 /* The words JUNCTION COUNT. */
-static int question(const struct options *with, uint32_t asked[2]) {
+static int question(const struct table *t, const struct options *with, uint32_t asked[2]) {
     struct span count;
     int status;
     if (with->count != 2)
         return misused("a junction and a number of trenches follow the file of", "outlets");
-    status = junction_asked(with->words[0], &asked[0]);
+    status = junction_asked(t, with->words[0], &asked[0]);
     if (status != 0) return status;
     count.at = with->words[1];
     count.len = strlen(with->words[1]);
@@ -126,7 +127,7 @@ int command_outlets(struct table *t, const struct options *with, struct output *
     struct star_answer a;
     uint32_t asked[2];
     FILE *to;
-    int status = question(with, asked);
+    int status = question(t, with, asked);
     if (status != 0) return status;
     a = table_outlets(t, asked[0], asked[1]);
     if (a.kind != STAR_PASSED) return refused(o, t, a, asked, with);

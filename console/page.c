@@ -5,6 +5,7 @@
 
 #include "commands.h"
 #include "panels.h"
+#include "picture.h"
 #include "program.h"
 #include "refusal.h"
 #include "status.h"
@@ -70,8 +71,8 @@ static const char FOOTER[] =
     "<footer>\n<p>A sentence with a green bar at its left is an answer of the proved core in "
     "words: passed or not, the total of a plan that passed, whether it is the only cheapest "
     "network,\n"
-    "the exchange that is named and what it saves (star_cst, star_other), the totals before and "
-    "after it (star_which), the least total (star_mst1), a refusal by its number in the\n"
+    "the exchange that is named and what it saves (star_best, star_other), the totals before and "
+    "after it (star_total), the least total (star_best), a refusal by its number in the\n"
     "library's words (star_cst). What this page says of a refusal stands in a red box: its place "
     "is the core's answer, and what is counted in it is counted by this page. The trenches of each "
     "detour come from the core too (star_paths),\n"
@@ -184,7 +185,8 @@ static void static_page(FILE *to, struct table *t, struct star_answer a, struct 
           "name=\"viewport\" content=\"width=device-width, initial-scale=1\">\n<title>",
           to);
     html_text(to, name);
-    fprintf(to, "</title>\n<style>\n%s</style>\n</head>\n<body>\n<h1>", STYLE);
+    fprintf(to, "</title>\n<style>\n%s%s</style>\n</head>\n<body>\n<h1>", STYLE,
+            t->names > 0 ? PICTURE_NAMES "\n" : "");
     html_text(to, name);
     fputs("</h1>\n", to);
     if (s.drawn && a.kind == STAR_REFUSED && table_marks(t) == 0)
@@ -195,7 +197,7 @@ static void static_page(FILE *to, struct table *t, struct star_answer a, struct 
 }
 
 int command_page(struct table *t, const struct options *with, struct output *o) {
-    struct star_answer a = table_cst(t);
+    struct star_answer a = table_judged(t);
     struct shows s = shows_of(t, a);
     struct message words = {{0}, 0};
     struct program p;

@@ -37,7 +37,8 @@ const struct keys KEYS[] = {
      "command: the command\n"
      "file: the file's name as it was given, or 'standard input'\n"
      "verdict: passed, cheaper, built, told, mended, written, refused, unreadable or misused\n"
-     "status: the exit status"},
+     "status: the exit status\n"
+     "names: where the file has names, the names of the junctions in the order of their numbers"},
     {"A refusal", "refusal: its number\n"
                   "place: the trench or junction that it names, where it has one\n"
                   "line: the line of the file, where it has one\n"
@@ -54,8 +55,8 @@ const struct keys KEYS[] = {
 const struct operand OPERANDS[] = {
     {"FILE", "a table, or an STP file if no plan is needed; - is standard input"},
     {"TRENCH", "the number of a trench, by its place in the file, from 1 on"},
-    {"JUNCTION", "the number of a junction, from 1 on"},
-    {"LEFT", "the junction at one end of the trench"},
+    {"JUNCTION", "a junction: its number, from 1 on, or its name"},
+    {"LEFT", "the junction at one end of the trench, by number or name"},
     {"RIGHT", "the junction at its other end"},
     {"PRICE", "a whole number from -2147483648 to 2147483647"},
     {"COUNT", "how many trenches"},
@@ -86,9 +87,9 @@ const struct page PAGES[] = {
         .does = "Says whether the marked trenches reach every junction at the least total "
                 "price.\n\n"
                 "Where a cheaper set exists, it names one trench to take out, one to put in, "
-                "and what that saves; the plan's total, the total after this exchange, the "
-                "least total, and what can be saved at most. Where the exchange does not save "
-                "all of it, it is the first one found.\n\n"
+                "and what that saves: of all such exchanges the one that saves most. It tells "
+                "the plan's total, the total after this exchange, the least total, and what can "
+                "be saved at most.\n\n"
                 "Where none exists, it says whether the plan is the only cheapest network; if "
                 "it is not, it names an exchange that gives another of the same total.\n\n"
                 "Where the marks are no network, it names the trenches of each ring that they "
@@ -240,8 +241,9 @@ const struct page PAGES[] = {
         .does = "Writes the dig list for the site, as the program diglist prints it: a line "
                 "for each trench of the cheapest network that build chooses, from the top of "
                 "the file, with its number, its two junctions and its price, a single space "
-                "between; then a line with Total and the sum. With --plan it lists the marked "
-                "trenches, cheapest or not, if they are a network.\n\n"
+                "between; then a line with Total and the sum. Of a file with names it has the "
+                "names, with - between. With --plan it lists the marked trenches, cheapest or "
+                "not, if they are a network.\n\n"
                 "A refusal is the list's only line, Refused with the number and the place, "
                 "and is told in words on standard error.",
         .example = "digs yard.txt",
@@ -430,7 +432,8 @@ const struct page PAGES[] = {
                 "the last trench in use, in place of a struck one that stands there, and else "
                 "at the end. It tells the new trench's number on standard error. Where trench "
                 "1024 is in use and another one is struck, the file is merged first; where "
-                "all 1024 are in use, the trench is refused (17).\n\n"
+                "all 1024 are in use, the trench is refused (17). A name that no line has yet "
+                "is a new junction, which is told.\n\n"
                 "Where the table would be refused with the new trench, as for a loop, a pair "
                 "that is there already or an end above the number of junctions, nothing is "
                 "written, and the refusal that would follow is told.",
@@ -503,7 +506,8 @@ const struct page PAGES[] = {
         .does = "Writes the file with its plan made a cheapest network, whatever was marked. "
                 "Marks are changed, and all else stands as it did, comments too. On standard "
                 "error it tells the trenches that are taken out and put in, and the totals "
-                "before and after.\n\n"
+                "before and after; where the plan was a network and more than one exchange is "
+                "made, also the one that alone saves most.\n\n"
                 "With --steps it tells each step below that: going down the marks, a trench "
                 "that closes a ring is dropped; going down the trenches, one that joins what "
                 "was apart is added; then each trench left out is exchanged for the dearest "

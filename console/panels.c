@@ -116,7 +116,7 @@ static void ring_names(FILE *to, const struct drawing *g, struct ring *r) {
     for (k = 0; k < r->rings && ring_nth(r, g->t, k); k++) {
         if (k == RINGS)
             fprintf(to, "<details><summary>%zu more rings</summary>\n", r->rings - RINGS);
-        ring_words(&words, r);
+        ring_words(&words, r, g->t);
         panel_plain(to, words.text);
         words.len = 0;
     }
@@ -132,7 +132,7 @@ void panel_ring(FILE *to, const struct drawing *g) {
     ring_of(&r, g->t);
     rings_of(&all, g, &r);
     ring_count(&count, g->t);
-    ring_words(&ring, &r);
+    ring_words(&ring, &r, g->t);
     ring_groups(&cuts, &r, g->t);
     fprintf(to,
             "<p class=\"count\"><b>%zu</b> marked, <b>%" PRIu32 "</b> junctions: %" PRIu32
@@ -150,7 +150,7 @@ void panel_ring(FILE *to, const struct drawing *g) {
     fputs("</p>\n", to);
     ring_names(to, g, &r);
     if (cuts.len > 0) panel_plain(to, cuts.text);
-    panel_verdict(to, g->t, table_cst(g->t));
+    panel_verdict(to, g->t, table_judged(g->t));
 }
 
 /* The sentences of one trench that is left out: its sum struck through, the dearest trench
@@ -163,7 +163,7 @@ static void detour_sentences(FILE *to, const struct table *t, size_t i, const st
     say(&words, " is left out. Its detour: ");
     detour_rows(&words, d->row, d->count);
     say(&words, " (");
-    detour_stops(&words, d->stop, d->count + 1);
+    detour_stops(&words, t, d->stop, d->count + 1);
     say(&words, ").");
     html_text(to, words.text);
     fprintf(to, "<br><s>sum %s</s> does not count. Dearest: <b>%s</b> (trench %u). ",
@@ -267,7 +267,7 @@ void panel_detours(FILE *to, const struct drawing *g) {
     sample(to, "dearest", "its dearest trench");
     sample(to, "left-out", "left out");
     fputs("</p>\n", to);
-    panel_verdict(to, g->t, table_cst(g->t));
+    panel_verdict(to, g->t, table_judged(g->t));
 }
 
 /* One of two networks: those of its trenches that the other has not are drawn in colour. */
@@ -342,8 +342,7 @@ void panel_limit(FILE *to, const struct table *t) {
     panel_plain(to, words.text);
     say(&says, "A number line: 0 is no junction, 1 to 255 are junctions, 256 has no code. This "
                "table has ");
-    table_junctions(&says, t);
-    say(&says, ".");
+    say(&says, "%" PRIu32 ".", t->n);
     fprintf(to,
             "<div class=\"stage\"><svg id=\"limit-view\" role=\"img\" "
             "aria-labelledby=\"limit-view-says\" width=\"1060\" height=\"150\" viewBox=\"0 0 1060 "
@@ -359,8 +358,7 @@ void panel_limit(FILE *to, const struct table *t) {
     tick(to, last, 1, -1, "plan", "255: the last junction");
     tick(to, last + STEP, 1, 1, "no", "256: no code");
     words.len = 0;
-    say(&words, "this table: ");
-    table_junctions(&words, t);
+    say(&words, "this table: %" PRIu32, t->n);
     tick(to, own, 0, t->n > 220 ? -1 : 1, t->n <= STAR_MAX_JUNCTIONS ? "in" : "no", words.text);
     fputs("</svg></div>\n", to);
 }

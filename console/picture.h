@@ -32,6 +32,12 @@ size_t picture_label(char *text, size_t room, const struct table *t, size_t i);
    marked last; gives the number that found no room. */
 size_t picture_place(struct layout *l, const struct picture *p);
 
+/* Junction v with its number, or with its name below it. The style of such names. */
+void picture_junction(FILE *to, const struct layout *l, const struct table *t, uint32_t v);
+#define PICTURE_NAMES \
+    ".place{font-size:11px;text-anchor:middle;fill:#222;paint-order:stroke;stroke:#fff;" \
+    "stroke-width:3px}"
+
 /* Letters as SVG and HTML have them, where some mean something else. */
 void picture_letters(FILE *to, const char *text, size_t len);
 

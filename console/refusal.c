@@ -32,6 +32,23 @@ void refusal_of_end(struct message *to, size_t trench, const struct span ends[2]
     say(to, "trench %zu joins junction %" PRIu32 " to itself.", trench, end);
 }
 
+/* The same of a table, whose junctions may have names: a name is above the number of junctions
+   where a line says that there are fewer. */
+static void bad_end(struct message *to, const struct table *t, size_t trench) {
+    uint8_t left = t->left[trench - 1], right = t->right[trench - 1];
+    uint8_t end = left < 1 || left > t->n ? left : right;
+    if (end >= 1 && end <= t->n) {
+        say(to, "trench %zu joins junction ", trench);
+        say_junction(to, t, end);
+        say(to, " to itself.");
+        return;
+    }
+    say(to, "trench %zu ends at junction ", trench);
+    say_junction(to, t, end);
+    if (t->names > 0) say(to, ", name %u of the file", (unsigned)end);
+    say(to, "; junctions are numbered from 1 to %" PRIu32 ".", t->n);
+}
+
 void refusal_of_repeat(struct message *to, size_t trench, size_t earlier) {
     say(to, "trench %zu joins the same junctions as trench %zu.", trench, earlier);
 }
@@ -50,7 +67,7 @@ static size_t first_between(const struct table *t, size_t i) {
    has 5.' */
 static void of_trench(struct message *to, const struct table *t, unsigned number, size_t trench,
                       const char *word, const char *there, const char *purpose) {
-    int struck = trench >= 1 && trench <= t->m && trench <= KEPT;
+    int struck = trench >= 1 && trench <= t->m;
     refusal_opens(to, number, t->file, struck ? t->row[trench - 1].line : 0);
     if (struck) {
         say(to, "trench %zu %s.", trench, there);
@@ -73,18 +90,16 @@ void refusal_of_asked_junction(struct message *to, const struct table *t, const 
     refusal_opens(to, STAR_BAD_SOURCE, t->file, 0);
     say(to, "there is no junction ");
     say_given(to, word);
-    say(to, "; the table has ");
-    table_junctions(to, t);
-    say(to, ".");
+    say(to, "; the table has %" PRIu32 ".", t->n);
 }
 
 int refusal_has_trench(const struct table *t, size_t trench) {
-    return trench >= 1 && trench <= t->m && trench <= KEPT && !t->struck[trench - 1];
+    return trench >= 1 && trench <= t->m && !t->struck[trench - 1];
 }
 
 static void junction_count(struct message *to, const struct table *t) {
     if (t->count.line == 0) say(to, "no junction from 1 on is named");
-    else say(to, t->told ? "the number of junctions is " : "the largest junction is ");
+    else say(to, "the number of junctions is ");
     say_word(to, t->count.text);
     say(to, "; from 1 to %d junctions are taken.", STAR_MAX_JUNCTIONS);
 }
@@ -101,7 +116,7 @@ static void mark_count(struct message *to, const struct table *t) {
    11: all trenches marked, they leave it in another group. 0 if the door refuses. */
 static unsigned unreached(const struct table *t) {
     static struct table all;
-    static uint8_t smallest[STAR_MAX_JUNCTIONS], on[KEPT];
+    static uint8_t smallest[STAR_MAX_JUNCTIONS], on[STAR_MAX_ROWS];
     unsigned v;
     all = *t;
     memset(all.mark, 1, sizeof all.mark);
@@ -114,7 +129,12 @@ static unsigned unreached(const struct table *t) {
 static void no_network(struct message *to, const struct table *t) {
     unsigned v = unreached(t);
     say(to, "no set of trenches reaches every junction");
-    if (v > 0) say(to, ": junction %u cannot be reached from junction 1", v);
+    if (v > 0) {
+        say(to, ": junction ");
+        say_junction(to, t, v);
+        say(to, " cannot be reached from junction ");
+        say_junction(to, t, 1);
+    }
     say(to, ".");
 }
 
@@ -129,8 +149,9 @@ void refusal_unnamed(struct message *to, const struct table *t) {
         table_unnamed(t, first + 1) > 0 ? "s" : "");
     for (; first > 0 && runs < RUNS; first = table_unnamed(t, last + 1), runs++) {
         last = first;
-        while (table_unnamed(t, last + 1) == last + 1) last++;
-        say(to, "%s%" PRIu32, runs > 0 ? ", " : "", first);
+        while (table_unnamed(t, last + 1) == last + 1 && last >= t->names) last++;
+        if (runs > 0) say(to, ", ");
+        say_junction(to, t, first);
         if (last > first) say(to, " to %" PRIu32, last);
     }
     if (first > 0) say(to, " and others");
@@ -141,35 +162,22 @@ void refusal_unnamed(struct message *to, const struct table *t) {
 
 void refusal_words(struct message *to, const struct table *t, struct star_answer a) {
     struct place none = {0, {NULL, 0}};
-    int of_trench =
-        a.number == STAR_BAD_END || a.number == STAR_REPEATED_ROW || a.number == STAR_BAD_MARK;
-    struct place at = of_trench && a.out >= 1 && a.out <= KEPT ? t->row[a.out - 1] : none;
-    struct span ends[2];
-    if (a.number == STAR_TOO_MANY_ROWS && t->m >= KEPT) at = t->row[KEPT - 1];
+    int of_trench = a.number == STAR_BAD_END || a.number == STAR_REPEATED_ROW;
+    struct place at = of_trench && a.out >= 1 && a.out <= t->m ? t->row[a.out - 1] : none;
     refusal_opens(to, a.number, t->file,
                   a.number == STAR_BAD_JUNCTION_COUNT ? t->count.line : at.line);
     last.place = a.out;
     switch (a.number) {
     case STAR_BAD_JUNCTION_COUNT: junction_count(to, t); break;
-    case STAR_TOO_MANY_ROWS:
-        say(to,
-            "there are %zu trenches%s; at most %d are taken, and trench %d stands in this line.",
-            t->m, t->strikes > 0 ? ", struck ones included" : "", STAR_MAX_ROWS, KEPT);
-        break;
-    case STAR_BAD_END:
-        ends[0] = text_nth(at.text, 0);
-        ends[1] = text_nth(at.text, 1);
-        refusal_of_end(to, a.out, ends, t->n);
-        break;
+    case STAR_BAD_END: bad_end(to, t, a.out); break;
     case STAR_REPEATED_ROW: refusal_of_repeat(to, a.out, first_between(t, a.out)); break;
-    case STAR_BAD_MARK:
-        say(to, "trench %u has the mark ", a.out);
-        say_word(to, text_nth(at.text, 3));
-        say(to, "; a mark is 0 or 1.");
-        break;
     case STAR_BAD_MARK_COUNT: mark_count(to, t); break;
     case STAR_NOT_JOINED:
-        say(to, "the marked trenches do not reach junction %u from junction 1.", a.out);
+        say(to, "the marked trenches do not reach junction ");
+        say_junction(to, t, a.out);
+        say(to, " from junction ");
+        say_junction(to, t, 1);
+        say(to, ".");
         break;
     case STAR_NO_NETWORK: no_network(to, t); break;
     case STAR_TABLE_FULL:

@@ -70,7 +70,7 @@ static void group(struct ring *r, uint32_t n, const uint8_t *smallest) {
 }
 
 int ring_of(struct ring *r, const struct table *t) {
-    static uint8_t smallest[STAR_MAX_JUNCTIONS], on[KEPT];
+    static uint8_t smallest[STAR_MAX_JUNCTIONS], on[STAR_MAX_ROWS];
     uint8_t ringed[STAR_MAX_JUNCTIONS + 1] = {0};
     size_t i;
     unsigned k;
@@ -119,12 +119,12 @@ void ring_count(struct message *to, const struct table *t) {
     else say(to, " exactly %zu: more close a ring, fewer leave a junction out.", (size_t)t->n - 1);
 }
 
-void ring_words(struct message *to, const struct ring *r) {
+void ring_words(struct message *to, const struct ring *r, const struct table *t) {
     if (r->count == 0) return;
     say(to, "A ring: ");
     detour_rows(to, r->row, r->count);
     say(to, " (");
-    detour_stops(to, r->stop, r->count + 1);
+    detour_stops(to, t, r->stop, r->count + 1);
     say(to, ").");
 }
 
@@ -145,8 +145,9 @@ void ring_group(struct message *to, const struct ring *r, const struct table *t,
     for (v = 1, count = 0; v <= t->n; v++) {
         if (r->group[v] != group) continue;
         for (last = v; last < t->n && r->group[last + 1] == group;) last++;
-        if (last < v + 3) last = v; /* a run of four or more is told by its ends */
-        say(to, "%s%u", count++ > 0 ? ", " : " ", v);
+        if (last < v + 3 || t->names > 0) last = v; /* a run of four or more is told by its ends */
+        say(to, count++ > 0 ? ", " : " ");
+        say_junction(to, t, v);
         if (last > v) say(to, " to %u", last);
         v = last;
     }
@@ -170,12 +171,12 @@ static void line(FILE *to, struct message *words) {
 }
 
 /* A ring with all its trenches. */
-static void ring_line(FILE *to, const struct ring *r) {
+static void ring_line(FILE *to, const struct ring *r, const struct table *t) {
     struct message stops = {{0}, 0};
     size_t k;
     fputs("A ring: trenches", to);
     for (k = 0; k < r->count; k++) fprintf(to, "%s %u", k > 0 ? "," : "", r->row[k]);
-    detour_stops(&stops, r->stop, r->count + 1);
+    detour_stops(&stops, t, r->stop, r->count + 1);
     fprintf(to, " (%s).\n", stops.text);
 }
 
@@ -186,7 +187,7 @@ void ring_tell(FILE *to, const struct table *t, int all) {
     if (!ring_of(&r, t)) return;
     rings = all || r.rings < SHOWN ? r.rings : SHOWN;
     groups = all || r.groups < SHOWN ? r.groups : SHOWN;
-    for (k = 0; k < rings && ring_nth(&r, t, k); k++) ring_line(to, &r);
+    for (k = 0; k < rings && ring_nth(&r, t, k); k++) ring_line(to, &r, t);
     if (rings < r.rings)
         fprintf(to, "%zu more rings: 'star explain --all' names each.\n", r.rings - rings);
     ring_advice(&words, &r);

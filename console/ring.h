@@ -33,7 +33,7 @@ void ring_count(struct message *to, const struct table *t);
 
 /* 'A ring: trenches 1, 2, 5 (1-2-3-1).' of the ring at hand, and what is to be done about it and
    others; nothing where there is none. */
-void ring_words(struct message *to, const struct ring *r);
+void ring_words(struct message *to, const struct ring *r, const struct table *t);
 void ring_advice(struct message *to, const struct ring *r);
 
 /* 'junctions 1, 2, 3' of one group, and of all: 'Groups of junctions that stand apart: 1, 2, 3; 4.'

@@ -5,8 +5,6 @@
 
 #include "refusal.h"
 
-int stp_opens(struct span text) { return text_is(text_nth(text, 0), "33D32945"); }
-
 /* The line that has a place. */
 static struct place line_of(struct span text, size_t place) {
     const char *at = text.at + place;
@@ -104,7 +102,8 @@ static struct graph graph_of(struct span text, uint64_t wanted, struct span like
 static void refused(struct message *to, const char *file, struct span text,
                     struct star_imported a) {
     struct span none = {NULL, 0}, ends[2];
-    struct graph g = graph_of(text, a.number == STAR_TOO_MANY_ROWS ? KEPT : a.place, none);
+    struct graph g =
+        graph_of(text, a.number == STAR_TOO_MANY_ROWS ? STAR_MAX_ROWS + 1 : a.place, none);
     uint32_t n = 0;
     switch (a.number) {
     case STAR_BAD_EDGE_COUNT:
@@ -123,7 +122,7 @@ static void refused(struct message *to, const char *file, struct span text,
     case STAR_TOO_MANY_ROWS:
         refusal_opens(to, a.number, file, g.wanted.line);
         say(to, "there are %zu E lines; at most %d are taken, and E line %d is this one.", g.rows,
-            STAR_MAX_ROWS, KEPT);
+            STAR_MAX_ROWS, STAR_MAX_ROWS + 1);
         break;
     case STAR_BAD_END:
         refusal_opens(to, a.number, file, g.wanted.line);

@@ -4,9 +4,6 @@
 
 #include "table.h"
 
-/* Whether the text's first word is 33D32945, in either case: then it is an STP text. */
-int stp_opens(struct span text);
-
 /* Reads an STP text into a table without marks. A refusal is told in words, and 0 returned. */
 int stp_read(struct table *t, struct span text, struct message *fault);
 

@@ -9,11 +9,11 @@
 #include "verdict.h"
 
 /* The two junctions that the words name. */
-static int ends_named(const struct options *with, uint32_t end[2]) {
+static int ends_named(const struct table *t, const struct options *with, uint32_t end[2]) {
     int status;
     if (with->count != 2) return misused("two junctions follow the file of", "stretch");
-    status = junction_asked(with->words[0], &end[0]);
-    if (status == 0) status = junction_asked(with->words[1], &end[1]);
+    status = junction_asked(t, with->words[0], &end[0]);
+    if (status == 0) status = junction_asked(t, with->words[1], &end[1]);
     if (status != 0) return status;
     return end[0] == end[1] && end[0] < UINT32_MAX
                ? misused("a stretch joins two different junctions, and both are", with->words[0])
@@ -54,12 +54,19 @@ static void list(FILE *to, const struct table *t, const struct detour *d) {
     struct message words = {{0}, 0};
     char price[FIGURES], sum[FIGURES];
     size_t k;
-    say(&words, "From junction %u to junction %u the plan has ", d->stop[0], d->stop[d->count]);
+    say(&words, "From junction ");
+    say_junction(&words, t, d->stop[0]);
+    say(&words, " to junction ");
+    say_junction(&words, t, d->stop[d->count]);
+    say(&words, " the plan has ");
     say_count(&words, d->count, "trench:\n", "trenches:\n");
     fputs(words.text, to);
-    for (k = 0; k < d->count; k++)
-        fprintf(to, "trench %u: %u-%u, price %s\n", d->row[k], d->stop[k], d->stop[k + 1],
+    for (k = 0; k < d->count; k++) {
+        words.len = 0;
+        detour_stops(&words, t, d->stop + k, 2);
+        fprintf(to, "trench %u: %s, price %s\n", d->row[k], words.text,
                 table_price(price, t, d->row[k]));
+    }
     words.len = 0;
     say(&words, "The way costs %s in all. Its dearest is trench %u, price %s",
         amount_figures(sum, d->sum), d->dearest, table_price(price, t, d->dearest));
@@ -79,13 +86,17 @@ static int refused(struct output *o, const struct options *with, const struct ta
 
 static void stretch_words(FILE *to, const struct table *t, const struct detour *d,
                           struct star_answer a) {
+    struct message words = {{0}, 0};
     char price[FIGURES];
     list(to, t, d);
+    say_junction(&words, t, d->stop[0]);
+    say(&words, " and ");
+    say_junction(&words, t, d->stop[d->count]);
     if (a.kind == STAR_PASSED)
         fprintf(to,
-                "No route between %u and %u over the table's trenches has a dearest trench cheaper "
-                "than %s.\n",
-                d->stop[0], d->stop[d->count], table_price(price, t, d->dearest));
+                "No route between %s over the table's trenches has a dearest trench cheaper than "
+                "%s.\n",
+                words.text, table_price(price, t, d->dearest));
     else
         fprintf(to, "The plan is no cheapest network, so nothing is promised of other routes: "
                     "'star check' names an exchange.\n");
@@ -113,7 +124,7 @@ int command_stretch(struct table *t, const struct options *with, struct output *
     struct star_answer a;
     const char *absent;
     uint32_t end[2];
-    int status = ends_named(with, end);
+    int status = ends_named(t, with, end);
     FILE *to;
     if (status != 0) return status;
     a = table_cst(t);

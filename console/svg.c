@@ -87,14 +87,35 @@ static void trenches(FILE *to, const struct picture *p, const struct layout *l) 
     for (look = 0; look < LOOKS; look++)
         for (i = table_next(t, 0); i <= t->m; i = table_next(t, i)) {
             const struct curve *c = &l->trench[i - 1];
+            struct message ends = {{0}, 0};
             if ((int)picture_look(p, i) != look) continue;
-            fprintf(to,
-                    "<path class=\"%s\" d=\"M%.1f %.1fQ%.1f %.1f %.1f %.1f\"><title>trench %zu: "
-                    "%u-%u, price %s, %s</title></path>\n",
-                    STYLES[look].name, c->from.x, c->from.y, c->bend.x, c->bend.y, c->to.x, c->to.y,
-                    i, t->left[i - 1], t->right[i - 1], table_price(price, t, i),
+            say_ends(&ends, t, i);
+            fprintf(
+                to, "<path class=\"%s\" d=\"M%.1f %.1fQ%.1f %.1f %.1f %.1f\"><title>trench %zu: ",
+                STYLES[look].name, c->from.x, c->from.y, c->bend.x, c->bend.y, c->to.x, c->to.y, i);
+            picture_letters(to, ends.text, ends.len);
+            fprintf(to, ", price %s, %s</title></path>\n", table_price(price, t, i),
                     STYLES[look].says);
         }
+}
+
+void picture_junction(FILE *to, const struct layout *l, const struct table *t, uint32_t v) {
+    struct message name = {{0}, 0}, whole = {{0}, 0};
+    struct point at = l->at[v];
+    fprintf(to, "<circle cx=\"%.1f\" cy=\"%.1f\" r=\"%.0f\"/>", at.x, at.y, l->dot);
+    if (!l->name[v].shown) {
+        fprintf(to, "<text class=\"name\" x=\"%.1f\" y=\"%.1f\">%u</text>", at.x,
+                at.y + l->dot * 0.33, (unsigned)v);
+        return;
+    }
+    layout_name(&name, t, v);
+    say_junction(&whole, t, v);
+    fprintf(to, "<text class=\"place\" x=\"%.1f\" y=\"%.1f\"><title>", at.x,
+            l->name[v].at.y + LABEL_FONT * 0.36);
+    picture_letters(to, whole.text, whole.len);
+    fputs("</title>", to);
+    picture_letters(to, name.text, name.len);
+    fputs("</text>", to);
 }
 
 static void labels(FILE *to, const struct picture *p, const struct layout *l) {
@@ -112,7 +133,7 @@ static void labels(FILE *to, const struct picture *p, const struct layout *l) {
     }
 }
 
-static void head(FILE *to, const char *title, double width, double height, double dot) {
+static void head(FILE *to, const char *title, double width, double height, double dot, int names) {
     int k;
     fprintf(to,
             "<svg xmlns=\"http://www.w3.org/2000/svg\" width=\"%.0f\" height=\"%.0f\" viewBox=\"0 "
@@ -132,9 +153,9 @@ static void head(FILE *to, const char *title, double width, double height, doubl
         "text{font-family:Arial,'Liberation "
         "Sans',sans-serif}.verdict{font-size:14px;font-weight:bold}.key{font-size:12px;fill:#444}"
         ".name{font-size:%.0fpx;text-anchor:middle}.label{font-size:%dpx;text-anchor:middle}"
-        ".marked-label,.out-label,.in-label{font-weight:bold}</style>\n<rect width=\"100%%\" "
+        ".marked-label,.out-label,.in-label{font-weight:bold}%s</style>\n<rect width=\"100%%\" "
         "height=\"100%%\" fill=\"#fff\"/>\n",
-        dot * 0.95, LABEL_FONT);
+        dot * 0.95, LABEL_FONT, names ? PICTURE_NAMES : "");
 }
 
 void picture_svg(FILE *to, const struct picture *p) {
@@ -146,14 +167,13 @@ void picture_svg(FILE *to, const struct picture *p) {
     left_out = picture_place(&l, p);
     y = l.height + LINE;
     wide = l.width - (p->refused ? BESIDE : 0);
-    head(to, words, l.width, verdict(NULL, words, wide, y) + 2 * LINE + (p->refused ? 5 : 0),
-         l.dot);
+    head(to, words, l.width, verdict(NULL, words, wide, y) + 2 * LINE + (p->refused ? 5 : 0), l.dot,
+         p->t->names > 0);
     trenches(to, p, &l);
     labels(to, p, &l);
     for (v = 1; v <= p->t->n; v++) {
-        fprintf(to, "<circle cx=\"%.1f\" cy=\"%.1f\" r=\"%.0f\"/>", l.at[v].x, l.at[v].y, l.dot);
-        fprintf(to, "<text class=\"name\" x=\"%.1f\" y=\"%.1f\">%u</text>\n", l.at[v].x,
-                l.at[v].y + l.dot * 0.33, (unsigned)v);
+        picture_junction(to, &l, p->t, v);
+        putc('\n', to);
     }
     if (p->refused)
         fprintf(to, "<rect class=\"refused\" x=\"5\" y=\"%.0f\" width=\"%.0f\" height=\"%.0f\"/>\n",

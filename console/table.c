@@ -1,123 +1,125 @@
-/* Reads and writes the planner's table. Words are parted by blanks; what follows # is a comment;
-   empty lines do not count. A line that opens with 'struck' has a trench that is left out of
-   everything and keeps its number. */
+/* Reads the planner's table through star_read_table, and keeps where in the text each trench
+   stands. */
 #include "table.h"
 
 #include <inttypes.h>
+#include <stdlib.h>
 #include <string.h>
 
-enum { MIN_WORDS = 3, MAX_WORDS = 4 };
+#include "fields.h"
+#include "refusal.h"
+#include "status.h"
+#include "wrong.h"
 
-/* The lines that cannot stand which are told; the others are counted. */
+/* The lines that cannot stand which are told. */
 enum { TOLD = 20 };
 
-static int has(struct span s, char c) { return s.len > 0 && memchr(s.at, c, s.len) != NULL; }
+static struct reading r;
 
-/* The line without its comment and the blanks around it. */
-static struct span content(struct span line) {
-    const char *end = line.len > 0 ? memchr(line.at, '#', line.len) : NULL;
-    if (end) line.len = (size_t)(end - line.at);
-    while (line.len > 0 && (line.at[0] == ' ' || line.at[0] == '\t')) {
-        line.at++;
-        line.len--;
-    }
-    while (line.len > 0 && (line.at[line.len - 1] == ' ' || line.at[line.len - 1] == '\t'))
-        line.len--;
-    return line;
-}
-
-/* Says what is wrong with a line, with the piece of it that is meant; nothing where there is no
-   message. */
-static int wrong(struct message *fault, struct span line, struct span piece, const char *what) {
-    if (!fault) return 0;
-    say_quoted(fault, piece);
-    say(fault, " %s", what);
-    if (has(line, ',') || has(line, ';'))
-        say(fault, "; words are parted by blanks, not by commas or semicolons");
-    return 0;
-}
-
-static uint8_t byte_or(uint32_t x, uint8_t otherwise) {
-    return x > UINT8_MAX ? otherwise : (uint8_t)x;
-}
-
-/* One trench: two junctions, a price, and a mark or none. The junctions that a struck one names are
-   junctions still, so that striking does not change how many there are; one that is none is not
-   counted. */
-static int trench(struct table *t, struct place at, int struck, struct message *fault) {
-    struct span words[MAX_WORDS + 1], rest = at.text;
-    uint32_t end[2], mark = 0;
-    uint8_t price[PRICE_BYTES];
-    int count = 0, i;
-    if (struck) text_word(&rest, &words[0]);
-    while (count <= MAX_WORDS && text_word(&rest, &words[count])) count++;
-    if (count < MIN_WORDS || count > MAX_WORDS)
-        return wrong(fault, at.text, at.text,
-                     "is not a trench, which has two junctions, a price and a mark");
-    for (i = 0; i < 2; i++)
-        if (!text_number(words[i], &end[i]))
-            return wrong(fault, at.text, words[i], "is not a junction, a number from 1 to 255");
-    if (!price_read(words[2], price))
-        return wrong(fault, at.text, words[2], "is not a price, " PRICE_TEXT);
-    if (count == MAX_WORDS && !text_number(words[3], &mark))
-        return wrong(fault, at.text, words[3], "is not a mark, 0 or 1");
-    for (i = 0; i < 2; i++)
-        if (!t->told && end[i] > t->n && !(struck && end[i] > STAR_MAX_JUNCTIONS)) {
-            t->n = end[i];
-            t->count.line = at.line;
-            t->count.text = words[i];
-        }
-    t->strikes += (size_t)struck;
-    if (t->m++ >= KEPT) return 1;
-    t->left[t->m - 1] = byte_or(end[0], 0);
-    t->right[t->m - 1] = byte_or(end[1], 0);
-    memcpy(t->weight + PRICE_BYTES * (t->m - 1), price, PRICE_BYTES);
-    t->mark[t->m - 1] = struck ? 0 : byte_or(mark, UINT8_MAX);
-    t->struck[t->m - 1] = (uint8_t)struck;
-    t->row[t->m - 1] = at;
-    return 1;
-}
-
-/* The line 'junctions N'. */
-static int junctions(struct table *t, struct place at, struct message *fault) {
-    struct span number = text_nth(at.text, 1);
-    if (t->told) return wrong(fault, at.text, at.text, "is a second line 'junctions N'");
-    if (text_nth(at.text, 2).len > 0 || !text_number(number, &t->n))
-        return wrong(fault, at.text, at.text, "is not a line 'junctions N', N a number");
+/* The line 'junctions N', which the reader has found to be one. */
+static void take_count(struct table *t, struct place at) {
+    struct fields f = fields_of(at.text);
+    if (!text_is(f.bare[0], "JUNCTIONS")) return;
     t->told = 1;
     t->count.line = at.line;
-    t->count.text = number;
-    return 1;
+    t->count.text = f.bare[1];
 }
 
-/* One line that is not empty. */
-static int line_read(struct table *t, struct place at, struct message *fault) {
-    struct span first = text_nth(at.text, 0);
-    if (has(at.text, '\0')) return wrong(fault, at.text, at.text, "has a zero byte");
-    if (text_is(first, "JUNCTIONS")) return junctions(t, at, fault);
-    return trench(t, at, text_is(first, "STRUCK"), fault);
-}
-
-int table_read(struct table *t, struct span text, struct message *fault) {
-    struct message words;
+/* Where the trenches and the line 'junctions N' stand. */
+static void locate(struct table *t) {
+    struct span rest = t->text;
     struct place at = {0, {NULL, 0}};
-    size_t faults = 0;
-    while (text_line(&text, &at.text)) {
+    size_t i = 0;
+    while (text_line(&rest, &at.text)) {
+        size_t place = (size_t)(at.text.at - t->text.at) + t->order_mark;
+        int trench = i < t->m && r.row_at[i] < place + at.text.len;
         at.line++;
-        at.text = content(at.text);
-        words.len = 0;
-        if (at.text.len == 0 || line_read(t, at, faults < TOLD ? &words : NULL)) continue;
-        if (++faults > TOLD) continue;
-        if (faults > 1) say(fault, "\n");
-        say_place(fault, t->file, at.line);
-        say(fault, "%s", words.text);
+        at.text = fields_content(at.text);
+        if (trench) t->row[i++] = at;
+        else if (at.text.len > 0) take_count(t, at);
     }
-    if (faults > TOLD) {
+}
+
+/* The first trench that names the largest junction, where no line says how many there are. */
+static void largest(struct table *t) {
+    size_t i;
+    for (i = 0; i < t->m && t->left[i] != t->n && t->right[i] != t->n;) i++;
+    if (i == t->m) return;
+    t->count.line = t->row[i].line;
+    t->count.text = fields_of(t->row[i].text).bare[t->struck[i] + (t->left[i] != t->n)];
+}
+
+/* Takes what the door has read from the file's bytes. */
+static void take(struct table *t, const char *bytes) {
+    size_t i;
+    t->n = r.file.n;
+    t->m = r.file.m;
+    t->names = r.file.names;
+    memcpy(t->left, r.left, sizeof t->left);
+    memcpy(t->right, r.right, sizeof t->right);
+    memcpy(t->weight, r.weight, sizeof t->weight);
+    memcpy(t->mark, r.mark, sizeof t->mark);
+    memcpy(t->filed, r.mark, sizeof t->filed);
+    for (i = 0; i < t->m; i++) {
+        t->struck[i] = (uint8_t)!star_in_use(r.in_use, i + 1);
+        t->strikes += t->struck[i];
+    }
+    for (i = 0; i < t->names; i++) {
+        t->name[i].at = bytes + r.name_from[i];
+        t->name[i].len = r.name_to[i] - r.name_from[i];
+    }
+    locate(t);
+    if (!t->told && t->names == 0) largest(t);
+}
+
+/* Whether a refusal is about one line, so that what follows it can be read on. */
+static int of_line(struct star_file f) {
+    return f.kind == STAR_REFUSED && f.number >= STAR_NOT_TRENCH && f.number <= STAR_MIXED_NAMES;
+}
+
+static void tell(struct message *fault, const struct table *t, struct span text) {
+    size_t line = (size_t)star_line_of((const uint8_t *)text.at, text.len, r.file.place);
+    struct star_file f = r.file;
+    if (fault->len > 0) say(fault, "\n");
+    if (of_line(f)) say_place(fault, t->file, line);
+    else refusal_opens(fault, f.number, t->file, line);
+    wrong_words(fault, text, f);
+}
+
+/* Tells each line that cannot stand, and reads on without it: its bytes are blanks then, so that
+   all places stay. */
+static int tell_lines(struct table *t, struct span text, struct message *fault) {
+    char *left = malloc(text.len);
+    struct span rest = {left, text.len}, line;
+    size_t told;
+    if (!left) {
+        tell(fault, t, text);
+        return EXIT_UNREADABLE;
+    }
+    memcpy(left, text.at, text.len);
+    for (told = 0; of_line(r.file) && told < TOLD; told++) {
+        line = wrong_line(rest, r.file.place);
+        tell(fault, t, rest);
+        memset(left + (line.at - left), ' ', line.len);
+        reading_of(&r, left, text.len);
+    }
+    if (of_line(r.file)) {
         say(fault, "\n");
         say_place(fault, t->file, 0);
-        say_count(fault, faults - TOLD, "more line cannot stand", "more lines cannot stand");
-    }
-    return faults == 0;
+        say(fault, "more lines cannot stand");
+    } else if (r.file.kind == STAR_REFUSED) tell(fault, t, rest);
+    free(left);
+    return EXIT_UNREADABLE;
+}
+
+int table_read(struct table *t, struct message *fault) {
+    struct span text = {t->text.at - t->order_mark, t->text.len + t->order_mark};
+    reading_of(&r, text.at, text.len);
+    if (of_line(r.file)) return tell_lines(t, text, fault);
+    if (r.file.kind == STAR_PASSED) take(t, text.at);
+    else tell(fault, t, text);
+    if (r.file.kind == STAR_REFUSED) t->refused = r.file;
+    return r.file.kind == STAR_PASSED ? 0 : EXIT_REFUSED;
 }
 
 void table_write(FILE *to, const struct table *t) {
@@ -129,18 +131,16 @@ void table_write(FILE *to, const struct table *t) {
                 t->mark[i - 1]);
 }
 
-static size_t kept(const struct table *t) { return t->m < KEPT ? t->m : KEPT; }
-
 size_t table_next(const struct table *t, size_t i) {
     do i++;
-    while (i <= kept(t) && t->struck[i - 1]);
+    while (i <= t->m && t->struck[i - 1]);
     return i;
 }
 
 uint32_t table_unnamed(const struct table *t, uint32_t from) {
     uint8_t named[STAR_MAX_JUNCTIONS + 1] = {0};
     size_t i;
-    for (i = table_next(t, 0); i <= kept(t); i = table_next(t, i))
+    for (i = table_next(t, 0); i <= t->m; i = table_next(t, i))
         named[t->left[i - 1]] = named[t->right[i - 1]] = 1;
     while (from <= t->n && from <= STAR_MAX_JUNCTIONS && named[from]) from++;
     return from <= t->n && from <= STAR_MAX_JUNCTIONS ? from : 0;
@@ -152,23 +152,38 @@ int64_t table_list(FILE *to, const struct table *t, const uint8_t *mark, size_t 
     char price[FIGURES];
     int64_t total = 0;
     size_t i;
-    for (i = table_next(t, from - 1); i <= last && i <= kept(t); i = table_next(t, i))
+    for (i = table_next(t, from - 1); i <= last && i <= t->m; i = table_next(t, i))
         if (mark[i - 1] == 1) {
-            fprintf(to, "trench %zu: %u-%u, price %s\n", i, t->left[i - 1], t->right[i - 1],
-                    table_price(price, t, i));
+            struct message ends = {{0}, 0};
+            say_ends(&ends, t, i);
+            fprintf(to, "trench %zu: %s, price %s\n", i, ends.text, table_price(price, t, i));
             total += table_cost(t, i);
         }
     return total;
 }
 
-void table_junctions(struct message *to, const struct table *t) {
-    if (t->n == UINT32_MAX) say_word(to, t->count.text);
-    else say(to, "%" PRIu32, t->n);
+void say_junction(struct message *to, const struct table *t, uint32_t v) {
+    if (v >= 1 && v <= t->names) say_word(to, t->name[v - 1]);
+    else say(to, "%" PRIu32, v);
+}
+
+void say_ends(struct message *to, const struct table *t, size_t i) {
+    say_junction(to, t, t->left[i - 1]);
+    say(to, t->names > 0 ? " - " : "-");
+    say_junction(to, t, t->right[i - 1]);
+}
+
+uint32_t table_named(const struct table *t, struct span name) {
+    uint32_t v;
+    for (v = 1; v <= t->names; v++)
+        if (t->name[v - 1].len == name.len && memcmp(t->name[v - 1].at, name.at, name.len) == 0)
+            return v;
+    return 0;
 }
 
 size_t table_marks(const struct table *t) {
     size_t i, marks = 0;
-    for (i = 0; i < kept(t); i++) marks += t->mark[i] == 1;
+    for (i = 0; i < t->m; i++) marks += t->mark[i] == 1;
     return marks;
 }
 

@@ -8,43 +8,36 @@
 #include "star.h"
 #include "text.h"
 
-/* Trenches that are kept: one more than are taken, so that the door sees that there are too
-   many. */
-enum { KEPT = STAR_MAX_ROWS + 1 };
-
 /* The numbers of the longest list of steps. */
 enum { RECORDS = 2 * STAR_MAX_ROWS };
 
-/* A trench that is entered. */
-struct trench {
-    uint8_t left, right, price[PRICE_BYTES];
-};
-
 struct table {
-    const char *file;   /* the file's name, for messages; NULL for none */
-    uint32_t n;         /* junctions */
-    size_t m;           /* trenches in the file; those after the first KEPT are counted and not
-                           kept */
-    uint8_t left[KEPT]; /* a junction above 255 is stored as 0, which the door refuses */
-    uint8_t right[KEPT];
-    uint8_t weight[PRICE_BYTES * KEPT];
-    uint8_t mark[KEPT]; /* a mark above 255 is stored as 255, which the door refuses; 0 at a struck
-                           trench */
-    uint8_t struck[KEPT]; /* whether the trench is struck: then it keeps its number and is left out
-                             of everything */
-    size_t strikes;       /* struck trenches in the file */
-    struct place row[KEPT]; /* the line of each trench, without its comment */
+    const char *file; /* the file's name, for messages; NULL for none */
+    uint32_t n;       /* junctions */
+    size_t m;         /* trenches */
+    uint8_t left[STAR_MAX_ROWS], right[STAR_MAX_ROWS];
+    uint8_t weight[PRICE_BYTES * STAR_MAX_ROWS];
+    uint8_t mark[STAR_MAX_ROWS];     /* 0 at a struck trench */
+    uint8_t filed[STAR_MAX_ROWS];    /* the marks as the file has them */
+    uint8_t struck[STAR_MAX_ROWS];   /* whether the trench is struck: then it keeps its number and
+                                        is left out of everything */
+    size_t strikes;                  /* struck trenches */
+    struct place row[STAR_MAX_ROWS]; /* the line of each trench, without its comment */
     struct place count; /* the number in the line 'junctions N', else the largest junction named;
                            line 0 if there is neither */
     int told;           /* whether a line 'junctions N' stands in the file */
-    struct span text;   /* the file, for the commands that change it or hand it to a door */
-    size_t order_mark;  /* the bytes of a byte order mark, which stand before the text */
-    int stp;            /* whether the file is an STP text */
+    size_t names;       /* names of junctions, 0 where they are numbers */
+    struct span name[STAR_MAX_NAMES]; /* junction v at index v - 1 */
+    struct span text;         /* the file, for the commands that change it or hand it to a door */
+    size_t order_mark;        /* the bytes of a byte order mark, which stand before the text */
+    int stp;                  /* whether the file is an STP text */
+    struct star_file refused; /* what star_read_table answered where it refused the file */
 };
 
-/* Reads the planner's table. Where lines cannot stand it says what is wrong with each of the first
-   twenty and how many more there are, and returns 0. */
-int table_read(struct table *t, struct span text, struct message *fault);
+/* Reads the planner's table that is the table's text, by star_read_table. Where lines cannot stand
+   it says what is wrong with each of the first twenty, and that there are more. Gives a status of
+   status.h: 0 if all is well, EXIT_REFUSED for too many trenches or names. */
+int table_read(struct table *t, struct message *fault);
 
 /* Writes a table that was read from an STP file as one that table_read takes. */
 void table_write(FILE *to, const struct table *t);
@@ -61,6 +54,18 @@ uint32_t table_unnamed(const struct table *t, uint32_t from);
 struct star_answer table_cst(const struct table *t);
 struct star_answer table_other(const struct table *t);
 struct star_answer table_mst1(struct table *t);
+
+/* The exchange of two trenches of a plan that saves most, and the least total. */
+struct best {
+    struct star_answer answer;
+    int64_t least;
+};
+struct best table_best(const struct table *t);
+
+/* What is said of a plan: star_cst's answer, with star_best's exchange where a cheaper set
+   exists. */
+struct star_answer table_judged(const struct table *t);
+
 struct star_answer table_paths(const struct table *t, uint32_t from, uint64_t *matrix,
                                size_t words);
 struct star_quoted table_quote(const struct table *t, size_t i, const uint8_t price[PRICE_BYTES]);
@@ -77,8 +82,8 @@ struct star_answer table_plan_digs(const struct table *t, uint8_t *text, size_t 
    marks. The trench that each one is best exchanged with, 0 for none, of a plan that is a
    network. */
 struct star_answer table_groups(const struct table *t, uint8_t groups[STAR_MAX_JUNCTIONS],
-                                uint8_t rings[KEPT]);
-struct star_answer table_detours(const struct table *t, uint32_t rows[KEPT]);
+                                uint8_t rings[STAR_MAX_ROWS]);
+struct star_answer table_detours(const struct table *t, uint32_t rows[STAR_MAX_ROWS]);
 
 /* Which of two marked tables costs less: 1 the first, 2 the second, 0 none where one is refused.
    They are the same but for their marks. */
@@ -91,22 +96,28 @@ int64_t table_plan_total(const struct table *t);
    given by the numbers of their last trenches, with the trenches of each in forests; of any marks,
    with the steps; with exactly `count` trenches at a junction. */
 struct star_answer table_districts(struct table *t, const uint32_t *ends, size_t count,
-                                   uint8_t forests[KEPT]);
+                                   uint8_t forests[STAR_MAX_ROWS]);
 struct star_answer table_mend(struct table *t, struct star_record records[RECORDS]);
 struct star_answer table_outlets(struct table *t, uint32_t junction, uint32_t count);
 
 /* The doors that change a table, over a copy of it: numbers has 1,024. A struck trench is
-   remembered in the table. */
+   remembered in the table. An addition is asked for the place of the new trench, whatever its
+   ends and price. */
 struct star_answer table_strike(struct table *t, size_t i);
-struct star_answer table_add(const struct table *t, const struct trench *new, uint32_t *numbers);
+struct star_answer table_add(const struct table *t, uint32_t *numbers);
 struct star_answer table_merge(const struct table *t, uint32_t *numbers);
 
 /* Writes a line for each trench in use from one number to another that is marked 1 in a column, and
    gives the sum of their prices. */
 int64_t table_list(FILE *to, const struct table *t, const uint8_t *mark, size_t from, size_t last);
 
-/* Says the number of junctions; one that is above all that are read as it stands in the file. */
-void table_junctions(struct message *to, const struct table *t);
+/* Says a junction as the file has it, its name, cut where it is long, or its number; and the ends
+   of trench i: '1-2', 'Rathaus - Markt'. */
+void say_junction(struct message *to, const struct table *t, uint32_t v);
+void say_ends(struct message *to, const struct table *t, size_t i);
+
+/* The junction of a name; 0 where there is none. */
+uint32_t table_named(const struct table *t, struct span name);
 
 /* The number of marked trenches. */
 size_t table_marks(const struct table *t);

@@ -81,13 +81,44 @@ void say_place(struct message *to, const char *file, size_t line) {
     say(to, " ");
 }
 
+/* The bytes that a letter in UTF-8 has by its first one; 0 where no letter opens so. */
+static size_t letter_opened(unsigned char first) {
+    if (first < 0x80) return 1;
+    if (first >= 0xc2 && first < 0xe0) return 2;
+    if (first >= 0xe0 && first < 0xf0) return 3;
+    return first >= 0xf0 && first < 0xf5 ? 4 : 0;
+}
+
+size_t text_letter(struct span s) {
+    const unsigned char *at = (const unsigned char *)s.at;
+    size_t len = s.len > 0 ? letter_opened(at[0]) : 0, k;
+    if (len > s.len) return 0;
+    for (k = 1; k < len; k++)
+        if (at[k] < 0x80 || at[k] > 0xbf) return 0;
+    if (len > 1 && ((at[0] == 0xe0 && at[1] < 0xa0) || (at[0] == 0xed && at[1] > 0x9f))) return 0;
+    if (len > 1 && ((at[0] == 0xf0 && at[1] < 0x90) || (at[0] == 0xf4 && at[1] > 0x8f))) return 0;
+    return len;
+}
+
+/* Whether a letter can be printed: none that controls a terminal. */
+static int printed(const char *at, size_t len) {
+    unsigned char first = (unsigned char)at[0];
+    if (len == 1) return first >= ' ' && first < 127;
+    return len > 1 && !(first == 0xc2 && (unsigned char)at[1] < 0xa0);
+}
+
 void say_word(struct message *to, struct span s) {
-    size_t k;
-    for (k = 0; k < s.len && k < QUOTED; k++)
-        if ((s.at[k] >= ' ' && s.at[k] < 127) || s.at[k] == '\t')
-            say(to, "%c", s.at[k] == '\t' ? ' ' : s.at[k]);
-        else say(to, "\\x%02x", (unsigned)(unsigned char)s.at[k]);
-    if (k < s.len) say(to, "..");
+    size_t shown = 0, len;
+    for (; s.len > 0 && shown < QUOTED; shown++, s.at += len, s.len -= len) {
+        len = text_letter(s);
+        if (s.at[0] == '\t') say(to, " ");
+        else if (printed(s.at, len)) say(to, "%.*s", (int)len, s.at);
+        else {
+            len = 1;
+            say(to, "\\x%02x", (unsigned)(unsigned char)s.at[0]);
+        }
+    }
+    if (s.len > 0) say(to, "..");
 }
 
 void say_quoted(struct message *to, struct span s) {

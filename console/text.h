@@ -32,6 +32,10 @@ int text_is(struct span word, const char *name);
 /* A decimal number, digits alone; 0 if the word is none. Above 4294967295 it is taken as that. */
 int text_number(struct span word, uint32_t *value);
 
+/* The bytes of a letter in UTF-8 that stands at the front of a text; 0 where none does: also where
+   it could be shorter, is half of a pair, or is above the last letter. */
+size_t text_letter(struct span s);
+
 /* A message that is put together; what does not fit is left out. The longest tells of twenty lines
    of a file. */
 enum { MESSAGE = 16384 };
@@ -45,7 +49,7 @@ void say(struct message *to, const char *format, ...);
 /* 'FILE:LINE: ', or 'FILE: ' for line 0; nothing where there is no name. */
 void say_place(struct message *to, const char *file, size_t line);
 
-/* A piece of a text, cut after 40 bytes; bytes that cannot be printed stand as \xNN. Quoted: in
+/* A piece of a text, cut after 40 letters; bytes that cannot be printed stand as \xNN. Quoted: in
    quotation marks. */
 void say_word(struct message *to, struct span s);
 void say_quoted(struct message *to, struct span s);

@@ -6,8 +6,9 @@
 
 void say_trench(struct message *to, const struct table *t, size_t i) {
     char price[FIGURES];
-    say(to, "trench %zu (%u-%u, price %s)", i, t->left[i - 1], t->right[i - 1],
-        table_price(price, t, i));
+    say(to, "trench %zu (", i);
+    say_ends(to, t, i);
+    say(to, ", price %s)", table_price(price, t, i));
 }
 
 struct totals verdict_totals(const struct table *t, struct star_answer a) {
@@ -20,7 +21,7 @@ struct totals verdict_totals(const struct table *t, struct star_answer a) {
         other.mark[a.in - 1] = 1;
     }
     totals.after = table_plan_total(&other);
-    totals.least = table_mst1(&other).amount;
+    totals.least = table_best(t).least;
     return totals;
 }
 
@@ -69,7 +70,7 @@ void verdict_gap(struct message *to, const struct table *t, struct star_answer a
     totals = verdict_totals(t, a);
     say(to, "At most %s is saved", amount_figures(most, totals.plan - totals.least));
     if (totals.after == totals.least) say(to, ", and this exchange saves all of it.");
-    else say(to, "; this exchange is the first one found, and does not save all of it.");
+    else say(to, "; no exchange of one trench for another saves more than this one.");
 }
 
 void verdict_next(struct message *to, const struct table *t, struct star_answer a) {

@@ -1,11 +1,11 @@
-/* What check says of a plan: the answers of star_cst, star_other, star_which and star_mst1 in
+/* What check says of a plan: the answers of star_cst, star_other, star_best and star_total in
    words. */
 #ifndef CONSOLE_VERDICT_H
 #define CONSOLE_VERDICT_H
 
 #include "json.h"
 
-/* 'trench 1 (1-2, price 5)'. */
+/* 'trench 1 (1-2, price 5)', 'trench 4 (Rathaus - Markt, price 5)'. */
 void say_trench(struct message *to, const struct table *t, size_t i);
 
 /* The totals of a plan with a cheaper set: its own, that after the exchange, and the least. A door
@@ -14,7 +14,7 @@ struct totals {
     int64_t plan, after, least;
 };
 
-/* a is what star_cst answered. */
+/* a is what table_judged answered. */
 struct totals verdict_totals(const struct table *t, struct star_answer a);
 
 /* The verdict, a line or more, without an end of line after the last; every number in it is a

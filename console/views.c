@@ -58,12 +58,11 @@ void drawing_define(FILE *to, const struct drawing *g) {
                 c->from.x, c->from.y, c->bend.x, c->bend.y, c->to.x, c->to.y);
     }
     fprintf(to, "</g>\n<g id=\"%s-tops\">\n", g->id);
-    for (v = 1; v <= g->t->n; v++)
-        fprintf(to,
-                "<g id=\"%s-j%u\"><circle cx=\"%.1f\" cy=\"%.1f\" r=\"%.0f\"/><text class=\"name\" "
-                "x=\"%.1f\" y=\"%.1f\">%u</text></g>\n",
-                g->id, (unsigned)v, g->l.at[v].x, g->l.at[v].y, g->l.dot, g->l.at[v].x,
-                g->l.at[v].y + g->l.dot * 0.33, (unsigned)v);
+    for (v = 1; v <= g->t->n; v++) {
+        fprintf(to, "<g id=\"%s-j%u\">", g->id, (unsigned)v);
+        picture_junction(to, &g->l, g->t, v);
+        fputs("</g>\n", to);
+    }
     define_labels(to, g);
     fprintf(to, "</g>\n");
 }

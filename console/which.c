@@ -11,15 +11,24 @@
 #include "usage.h"
 #include "verdict.h"
 
+/* Whether two tables mean the same junction: by its name where it has one. */
+static int same_junction(const struct table *one, uint8_t v, const struct table *other, uint8_t w) {
+    if (v > one->names && w > other->names) return v == w;
+    return v <= one->names && table_named(other, one->name[v - 1]) == w;
+}
+
 /* Whether two tables have the same trench i, its ends in either direction. What stands in a struck
    one does not matter. */
 static int same_trench(const struct table *one, const struct table *other, size_t i) {
     size_t k = i - 1;
+    uint8_t left = other->left[k], right = other->right[k];
     if (one->struck[k] || other->struck[k]) return one->struck[k] && other->struck[k];
     if (memcmp(one->weight + PRICE_BYTES * k, other->weight + PRICE_BYTES * k, PRICE_BYTES) != 0)
         return 0;
-    return (one->left[k] == other->left[k] && one->right[k] == other->right[k]) ||
-           (one->left[k] == other->right[k] && one->right[k] == other->left[k]);
+    return (same_junction(one, one->left[k], other, left) &&
+            same_junction(one, one->right[k], other, right)) ||
+           (same_junction(one, one->left[k], other, right) &&
+            same_junction(one, one->right[k], other, left));
 }
 
 /* 'FILE:LINE: trench 4 (1-4, price 4)'. */
@@ -32,8 +41,7 @@ static void say_line(struct message *to, const struct table *t, size_t i) {
 /* 'FILE:LINE: 5 junctions'. */
 static void say_junctions(struct message *to, const struct table *t) {
     say_place(to, t->file, t->count.line);
-    table_junctions(to, t);
-    say(to, t->n == 1 ? " junction" : " junctions");
+    say_count(to, t->n, "junction", "junctions");
 }
 
 /* 'FILE: 5 trenches'. */
@@ -46,8 +54,7 @@ static void say_trenches(struct message *to, const struct table *t) {
 static int differ(struct message *to, const struct table *first, const struct table *second) {
     void (*say_size)(struct message *, const struct table *) =
         first->m == second->m ? say_junctions : say_trenches;
-    size_t i, m = first->m < KEPT ? first->m : KEPT;
-    if (second->m < m) m = second->m;
+    size_t i, m = first->m < second->m ? first->m : second->m;
     for (i = 1; i <= m; i++)
         if (!same_trench(first, second, i)) {
             say(to, "The two tables are not the same:\n");

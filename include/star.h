@@ -809,20 +809,19 @@ struct star_answer star_table_groups(const struct star_table *t, uint8_t *groups
 struct star_answer star_table_paths(const struct star_table *t, uint32_t from, uint64_t *matrix);
 
 /* Reads a table from a text: an STP text as star_import does, then no row is marked; or a planner's
- * table as the console reads it, by the same C code, with marks and struck rows. One whose first
- * word is 33D32945 is an STP text. A refusal leaves the table as it was. It is one of star_import;
- * of a planner's table 12, with the first byte of the first line that cannot stand, or 2, and what
- * else is wrong with its rows is told by the next call that looks at them. The calling thread has
- * 1,440 KiB of stack left. */
+ * table as star_read_table does, with marks and struck rows; its names are left out. One whose
+ * first word is 33D32945 is an STP text. A refusal leaves the table as it was. It is one of
+ * star_import or of star_read_table, with its place; what else is wrong with a planner's rows is
+ * told by the next call that looks at them. The calling thread has 1,440 KiB of stack left. */
 struct star_imported star_table_read(struct star_table *t, const char *text, size_t len);
 
 /* The room that the text of star_table_write needs at most. */
 enum { STAR_MAX_TABLE_TEXT = 32768 };
 
-/* Writes the table as the text that the console reads: 'junctions N', then a line a row, its two
- * junctions, price and mark; one that was struck opens with 'struck'. Returns the bytes of the
- * text; where that is below size, all of it is written with a zero byte behind it, else nothing
- * is. */
+/* Writes the table as a text that star_table_read reads, unless a row has an end or a mark that no
+ * file can have: 'junctions N', then a line a row, its two junctions, price and mark; one that was
+ * struck opens with 'struck'. Returns the bytes of the text; where that is below size, all of it is
+ * written with a zero byte behind it, else nothing is. */
 size_t star_table_write(const struct star_table *t, char *text, size_t size);
 
 #ifdef __cplusplus

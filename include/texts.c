@@ -1,78 +1,51 @@
-/* Tables with all that belongs to them, from and to texts. An STP text is the door's to judge, a
-   planner's table is read by the console's own reader, and its text is written here. */
+/* Tables with all that belongs to them, from and to texts. A planner's table is read by
+   star_read_table and an STP text by star_import; a table's text is written here. */
 #include <inttypes.h>
 #include <stdio.h>
 #include <string.h>
 
-#include "../console/table.h"
 #include "lent.h"
+#include "reading.h"
 
 /* An STP text. */
-static struct star_imported import(struct star_table *t, struct span text) {
+static struct star_imported import(struct star_table *t, const char *text, size_t len) {
     uint8_t answer[STAR_ANSWER_BYTES];
     struct star_imported i;
     size_t row;
-    star_import((const uint8_t *)text.at, text.len, COLUMNS(t), ANSWER(answer));
+    star_import((const uint8_t *)text, len, COLUMNS(t), ANSWER(answer));
     i = star_read_imported(answer);
     t->n = i.n;
     for (row = 1; row <= i.m; row++) star_set_in_use(t->in_use, row, 1);
     return i;
 }
 
-static struct star_imported refused(unsigned number, size_t place) {
-    struct star_imported i = {STAR_REFUSED, 0, 0, 0, 0};
-    i.number = number;
-    i.place = place;
+/* A planner's table. */
+static struct star_imported read_file(struct star_table *t, const char *text, size_t len) {
+    struct reading r;
+    struct star_imported i;
+    reading_of(&r, text, len);
+    i.kind = r.file.kind;
+    i.number = r.file.number;
+    i.n = t->n = r.file.n;
+    i.m = r.file.m;
+    i.place = r.file.place;
+    memcpy(t->in_use, r.in_use, sizeof t->in_use);
+    memcpy(t->left, r.left, sizeof t->left);
+    memcpy(t->right, r.right, sizeof t->right);
+    memcpy(t->weight, r.weight, sizeof t->weight);
+    memcpy(t->mark, r.mark, sizeof t->mark);
     return i;
-}
-
-/* The rows that the console's reader has found. */
-static void take(struct star_table *t, const struct table *from) {
-    size_t row;
-    t->n = from->n;
-    memcpy(t->left, from->left, sizeof t->left);
-    memcpy(t->right, from->right, sizeof t->right);
-    memcpy(t->weight, from->weight, sizeof t->weight);
-    memcpy(t->mark, from->mark, sizeof t->mark);
-    for (row = 1; row <= from->m; row++) star_set_in_use(t->in_use, row, !from->struck[row - 1]);
-}
-
-/* A planner's table, by the console's reader, a line at a time: the place of a refusal is where the
-   first line begins that cannot stand. */
-static struct star_imported read_lines(struct star_table *t, struct span text) {
-    struct star_imported i = {STAR_PASSED, 0, 0, 0, 0};
-    struct table found;
-    struct span rest = text, line;
-    struct message fault = {{0}, 0};
-    memset(&found, 0, sizeof found);
-    while (text_line(&rest, &line)) {
-        size_t place = (size_t)(line.at - text.at);
-        if (!table_read(&found, line, &fault)) return refused(STAR_BAD_TEXT, place);
-    }
-    if (found.m > STAR_MAX_ROWS) return refused(STAR_TOO_MANY_ROWS, 0);
-    take(t, &found);
-    i.n = found.n;
-    i.m = (unsigned)found.m;
-    return i;
-}
-
-/* The bytes of a byte order mark that a text opens with. */
-static size_t order_mark(struct span text) {
-    return text.len >= 3 && memcmp(text.at, "\xef\xbb\xbf", 3) == 0 ? 3 : 0;
 }
 
 struct star_imported star_table_read(struct star_table *t, const char *text, size_t len) {
-    struct span all = {text, len};
+    size_t skipped = reading_order_mark(text, len);
     struct star_table read;
     struct star_imported i;
-    size_t skipped = order_mark(all);
-    if (len > STAR_MAX_TEXT) return refused(STAR_BAD_TEXT, STAR_MAX_TEXT);
-    all.at += skipped;
-    all.len -= skipped;
+    int stp = reading_is_stp(text + skipped, len - skipped);
     star_table_init(&read, 0);
-    i = text_is(text_nth(all, 0), "33D32945") ? import(&read, all) : read_lines(&read, all);
+    i = stp ? import(&read, text + skipped, len - skipped) : read_file(&read, text, len);
     if (i.kind == STAR_PASSED) *t = read;
-    else if (i.number == STAR_BAD_TEXT) i.place += skipped;
+    else if (stp && i.number == STAR_BAD_TEXT) i.place += skipped;
     return i;
 }
 

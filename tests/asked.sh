@@ -30,7 +30,7 @@ try quote-price 4 "a price is a whole number from -2147483648 to 2147483647, and
 try quote-price-word 4 "a price is .*, and not '4.50'" '' quote $yard 4 4.50
 try quote-price-below 4 "a price is .*, and not '-2147483649'" '' quote $yard 4 -2147483649
 try quote-minus 4 "unknown option '-x'" '' quote $yard 4 -x
-try which-large 3 'standard input:1: 5000000000 junctions$' 'junctions 5000000000\n1 2 5 0\n2 3 3 1\n3 4 5 1\n1 4 4 1\n1 3 6 0\n' which - $yard
+try which-large 3 'standard input:1: 4000000000 junctions$' 'junctions 4000000000\n1 2 5 0\n2 3 3 1\n3 4 5 1\n1 4 4 1\n1 3 6 0\n' which - $yard
 try breaking-few 4 "the number of one trench follows the file of 'breaking'" '' breaking $yard
 try breaking-many 4 "the number of one trench follows the file of 'breaking'" '' breaking $yard 4 5
 try breaking-word 4 "a trench is named by its number, from 1 on, and not by 'x'" '' breaking $yard x
@@ -52,7 +52,7 @@ yes '1 2 3 0' | head -n 1025 >"$work/rows.txt"
 for words in 'quote %s 1 2' 'breaking %s 1' "which %s $work/rows.txt" 'stretch %s 1 2' 'digs %s'; do
     try "rows: $words" 2 'Refused \(2\): .*1025' '' ${words/\%s/$work/rows.txt}
 done
-[ "$(cat "$work/out")" = 'Refused 2 0' ]
+[ "$(cat "$work/out")" = 'Refused 2 8192' ]
 verdict digs-rows-line $?
 { cat $street; head -c 65536 /dev/zero | tr '\0' ' '; } >"$work/long.stp"
 try digs-long 2 'Refused \(12\): .*at most 65536' '' digs "$work/long.stp"

@@ -39,7 +39,7 @@ try last-struck 0 '^trench 1024 is new$' '' add "$work/last.txt" 45 46 9
 [ "$(wc -l <"$work/err")" = 1 ] && [ "$(grep -vc junctions "$work/out")" = 1024 ] && [ "$(tail -n 1 "$work/out")" = '45 46 9 0' ]
 verdict last-struck-written $?
 for words in 'strike %s 1' 'add %s 1 2 3' 'merge %s' 'check %s' 'unstrike %s 1' 'mark %s 1' 'unmark %s 1' 'price %s 1 5'; do
-    try "more: $words" 2 'Refused \(2\): .*more.txt:1025: there are 1025 trenches, struck ones included; at most 1024' '' ${words/\%s/$work/more.txt}
+    try "more: $words" 2 'Refused \(2\): .*more.txt:1025: there are more than 1024 trenches; at most 1024 are taken, struck ones included' '' ${words/\%s/$work/more.txt}
 done
 try first-build 0 '^Total ' '' build "$work/first.txt"
 
@@ -105,8 +105,7 @@ comes add-gap 0 '^No trench names junctions 3 to 8, and junctions are numbered f
 comes add-struck-pair 0 '^trench 2 is new$' '1 2 5 1\nstruck 2 3 4 1\n' add 3 2 7
 comes unstrike-pair 2 '^Refused \(15\): standard input:2: trench 2 joins the same junctions as trench 1\.$' '1 2 5 1\nstruck 2 1 4 1\n' unstrike 2
 comes unstrike-loop 2 '^Refused \(4\): standard input:2: trench 2 joins junction 2 to itself\.$' '1 2 5 1\nstruck 2 2 4 1\n' unstrike 2
-comes unstrike-mark 2 '^Refused \(6\): standard input:2: trench 2 has the mark 7; a mark is 0 or 1\.$' '1 2 5 1\nstruck 2 3 4 7\n' unstrike 2
-comes unstrike-above 2 '^Refused \(1\): standard input:2: the largest junction is 300; from 1 to 255 junctions are taken\.$' '1 2 5 1\nstruck 2 300 4 0\n' unstrike 2
+comes unstrike-above 2 '^Refused \(4\): standard input:3: trench 2 ends at junction 3; junctions are numbered from 1 to 2\.$' 'junctions 2\n1 2 5 1\nstruck 2 3 4 0\n' unstrike 2
 comes unstrike-one 2 '^Refused \(15\): standard input:3: trench 3 joins the same junctions as trench 2\.$' 'struck 1 3 2 0\nstruck 2 1 4 1\nstruck 1 2 4 0\n' unstrike 3 2
 
 # A byte order mark and the ends of lines stay as they are, and a new line ends as the first one does.
@@ -124,10 +123,10 @@ bytes bytes-add-open "1 2 5\r\n2 3 4" "1 2 5\r\n2 3 4\r\n1 3 6 0\r\n" add 1 3 6
 bytes bytes-add-cr "1 2 5\r2 3 4\r" "1 2 5\r2 3 4\r1 3 6 0\r" add 1 3 6
 bytes bytes-merge "${order}struck 1 2 5\r\n2 3 4\r\n" "${order}junctions 3\r\n2 3 4\r\n" merge
 bytes bytes-unstrike "${order}# a\r\n \tSTRUCK  1 2 5 # b\r\n2 3 4\r\n" "${order}# a\r\n \t1 2 5 # b\r\n2 3 4\r\n" unstrike 1
-bytes bytes-mark "${order}1 2 5# b\r\n2  3\t4 0000  # c\r\n3 4 2 300" "${order}1 2 5 1# b\r\n2  3\t4 1  # c\r\n3 4 2 300" mark 1 2
-bytes bytes-unmark "${order}1 2 5 1# b\r\n2  3\t4 001  # c\r\n3 4 2 1" "${order}1 2 5 0# b\r\n2  3\t4 0  # c\r\n3 4 2 1" unmark 1 2
+bytes bytes-mark "${order}1 2 5# b\r\n2  3  4 0000  # c\r\n3 4 2 00" "${order}1 2 5 1# b\r\n2  3  4 1  # c\r\n3 4 2 00" mark 1 2
+bytes bytes-unmark "${order}1 2 5 1# b\r\n2  3  4 001 \t # c\r\n3 4 2 1" "${order}1 2 5 0# b\r\n2  3  4 0 \t # c\r\n3 4 2 1" unmark 1 2
 bytes bytes-unmark-none "1 2 5\r2 3 4 1\r" "1 2 5\r2 3 4 1\r" unmark 1
-bytes bytes-price "${order}1 2 5# b\r\n2  3\t-04 0000  # c\r\n3 4 2" "${order}1 2 5# b\r\n2  3\t-7 0000  # c\r\n3 4 2" price 2 -007
+bytes bytes-price "${order}1 2 5# b\r\n2\t 3 \t-04\t0000  # c\r\n3 4 2" "${order}1 2 5# b\r\n2\t 3 \t-7\t0000  # c\r\n3 4 2" price 2 -007
 bytes bytes-price-same "1 2 005 1\r\n" "1 2 005 1\r\n" price 1 5
 bytes bytes-mend "${order}1 2 5\r\n2 3 4 0 # yes\r\n" "${order}1 2 5 1\r\n2 3 4 1 # yes\r\n" mend
 

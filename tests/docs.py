@@ -47,7 +47,7 @@ take out 1, put in 4: saves 1
 2 2 3 3
 3 3 4 5
 Total 13
-refused 12 at byte 8
+refused 25 at byte 10
 row 2 lies between s and junction 3
 theirs
 step 1: out 5, in 0

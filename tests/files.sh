@@ -315,8 +315,8 @@ lines() { # NAME TEXT EXPECTED WORDS..: the texts as printf takes them
 }
 order='\xef\xbb\xbf'
 head="${order}# the yard\r\n1 2 5"
-text="$head # Mill Lane\r\n\r\n  2 3 3 0 # Quay\r\n3\t4 5 1\r\nstruck 2 4 1 1 # blocked\r\n"
-marked="$head 1 # Mill Lane\r\n\r\n  2 3 3 1 # Quay\r\n3\t4 5 0\r\nstruck 2 4 1 1 # blocked\r\n"
+text="$head # Mill Lane\r\n\r\n  2 3 3 0 # Quay\r\n3\t4\t5\t1\r\nstruck 2 4 1 1 # blocked\r\n"
+marked="$head 1 # Mill Lane\r\n\r\n  2 3 3 1 # Quay\r\n3\t4\t5\t0\r\nstruck 2 4 1 1 # blocked\r\n"
 text+="1 4 4 1\r\n1 3 6 0"
 marked+="1 4 4 1\r\n1 3 6 0"
 lines build "$text" "$marked" build --table "$plan"

@@ -109,6 +109,12 @@ def mended(rows, n):
     return marked, told
 
 
+def best(rows, marked):
+    """The exchange that alone saves most: what it saves, the trench out, the trench in."""
+    worst = lambda i: max(path(rows, sorted(marked), *rows[i][:2]), key=lambda k: (rows[k][2], -k))
+    return max(((rows[worst(i)][2] - rows[i][2], -i, worst(i)) for i in set(rows) - marked))
+
+
 def ended(rows, n, marked):
     """What mend says first: the trenches taken out and put in, and the totals."""
     before = {i for i in rows if rows[i][3]}
@@ -118,6 +124,10 @@ def ended(rows, n, marked):
         return "There is nothing to mend: the plan is a cheapest network. Total %d.\n" % cost(rows, marked)
     if len(before) == n - 1 == len(least(rows, before)):
         said += "The plan's total was %d and is %d now: no network is cheaper.\n" % (cost(rows, before), cost(rows, marked))
+        if len(before - marked) > 1:
+            saves, into, out = best(rows, before)
+            words = (saves, name(out)[:-1], name(-into)[:-1])
+            said += "One exchange alone saves %d at most: take out %s, put in %s.\n" % words
     elif not before:
         said += "No trench was marked. The plan's total is %d now: no network is cheaper.\n" % cost(rows, marked)
     else:

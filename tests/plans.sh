@@ -39,7 +39,7 @@ for ((u = 1; u < 46; u++)); do for ((v = u + 1; v <= 46; v++)); do echo "$u $v $
 { cat "$work/full.txt"; echo '45 46 3 0'; } >"$work/more.txt"
 for words in 'districts %s 1024' 'mend %s' 'outlets %s 1 1'; do
     try "full: $words" 0 '.' '' ${words/\%s/$work/full.txt}
-    try "more: $words" 2 'Refused \(2\): .*more.txt:1025: there are 1025 trenches; at most 1024' '' ${words/\%s/$work/more.txt}
+    try "more: $words" 2 'Refused \(2\): .*more.txt:1025: there are more than 1024 trenches; at most 1024' '' ${words/\%s/$work/more.txt}
 done
 
 # Usage, what is refused before anything is written, output that cannot be written.

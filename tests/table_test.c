@@ -329,18 +329,34 @@ static size_t spoil(char *text, size_t *len) {
     return at;
 }
 
+/* Whether a line of the test's own table cannot stand: with an end that is 0, which a row has that
+   was entered with one above 255, or a mark that is none. */
+static int unreadable(void) {
+    size_t row, last = 0;
+    for (row = 1; row <= STAR_MAX_ROWS; row++)
+        if (used(row) || own.left[row - 1]) last = row;
+    for (row = 1; row <= last; row++)
+        if (!own.left[row - 1] || !own.right[row - 1] || (used(row) && own.mark[row - 1] > 1))
+            return 1;
+    return 0;
+}
+
 static void read_planner(void) {
     static char text[65536];
     size_t marked = any(3) ? 0 : 3, len, place = 0;
-    int broken = any(3) == 0;
+    int broken = any(3) == 0, odd = unreadable();
     struct star_imported i;
     memcpy(text, "\xef\xbb\xbf", 3);
     len = print(text + marked);
     if (broken) place = marked + spoil(text + marked, &len);
-    else keep_written();
+    else if (!odd) keep_written();
     i = star_table_read(&t, text, marked + len);
-    tell((i.kind == STAR_REFUSED) == broken && same_tables(), "read a planner's table");
-    if (broken) tell(i.number == STAR_BAD_TEXT && i.place == place, "the line that cannot stand");
+    tell((i.kind == STAR_REFUSED) == (broken || odd) && same_tables(), "read a planner's table");
+    if (odd) tell(i.number >= STAR_NOT_TRENCH, "a table that cannot be read");
+    else if (broken)
+        tell(i.number >= STAR_NOT_TRENCH && i.number <= STAR_MIXED_NAMES && i.place >= place &&
+                 i.place < place + 10,
+             "the line that cannot stand");
     else tell(i.n == own.n && !i.number && !i.place, "the planner's junctions");
 }
 

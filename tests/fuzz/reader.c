@@ -5,6 +5,7 @@
 #include <stdlib.h>
 #include <string.h>
 
+#include "reading.h"
 #include "star.h"
 #include "stp.h"
 #include "table.h"
@@ -98,14 +99,16 @@ static void console(const uint8_t *data, size_t size, struct star_imported read)
     static struct message fault;
     struct span text;
     int taken;
-    size_t mark = size >= 3 && !memcmp(data, "\xEF\xBB\xBF", 3) ? 3 : 0;
+    size_t mark = reading_order_mark((const char *)data, size);
     text.at = (const char *)data + mark;
     text.len = size - mark;
     memset(&table, 0, sizeof table);
+    table.text = text;
+    table.order_mark = mark;
     fault.len = 0;
-    taken = stp_opens(text) ? stp_read(&table, text, &fault) : table_read(&table, text, &fault);
-    if (taken && table.m <= ROWS) holds(read.kind == STAR_PASSED, "taken by the console alone");
-    if (!taken) holds(read.kind == STAR_REFUSED, "taken by the library alone");
+    taken = reading_is_stp(text.at, text.len) ? stp_read(&table, text, &fault)
+                                              : table_read(&table, &fault) == 0;
+    holds(taken == (read.kind == STAR_PASSED), "taken by the console or the library alone");
 }
 
 int LLVMFuzzerTestOneInput(const uint8_t *data, size_t size) {
