@@ -1,3 +1,4 @@
 pub mod Refused
 pub mod Sets
 pub mod Paths
+mod Looking

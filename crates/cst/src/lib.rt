@@ -24,6 +24,7 @@ use refusal::Refusal;
 use slice::Slice;
 use slice::difference;
 use slice::rows::rows_among;
+use slice_step::step_words;
 
 // Two numbers of vertices that many tables do not exceed, and the words of a path matrix for as many.
 const FEW: u32 = 16;
@@ -85,40 +86,31 @@ fn exchange_of(weight: &[u8], out: usize, into: usize) -> Exchange
     }
 }
 
-// The rows, of which none is past row m, are taken from the top: the first that has a heavier row on the path between its ends comes in, and the uppermost such row goes out. All is 0 where none has; then the first
+// The rows are visited by STEP: the first that has a heavier row on the path between its ends comes in, and the uppermost such row goes out. All is 0 where none has; then the first
 // with a row of equal weight on that path, and the uppermost such row, are the exchange of equal rows. The weight column is one that can be loaded.
-fn first_found(
-    matrix: &[u64],
-    left: &[u8],
-    right: &[u8],
-    weight: &[u8],
-    m: usize,
-    rows: Slice,
-) -> Found
-    requires { ⌜ (loadedRow 4 (now weight) ≡ inRow 4 (now weight)) × ((k : ℕ) → component rows k ≡ true → k ≤ m) ⌝ }
+fn first_found(matrix: &[u64], left: &[u8], right: &[u8], weight: &[u8], rows: Slice) -> Found
+    requires { ⌜ loadedRow 4 (now weight) ≡ inRow 4 (now weight) ⌝ }
     ensures lighter { λ r. ⌜ r .lighter ≡ firstLighter (now (matrix .entry)) (now (left .entry)) (now (right .entry)) (now (weight .entry)) (component rows) ⌝ }
     ensures equal { λ r. ⌜ (r .lighter .into ≡ 0 → r .equal ≡ firstEqual (now (matrix .entry)) (now (left .entry)) (now (right .entry)) (now (weight .entry)) (component rows)) ⌝ }
 {
     let mut weights = [0u64; table_loads::ALL];
     table_loads::put_prices(weight, &mut weights);
     let first = table_loads::sign_columns(&weights);
+    let mut rest = rows.words;
     let mut into = 0;
-    let mut i = 0;
-    while i < m {
-        let at = i + 1;
-        if slice_words::row_in(&rows.words, at) {
-            let y = compared_rows(matrix, &weights, first, left, right, weight, at);
-            let heavier = y.greater;
-            if slice::some(heavier) {
-                return Found {
-                    lighter: exchange_of(weight, slice::fnd(heavier), at),
-                    equal: Equal { out: 0, into: 0 },
-                };
-            }
-            let same = y.equal;
-            into = remember(into, same, at);
+    let mut at = step_words(&mut rest);
+    while at != 0 {
+        let y = compared_rows(matrix, &weights, first, left, right, weight, at);
+        let heavier = y.greater;
+        if slice::some(heavier) {
+            return Found {
+                lighter: exchange_of(weight, slice::fnd(heavier), at),
+                equal: Equal { out: 0, into: 0 },
+            };
         }
-        i += 1;
+        let same = y.equal;
+        into = remember(into, same, at);
+        at = step_words(&mut rest);
     }
     let beside = compared_rows(matrix, &weights, first, left, right, weight, into);
     let equal = beside.equal;
@@ -153,7 +145,7 @@ fn judge(
     let used = rows_among(m, rows);
     let marked = claim::claim_rows(mark, used);
     let unmarked = difference::without(used, marked);
-    let found = first_found(matrix, left, right, weight, m, unmarked);
+    let found = first_found(matrix, left, right, weight, unmarked);
     let lighter = found.lighter;
     if lighter.into != 0 {
         return Checked {

@@ -1,16 +1,9 @@
 -- `cst::judge` meets its contract: the exchange that it finds is the verdict's, and with none the claim passes. Assumes nothing.
 use borrow.Author.Needs.{needs}
-use Rattle.rowset.proofs.Members.{without-in}
 use Rattle.cst.proofs.Paths.{passes, lightens}
-use Rattle.cst.proofs.Sets.{among-first}
 use Rattle.cst.specs.Verdicts.{answerOf, equalRowsOf}
 use Rattle.cst.proofs.judge.Statement.{statement}
 use Rattle.cst.proofs.judge.Tie as tie
-
-first-found-requires : tie.Need-first-found-requires
-first-found-requires c κs =
-    let used = c .before .before in
-    (used .before .before .before .before .before .before .pre, λ k e. among-first _ _ k (without-in _ _ k (rw (c .without .ensures, used .rows-among .ensures) at e) .0))
 
 returns : tie.Need-returns
 unfolding answerOf equalRowsOf
@@ -38,7 +31,7 @@ judge-spec =
     (λ c κs. search needs)
     (λ c κs. search needs)
     (λ c κs. search needs)
-    first-found-requires
+    (λ c κs. search needs)
     returns
     (λ c κs. search needs)
     returns-2)
