@@ -143,6 +143,13 @@ for words in check draw table; do
     [ $? = 2 ] && grep -q 'Refused (2): .*more than 1024 trenches' "$work/all"
     verdict "many rows: $words" $?
 done
+python3 -c 'import random, sys; sys.stdout.buffer.write(random.Random(1).randbytes(1 << 20))' >"$work/bytes"
+yes 'a long word of text without any trench' | head -c 1048576 >"$work/words.txt"
+for file in bytes words.txt; do
+    (ulimit -S -v 200000 && timeout 20 "${star[@]}" check "$work/$file") >"$work/all" 2>&1
+    [ $? = 3 ] && [ "$(wc -l <"$work/all")" = 21 ] && grep -q "$file: more lines cannot stand" "$work/all"
+    verdict "a megabyte: $file" $?
+done
 (ulimit -S -v 200000 && timeout 20 "${star[@]}" check /dev/zero) >"$work/all" 2>&1
 [ $? = 3 ] && grep -q 'more than 16777216 bytes' "$work/all"
 verdict endless $?

@@ -112,7 +112,10 @@ part_memory_console() {
 }
 
 # The console, its pictures and its pages.
-part_console() { add bash tests/console.sh "$star"; }
+part_console() {
+    add bash tests/console.sh "$star"
+    add python3 -B tests/names.py "$star"
+}
 part_help() { add python3 -B tests/help.py "$star"; }
 part_objects() { add python3 -B tests/objects.py "$star"; }
 part_changes() { add bash tests/changes.sh "$star"; }

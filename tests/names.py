@@ -1,0 +1,253 @@
+"""The console on files with names of junctions, as planners write them and as spreadsheets save them.
+
+usage: names.py STAR..   the program, with words before it. Ends in one line 'N passed, M failed'
+Every command says of a file with names what it says of the same table with numbers, with the names
+in place of the numbers; a file that a command changes has the names, comments and lines that it had.
+"""
+import json
+import os
+import random
+import re
+import subprocess
+import sys
+import tempfile
+
+STAR = sys.argv[1:]
+HERE = os.path.dirname(os.path.abspath(__file__))
+sys.path.insert(0, os.path.join(HERE, "tablefile"))
+from reader import Reader  # noqa: E402
+
+NAMES = ["Rathaus", "Markt", "Am Tor", "Münsterplatz"]
+ROWS = [(1, 2, 5, 0), (2, 3, 3, 1), (3, 4, 5, 1), (1, 4, 4, 1), (1, 3, 6, 0)]
+counts = {True: 0, False: 0}
+folder = tempfile.TemporaryDirectory()
+
+
+def check(what, holds, shown=""):
+    counts[bool(holds)] += 1
+    if not holds:
+        print("names", what, "failed:", str(shown)[:600])
+
+
+def star(text, command, *words):
+    path = os.path.join(folder.name, "plan.csv")
+    with open(path, "wb") as file:
+        file.write(text)
+    done = subprocess.run(STAR + [command, *words[:words.index("FILE")], path,
+                                  *words[words.index("FILE") + 1:]], capture_output=True)
+    return done.stdout, done.stderr.replace(path.encode(), b"FILE"), done.returncode
+
+
+def blanks(rows, names):
+    """A file that a planner types: blanks part the fields, so that no name has one."""
+    end = (lambda v: names[v - 1].replace(" ", "_")) if names else str
+    return "".join("%s  %s %d %d # %d\n" % (end(a), end(b), p, m, k)
+                   for k, (a, b, p, m) in enumerate(rows)).encode()
+
+
+def sheet(rows, names):
+    """What a spreadsheet saves: a byte order mark, semicolons, quotes, a header, CR and LF."""
+    end = (lambda v: '"%s"' % names[v - 1]) if names else str
+    return b"\xef\xbb\xbf" + ('"From";"To";"Price";"Mark"\r\n' + "".join(
+        "%s;%s;%d;%s\r\n" % (end(a), end(b), p, "x" if m else "") for a, b, p, m in rows)).encode()
+
+
+def commas(rows, names):
+    end = (lambda v: names[v - 1]) if names else str
+    return ("# a plan\nfrom,to,price,mark\n\n" + "".join(
+        "%s, %s,%d%s\n" % (end(a), end(b), p, ",yes" if m else "") for a, b, p, m in rows)).encode()
+
+
+FORMS = {"blanks": blanks, "sheet": sheet, "commas": commas}
+
+# What each command is asked, a junction as 'J2'.
+ASKED = [["check", "FILE"], ["build", "FILE"], ["explain", "FILE"], ["explain", "--all", "FILE"],
+         ["explain", "FILE", "3"], ["digs", "FILE"], ["digs", "--plan", "FILE"],
+         ["quote", "FILE", "4", "9"], ["breaking", "FILE", "4"], ["stretch", "FILE", "J1", "J2"],
+         ["outlets", "FILE", "J1", "3"], ["outlets", "FILE", "J1", "9"],
+         ["districts", "FILE", "2", "5"], ["check", "--certificate", "FILE"],
+         ["stretch", "FILE", "J1", "nowhere"], ["outlets", "FILE", "99", "1"]]
+
+
+def shown(form, v):
+    return NAMES[v - 1].replace(" ", "_") if form == "blanks" else NAMES[v - 1]
+
+
+def named(form, text):
+    """What the console says of numbers, said of names."""
+    name = lambda v: shown(form, int(v))
+    way = lambda m: " - ".join(map(name, m.group().split("-")))
+    text = re.sub(r"(?<=\()\d(-\d)+(?=[,)])|(?<=: )\d-\d(?=, price)", way, text)
+    text = re.sub(r"(?<=junction )([1-4])\b", lambda m: name(m.group()), text)
+    text = re.sub(r"(?<=between )(\d) and (\d)", lambda m: "%s and %s" % tuple(map(name, m.groups())), text)
+    text = re.sub(r"(?<=^  junctions )[\d, ]+$", lambda m: ", ".join(map(name, m.group().split(", "))), text, flags=re.M)
+    return re.sub(r"^(\d) (\d) (\d) (\d)$", lambda m: "%s %s - %s %s" % (
+        m.group(1), name(m.group(2)), name(m.group(3)), m.group(4)), text, flags=re.M)
+
+
+def asked(form, rows):
+    text, plain = FORMS[form](rows, NAMES), FORMS[form](rows, None)
+    for words in ASKED:
+        by = [shown(form, int(w[1])) if re.fullmatch(r"J\d", w) else w for w in words]
+        number = [w[1] if re.fullmatch(r"J\d", w) else "99" if w == "nowhere" else w for w in words]
+        out, err, status = star(text, *by)
+        out2, err2, status2 = star(plain, *number)
+        path = os.path.join(folder.name, "plan.csv").encode()
+        said, meant = [o.replace(path, b"FILE").decode() for o in (out + err, out2 + err2)]
+        meant = named(form, meant).replace("junction 99", "junction nowhere") if "nowhere" in words else named(form, meant)
+        check("%s %s" % (form, " ".join(words)), (said, status) == (meant, status2), said + meant)
+
+
+def objects(form):
+    """The names stand in every object; numbers are those of the first lines that name them."""
+    own = [shown(form, v) for v in range(1, 5)]
+    for words in ASKED[:13]:
+        if "--certificate" in words:
+            continue
+        by = [shown(form, int(w[1])) if re.fullmatch(r"J\d", w) else w for w in words]
+        out = star(FORMS[form](ROWS, NAMES), *by[:1], "--json", *by[1:])[0]
+        check("%s --json %s" % (form, words), json.loads(out).get("names") == own, out)
+
+
+def pictures(form):
+    text = FORMS[form](ROWS, NAMES)
+    for words in (["draw", "FILE"], ["dot", "FILE"], ["page", "--static", "FILE"]):
+        out = star(text, *words)[0].decode()
+        check("%s %s" % (form, words[0]), all(shown(form, v) in out for v in range(1, 5)), out)
+    out = star(text, "page", "FILE")[0].decode()
+    check(form + " page", status_sound(out), out[:200])
+
+
+def status_sound(out):
+    return out.startswith("<!DOCTYPE html>") or out.startswith("<!doctype html>")
+
+
+def reading(text):
+    """The rows of a text with the bytes of their names, by the reader that is written from the rules."""
+    read = Reader().read(text)
+    if read[0] != "read":
+        return None
+    names = read[3]
+    end = lambda v: names[v - 1] if names else v
+    return [(end(a), end(b), p, m, struck) for a, b, p, m, struck, _ in read[2]]
+
+
+def changes(form):
+    """Each command that changes the file: what is read of it, and the lines that stay."""
+    text = FORMS[form](ROWS, NAMES)
+    was = reading(text)
+    own = [shown(form, v).encode() for v in range(1, 5)]
+
+    def changed(what, words, rows, lines=1, text=text):
+        out, err, status = star(text, *words)
+        kept = len(set(out.splitlines(True)) & set(text.splitlines(True)))
+        check("%s %s" % (form, what), status == 0 and reading(out) == rows, out + err)
+        check("%s %s: lines" % (form, what), kept >= len(set(text.splitlines(True))) - lines, out)
+        return out
+
+    def row(i, **new):
+        left, right, price, mark, struck = was[i]
+        return (left, right, new.get("price", price), new.get("mark", mark), new.get("struck", struck))
+
+    changed("mark", ["mark", "FILE", "1", "5"], [row(0, mark=1)] + was[1:4] + [row(4, mark=1)], 2)
+    changed("unmark", ["unmark", "FILE", "2"], was[:1] + [row(1, mark=0)] + was[2:])
+    changed("price", ["price", "FILE", "4", "-12"], was[:3] + [row(3, price=-12)] + was[4:])
+    struck = changed("strike", ["strike", "FILE", "3"], was[:2] + [row(2, mark=0, struck=True)] + was[3:])
+    changed("unstrike", ["unstrike", "FILE", "3"], was, text=struck)
+    check(form + " unstrike: bytes", star(struck, "unstrike", "FILE", "3")[0] == text)
+    changed("merge", ["merge", "FILE"], was[:2] + was[3:], text=struck)
+    changed("mend", ["mend", "FILE"], [row(0, mark=1), row(1, mark=1)] + [row(2, mark=0, struck=True)] + was[3:], 1, text=struck)
+    changed("build", ["build", "--table", "FILE"], [row(0, mark=1), was[1], row(2, mark=0)] + was[3:], 2)
+    changed("outlets", ["outlets", "--table", "FILE", own[0].decode(), "3"], [row(0, mark=1), row(1, mark=0), row(2, mark=0), was[3], row(4, mark=1)], 4)
+    changed("districts", ["districts", "--table", "FILE", "2", "5"], [row(0, mark=1), was[1], row(2, mark=0)] + was[3:], 2)
+    changed("table", ["table", "FILE"], was, 0)
+    changed("add", ["add", "FILE", own[1].decode(), own[3].decode(), "7"], was + [(own[1], own[3], 7, 0, False)], 0)
+    changed("add by number", ["add", "FILE", "2", "4", "7"], was + [(own[1], own[3], 7, 0, False)], 0)
+    new = "Neue Straße 7"
+    changed("add a name", ["add", "FILE", own[1].decode(), new, "7"], was + [(own[1], new.encode(), 7, 0, False)], 0)
+    check(form + " add a name: told", b"is new: no other line names it." in star(text, "add", "FILE", "2", new, "7")[1])
+    for wrong in ("a;b", "a#b", 'a"b', "#", "a\nb"):
+        out, err, status = star(text, "add", "FILE", own[0].decode(), wrong, "7")
+        check("%s add %r" % (form, wrong), status in (2, 4) and out == b"", out + err)
+    in_place(form, text, was)
+
+
+def in_place(form, text, was):
+    path = os.path.join(folder.name, "kept.csv")
+    with open(path, "wb") as file:
+        file.write(text)
+    done = subprocess.run(STAR + ["mark", path, "1", "-o", path], capture_output=True)
+    with open(path, "rb") as file:
+        check(form + " in place", done.returncode == 0 and [r[:3] for r in reading(file.read())] == [r[:3] for r in was])
+
+
+def faults():
+    """Twenty-two lines that cannot stand: twenty are told in their order, and that there are more."""
+    lines = ["From;To;Price", "Rathaus;Markt;5;x"]
+    bad = ["a;b", "Markt;7;3", "Markt;Am Tor;5,50", "Markt;Am Tor;1.000", "Markt;Am Tor;5;50", ";b;5", "a;b;;x",
+           "junctions;x", "a;b;5;1;1", "a;?;5", "struck;a;b"] * 2
+    for k, line in enumerate(bad):
+        lines += [line, "Markt;J%d;3" % k]
+    text = "\n".join(lines).encode()
+    out, err, status = star(text, "check", "FILE")
+    told = err.decode().splitlines()
+    places = [int(line.split(":")[1]) for line in told[:-1]]
+    check("twenty-two lines", status == 3 and out == b"" and places == [3 + 2 * k for k in range(20)], err)
+    check("twenty-two lines: more", told[-1] == "FILE: more lines cannot stand", err)
+    for k, said in enumerate(("is not a trench", "'7' is a number, and 'Rathaus' in line 2 a name", "'5,50' is not a price", "'1.000' is not a price",
+                              "'50' is not a mark", "'' is not a junction", "'' is not a price", "is not a line 'junctions N'", "is not a trench",
+                              "'?' is not a junction", "is not a trench")):
+        check("twenty-two lines: %s" % said, said in told[k], told[k])
+
+
+def which():
+    """Two files of one table may meet the names in another order and direction."""
+    first, second = sheet(ROWS, NAMES), commas([(b, a, p, m) for a, b, p, m in ROWS], NAMES)
+    path = os.path.join(folder.name, "second.csv")
+    with open(path, "wb") as file:
+        file.write(second)
+    out, err, status = star(first, "which", "FILE", path)
+    check("which", status == 0 and b"both cost 12" in out, out + err)
+    with open(path, "wb") as file:
+        file.write(commas(ROWS, NAMES[:3] + ["Hof"]))
+    out, err, status = star(first, "which", "FILE", path)
+    check("which, another name", status == 3 and "(Am Tor - Hof, price 5)" in err.decode(), err)
+    with open(path, "wb") as file:
+        file.write(commas(ROWS, None))
+    check("which, numbers", star(first, "which", "FILE", path)[2] == 3)
+
+
+def largest():
+    """255 junctions with names and 1,024 trenches: the totals are those of the same table in numbers."""
+    names, pick = ["Straße %d, Haus ä" % v for v in range(255)], random.Random(5)
+    pairs = {(pick.randrange(max(1, v - 6), v), v) for v in range(2, 256)}
+    while len(pairs) < 1024:
+        u = pick.randrange(1, 255)
+        pairs.add((u, pick.randrange(u + 1, 256)))
+    rows = [(a, b, pick.randrange(999), 0) for a, b in sorted(pairs)]
+    totals = [star(sheet(rows, of), "digs", "FILE")[0].splitlines()[-1] for of in (names, None)]
+    check("largest", totals[0] == totals[1] and totals[0].startswith(b"Total "), totals)
+    out = star(sheet(rows, names), "build", "--table", "FILE")[0]
+    check("largest built", star(out, "check", "FILE")[2] == 0)
+    out, err, status = star(out, "add", "FILE", "1", "255", "3")
+    check("largest full", status == 2 and b"all 1024 trenches are in use" in err, err)
+
+
+def main():
+    for form in FORMS:
+        asked(form, ROWS)
+        asked(form, [(a, b, p, int(k < 3)) for k, (a, b, p, _) in enumerate(ROWS)])
+        asked(form, [(a, b, p, int(k in (0, 1, 4))) for k, (a, b, p, _) in enumerate(ROWS)])
+        asked(form, [(1, 2, 5, 1), (1, 2, 5, 1), (3, 4, 5, 1)])
+        asked(form, [(1, 2, 5, 1), (3, 4, 5, 1)])
+        objects(form)
+        pictures(form)
+        changes(form)
+    faults()
+    which()
+    largest()
+    print("%d passed, %d failed" % (counts[True], counts[False]))
+    return 1 if counts[False] else 0
+
+
+sys.exit(main())
