@@ -100,11 +100,15 @@ size_t text_letter(struct span s) {
     return len;
 }
 
-/* Whether a letter can be printed: none that controls a terminal. */
+/* Whether a letter can be printed: none that controls a terminal, turns the direction of what
+   follows (U+202A to U+202E, U+2066 to U+2069) or is no letter of a picture (U+FFFE, U+FFFF). */
 static int printed(const char *at, size_t len) {
-    unsigned char first = (unsigned char)at[0];
-    if (len == 1) return first >= ' ' && first < 127;
-    return len > 1 && !(first == 0xc2 && (unsigned char)at[1] < 0xa0);
+    const unsigned char *b = (const unsigned char *)at;
+    if (len < 2) return len == 1 && b[0] >= ' ' && b[0] < 127;
+    if (len == 2) return b[0] != 0xc2 || b[1] >= 0xa0;
+    if (b[0] == 0xe2 && b[1] == 0x80) return b[2] < 0xaa || b[2] > 0xae;
+    if (b[0] == 0xe2 && b[1] == 0x81) return b[2] < 0xa6 || b[2] > 0xa9;
+    return b[0] != 0xef || b[1] != 0xbf || b[2] < 0xbe;
 }
 
 void say_word(struct message *to, struct span s) {

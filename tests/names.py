@@ -1,8 +1,8 @@
-"""The console on files with names of junctions, as planners write them and as spreadsheets save them.
+"""The console on files with names of junctions, as planners and spreadsheets write them.
 
 usage: names.py STAR..   the program, with words before it. Ends in one line 'N passed, M failed'
 Every command says of a file with names what it says of the same table with numbers, with the names
-in place of the numbers; a file that a command changes has the names, comments and lines that it had.
+in place of the numbers; a file that a command changes keeps its names, comments and lines.
 """
 import json
 import os
@@ -48,14 +48,14 @@ def blanks(rows, names):
 def sheet(rows, names):
     """What a spreadsheet saves: a byte order mark, semicolons, quotes, a header, CR and LF."""
     end = (lambda v: '"%s"' % names[v - 1]) if names else str
-    return b"\xef\xbb\xbf" + ('"From";"To";"Price";"Mark"\r\n' + "".join(
-        "%s;%s;%d;%s\r\n" % (end(a), end(b), p, "x" if m else "") for a, b, p, m in rows)).encode()
+    lines = ["%s;%s;%d;%s\r\n" % (end(a), end(b), p, "x" if m else "") for a, b, p, m in rows]
+    return b"\xef\xbb\xbf" + ('"From";"To";"Price";"Mark"\r\n' + "".join(lines)).encode()
 
 
 def commas(rows, names):
     end = (lambda v: names[v - 1]) if names else str
-    return ("# a plan\nfrom,to,price,mark\n\n" + "".join(
-        "%s, %s,%d%s\n" % (end(a), end(b), p, ",yes" if m else "") for a, b, p, m in rows)).encode()
+    lines = ["%s, %s,%d%s\n" % (end(a), end(b), p, ",yes" if m else "") for a, b, p, m in rows]
+    return ("# a plan\nfrom,to,price,mark\n\n" + "".join(lines)).encode()
 
 
 FORMS = {"blanks": blanks, "sheet": sheet, "commas": commas}
@@ -79,8 +79,10 @@ def named(form, text):
     way = lambda m: " - ".join(map(name, m.group().split("-")))
     text = re.sub(r"(?<=\()\d(-\d)+(?=[,)])|(?<=: )\d-\d(?=, price)", way, text)
     text = re.sub(r"(?<=junction )([1-4])\b", lambda m: name(m.group()), text)
-    text = re.sub(r"(?<=between )(\d) and (\d)", lambda m: "%s and %s" % tuple(map(name, m.groups())), text)
-    text = re.sub(r"(?<=^  junctions )[\d, ]+$", lambda m: ", ".join(map(name, m.group().split(", "))), text, flags=re.M)
+    pair = lambda m: "%s and %s" % tuple(map(name, m.groups()))
+    group = lambda m: ", ".join(map(name, m.group().split(", ")))
+    text = re.sub(r"(?<=between )(\d) and (\d)", pair, text)
+    text = re.sub(r"(?<=^  junctions )[\d, ]+$", group, text, flags=re.M)
     return re.sub(r"^(\d) (\d) (\d) (\d)$", lambda m: "%s %s - %s %s" % (
         m.group(1), name(m.group(2)), name(m.group(3)), m.group(4)), text, flags=re.M)
 
@@ -94,7 +96,9 @@ def asked(form, rows):
         out2, err2, status2 = star(plain, *number)
         path = os.path.join(folder.name, "plan.csv").encode()
         said, meant = [o.replace(path, b"FILE").decode() for o in (out + err, out2 + err2)]
-        meant = named(form, meant).replace("junction 99", "junction nowhere") if "nowhere" in words else named(form, meant)
+        meant = named(form, meant)
+        if "nowhere" in words:
+            meant = meant.replace("junction 99", "junction nowhere")
         check("%s %s" % (form, " ".join(words)), (said, status) == (meant, status2), said + meant)
 
 
@@ -123,7 +127,7 @@ def status_sound(out):
 
 
 def reading(text):
-    """The rows of a text with the bytes of their names, by the reader that is written from the rules."""
+    """The rows of a text with the bytes of their names, by the reader written from the rules."""
     read = Reader().read(text)
     if read[0] != "read":
         return None
@@ -142,30 +146,37 @@ def changes(form):
         out, err, status = star(text, *words)
         kept = len(set(out.splitlines(True)) & set(text.splitlines(True)))
         check("%s %s" % (form, what), status == 0 and reading(out) == rows, out + err)
-        check("%s %s: lines" % (form, what), kept >= len(set(text.splitlines(True))) - lines, out)
+        least_kept = len(set(text.splitlines(True))) - lines
+        check("%s %s: lines" % (form, what), kept >= least_kept, out)
         return out
 
     def row(i, **new):
         left, right, price, mark, struck = was[i]
-        return (left, right, new.get("price", price), new.get("mark", mark), new.get("struck", struck))
+        return (left, right, new.get("price", price), new.get("mark", mark),
+                new.get("struck", struck))
 
+    out = row(2, mark=0, struck=True)
+    least = [row(0, mark=1), was[1], row(2, mark=0)] + was[3:]
+    three = [row(0, mark=1), row(1, mark=0), row(2, mark=0), was[3], row(4, mark=1)]
     changed("mark", ["mark", "FILE", "1", "5"], [row(0, mark=1)] + was[1:4] + [row(4, mark=1)], 2)
     changed("unmark", ["unmark", "FILE", "2"], was[:1] + [row(1, mark=0)] + was[2:])
     changed("price", ["price", "FILE", "4", "-12"], was[:3] + [row(3, price=-12)] + was[4:])
-    struck = changed("strike", ["strike", "FILE", "3"], was[:2] + [row(2, mark=0, struck=True)] + was[3:])
+    struck = changed("strike", ["strike", "FILE", "3"], was[:2] + [out] + was[3:])
     changed("unstrike", ["unstrike", "FILE", "3"], was, text=struck)
     check(form + " unstrike: bytes", star(struck, "unstrike", "FILE", "3")[0] == text)
     changed("merge", ["merge", "FILE"], was[:2] + was[3:], text=struck)
-    changed("mend", ["mend", "FILE"], [row(0, mark=1), row(1, mark=1)] + [row(2, mark=0, struck=True)] + was[3:], 1, text=struck)
-    changed("build", ["build", "--table", "FILE"], [row(0, mark=1), was[1], row(2, mark=0)] + was[3:], 2)
-    changed("outlets", ["outlets", "--table", "FILE", own[0].decode(), "3"], [row(0, mark=1), row(1, mark=0), row(2, mark=0), was[3], row(4, mark=1)], 4)
-    changed("districts", ["districts", "--table", "FILE", "2", "5"], [row(0, mark=1), was[1], row(2, mark=0)] + was[3:], 2)
+    changed("mend", ["mend", "FILE"], [row(0, mark=1), was[1], out] + was[3:], 1, text=struck)
+    changed("build", ["build", "--table", "FILE"], least, 2)
+    changed("outlets", ["outlets", "--table", "FILE", own[0].decode(), "3"], three, 4)
+    changed("districts", ["districts", "--table", "FILE", "2", "5"], least, 2)
     changed("table", ["table", "FILE"], was, 0)
-    changed("add", ["add", "FILE", own[1].decode(), own[3].decode(), "7"], was + [(own[1], own[3], 7, 0, False)], 0)
-    changed("add by number", ["add", "FILE", "2", "4", "7"], was + [(own[1], own[3], 7, 0, False)], 0)
-    new = "Neue Straße 7"
-    changed("add a name", ["add", "FILE", own[1].decode(), new, "7"], was + [(own[1], new.encode(), 7, 0, False)], 0)
-    check(form + " add a name: told", b"is new: no other line names it." in star(text, "add", "FILE", "2", new, "7")[1])
+    added = was + [(own[1], own[3], 7, 0, False)]
+    changed("add", ["add", "FILE", own[1].decode(), own[3].decode(), "7"], added, 0)
+    changed("add by number", ["add", "FILE", "2", "4", "7"], added, 0)
+    words = ["add", "FILE", own[1].decode(), "Neue Straße 7", "7"]
+    changed("add a name", words, was + [(own[1], "Neue Straße 7".encode(), 7, 0, False)], 0)
+    told = star(text, *words)[1]
+    check(form + " add a name: told", b"is new: no other line names it." in told, told)
     for wrong in ("a;b", "a#b", 'a"b', "#", "a\nb"):
         out, err, status = star(text, "add", "FILE", own[0].decode(), wrong, "7")
         check("%s add %r" % (form, wrong), status in (2, 4) and out == b"", out + err)
@@ -178,25 +189,28 @@ def in_place(form, text, was):
         file.write(text)
     done = subprocess.run(STAR + ["mark", path, "1", "-o", path], capture_output=True)
     with open(path, "rb") as file:
-        check(form + " in place", done.returncode == 0 and [r[:3] for r in reading(file.read())] == [r[:3] for r in was])
+        now = reading(file.read())
+    check(form + " in place", done.returncode == 0 and [r[:3] for r in now] == [r[:3] for r in was])
 
 
 def faults():
-    """Twenty-two lines that cannot stand: twenty are told in their order, and that there are more."""
+    """Twenty-two lines that cannot stand: twenty are told in order, and that there are more."""
     lines = ["From;To;Price", "Rathaus;Markt;5;x"]
-    bad = ["a;b", "Markt;7;3", "Markt;Am Tor;5,50", "Markt;Am Tor;1.000", "Markt;Am Tor;5;50", ";b;5", "a;b;;x",
-           "junctions;x", "a;b;5;1;1", "a;?;5", "struck;a;b"] * 2
+    bad = ["a;b", "Markt;7;3", "Markt;Am Tor;5,50", "Markt;Am Tor;1.000", "Markt;Am Tor;5;50",
+           ";b;5", "a;b;;x", "junctions;x", "a;b;5;1;1", "a;?;5", "struck;a;b"] * 2
     for k, line in enumerate(bad):
         lines += [line, "Markt;J%d;3" % k]
     text = "\n".join(lines).encode()
     out, err, status = star(text, "check", "FILE")
     told = err.decode().splitlines()
     places = [int(line.split(":")[1]) for line in told[:-1]]
-    check("twenty-two lines", status == 3 and out == b"" and places == [3 + 2 * k for k in range(20)], err)
+    check("twenty-two lines", (status, out, places) == (3, b"", list(range(3, 43, 2))), err)
     check("twenty-two lines: more", told[-1] == "FILE: more lines cannot stand", err)
-    for k, said in enumerate(("is not a trench", "'7' is a number, and 'Rathaus' in line 2 a name", "'5,50' is not a price", "'1.000' is not a price",
-                              "'50' is not a mark", "'' is not a junction", "'' is not a price", "is not a line 'junctions N'", "is not a trench",
-                              "'?' is not a junction", "is not a trench")):
+    for k, said in enumerate((
+            "is not a trench", "'7' is a number, and 'Rathaus' in line 2 a name",
+            "'5,50' is not a price", "'1.000' is not a price", "'50' is not a mark",
+            "'' is not a junction", "'' is not a price", "is not a line 'junctions N'",
+            "is not a trench", "'?' is not a junction", "is not a trench")):
         check("twenty-two lines: %s" % said, said in told[k], told[k])
 
 
@@ -218,14 +232,15 @@ def which():
 
 
 def largest():
-    """255 junctions with names and 1,024 trenches: the totals are those of the same table in numbers."""
+    """255 junctions with names and 1,024 trenches: the totals are those of the same table with
+    numbers."""
     names, pick = ["Straße %d, Haus ä" % v for v in range(255)], random.Random(5)
     pairs = {(pick.randrange(max(1, v - 6), v), v) for v in range(2, 256)}
     while len(pairs) < 1024:
         u = pick.randrange(1, 255)
         pairs.add((u, pick.randrange(u + 1, 256)))
     rows = [(a, b, pick.randrange(999), 0) for a, b in sorted(pairs)]
-    totals = [star(sheet(rows, of), "digs", "FILE")[0].splitlines()[-1] for of in (names, None)]
+    totals = [star(sheet(rows, by), "digs", "FILE")[0].splitlines()[-1] for by in (names, None)]
     check("largest", totals[0] == totals[1] and totals[0].startswith(b"Total "), totals)
     out = star(sheet(rows, names), "build", "--table", "FILE")[0]
     check("largest built", star(out, "check", "FILE")[2] == 0)
