@@ -64,7 +64,7 @@ class Forms(Content):
         return from_geojson(text, price, **how)
 
     def to_geojson(self) -> str:
-        """GeoJSON text: a Point a junction that has a name, a LineString a row in use."""
+        """GeoJSON text: a Point a junction, a LineString a row in use."""
         from .geojson import to_geojson
         return to_geojson(self)
 

@@ -59,31 +59,38 @@ def _line(place: int, geometry: Dict[str, Any]) -> Line:
         raise Unfit(place, "its coordinates are not numbers") from None
 
 
-def _named(features: List[Tuple[Dict[str, Any], Dict[str, Any]]]) -> Dict[Place, Hashable]:
-    """The names that Points give to junctions."""
+def _points(features: List[Tuple[Dict[str, Any], Dict[str, Any]]]
+            ) -> Tuple[Dict[Place, Hashable], List[Place]]:
+    """The names that Points give to junctions, and the places of those that say which junction they
+    are, in the order of these numbers."""
     names: Dict[Place, Hashable] = {}
+    numbered: List[Tuple[int, Place]] = []
     for geometry, properties in features:
-        name = properties.get("name")
-        if geometry.get("type") != "Point" or name is None:
+        name, number = properties.get("name"), properties.get("junction")
+        if geometry.get("type") != "Point" or name is None and type(number) is not int:
             continue
-        if not isinstance(name, (str, int, float)):
+        if not isinstance(name, (str, int, float, type(None))):
             raise Unfit(0, "%.60r is no name of a junction" % (name,))
         try:
             place = _place(_point(geometry.get("coordinates")))
         except ValueError:
             raise Unfit(0, "the coordinates of the junction %r are not numbers" % name) from None
-        if name in names.values() and names.get(place) != name:
+        if name is not None and name in names.values() and names.get(place) != name:
             raise Unfit(0, "two junctions are named %r" % name)
-        names[place] = name
-    return names
+        if name is not None:
+            names[place] = name
+        if type(number) is int:
+            numbered.append((number, place))
+    return names, [place for _, place in sorted(numbered)]
 
 
 def from_geojson(text: str, price: str = "price", **how: Any) -> Table:
     """A table from GeoJSON: a LineString a row, with its price among the properties. End points
     that coincide are one junction. A Point with a name names the junction there; one without is
-    named by its coordinates. Coordinates and the courses of the lines are kept."""
+    named by its coordinates. A Point with a number as its property junction is a junction, whether
+    lines end there or not. Coordinates and the courses of the lines are kept."""
     features = _features(text)
-    names = _named(features)
+    names, numbered = _points(features)
     rows: List[List[Any]] = []
     lines: List[Line] = []
     for geometry, properties in features:
@@ -97,6 +104,9 @@ def from_geojson(text: str, price: str = "price", **how: Any) -> Table:
         rows.append([names.setdefault(end, end) for end in ends]
                     + [properties[price], properties.get("marked")])
         lines.append(line)
+    known = [names.setdefault(place, place) for place in numbered]
+    known += [name for row in rows for name in row[:2]]
+    how.setdefault("junctions", dict.fromkeys(known))
     table = from_rows(rows, **how)
     _keep(table, names, rows, lines)
     return table
@@ -116,15 +126,15 @@ def _keep(table: Table, names: Dict[Place, Hashable], rows: List[List[Any]], lin
 
 
 def to_geojson(table: Content) -> str:
-    """GeoJSON: a Point a junction that has a name, a LineString a row in use."""
+    """GeoJSON: a Point a junction, a LineString a row in use."""
     places = table.places
     lacking = [name for name in table.junctions if name not in places]
     if lacking:
         raise ValueError("junction %r has no coordinates" % (lacking[0],))
     features = []
-    for name, place in places.items():
-        if name != place:
-            features.append(_feature("Point", place, {"name": name}))
+    for number, name in enumerate(table.junctions, 1):
+        named = {} if name == places[name] else {"name": name}
+        features.append(_feature("Point", places[name], {**named, "junction": number}))
     for row, price in zip(table.rows, prices(table)):
         line = table._lines.get(row.number, (places[row.left], places[row.right]))
         features.append(_feature("LineString", line, {"price": price, "marked": row.marked}))

@@ -1,6 +1,7 @@
 """The package against networkx, and against lists of all trees of small tables."""
 import os
 import unittest
+from fractions import Fraction
 
 import networkx as nx
 from hypothesis import HealthCheck, Phase, given, settings
@@ -9,8 +10,13 @@ from hypothesis import strategies as st
 import star
 from cases import PRICES, all_trees, graph, least, marked, rows, total
 
-# The cases of each test: a sixteenth of all.
-EACH = max(1, int(os.environ.get("CASES", "2000")) // 16)
+try:
+    import pandas
+except ImportError:
+    pandas = None
+
+# The cases of each test: a seventeenth of all.
+EACH = max(1, int(os.environ.get("CASES", "2000")) // 17)
 tried = settings(max_examples=EACH, deadline=None, database=None, derandomize=True,
                  phases=[Phase.explicit, Phase.generate],
                  suppress_health_check=list(HealthCheck))
@@ -314,6 +320,24 @@ class AgainstNetworkx(unittest.TestCase):
             self.assertEqual(star.Table.from_text(t.to_text()), t)
         if table:
             self.assertEqual(self.edges(star.Table.from_csv(t.to_csv())), self.edges(t))
+
+    @tried
+    @given(marked(), st.lists(st.tuples(st.floats(-180, 180), st.floats(-90, 90)), min_size=7,
+                              max_size=7, unique=True), st.booleans())
+    def test_round_trips_of_places(self, case, places, cents):
+        n, table, plan = case
+        t = star.Table(["j%d" % k for k in range(1, n + 1)],
+                       [("j%d" % u, "j%d" % v, price) for u, v, price in table])
+        t.plan, t.unit = plan, Fraction(1, 100) if cents else Fraction(1)
+        t._places = dict(enumerate(places[:n], 1))
+        t._lines = {row.number: (t.places[row.left], (1.5, 2.5), t.places[row.right])
+                    for row in t.rows if row.number % 2}
+        t._lines.update({row.number: (t.places[row.left], t.places[row.right])
+                         for row in t.rows if not row.number % 2})
+        self.assertEqual(star.Table.from_geojson(t.to_geojson(), unit=t.unit), t)
+        if pandas and table:
+            self.assertEqual(self.edges(star.Table.from_pandas(t.to_pandas(), unit=t.unit)),
+                             self.edges(t))
 
     def test_graphs(self):
         g = nx.MultiGraph()

@@ -111,6 +111,10 @@ def coarse_place(point):
     return tuple(round(x, 1) for x in point[:2])
 
 
+def points_not_numbered(features):
+    return kept(geojson, "_points")(features)[0], []
+
+
 def unmarked_csv(t):
     return "\n".join(line[:-1] + "0" if line[-1:] == "1" else line
                      for line in kept(formats, "to_csv")(t).split("\n"))
@@ -168,6 +172,8 @@ FAULTS = {
     "csv-by-python": (formats, "_by_the_core", csv_by_python, PACKAGE + "Forms.test_csv"),
     "merge-forgets": (changes.Changes, "merge", lambda self: {}, NETWORKX + "test_changes"),
     "names-as-text": (formats, "to_networkx", names_as_text, NETWORKX + "test_round_trips"),
+    "points-not-numbered": (geojson, "_points", points_not_numbered,
+                            NETWORKX + "test_round_trips_of_places"),
     "place-lacking": (plans, "Refused", refused_without_place,
                       PACKAGE + "Refusals.test_by_number"),
     "words-cut": (questions, "word", lambda x: x % 2**32,

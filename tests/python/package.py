@@ -229,15 +229,15 @@ class Forms(unittest.TestCase):
         self.assertEqual([(r.price, r.marked) for r in t.rows], [(1235, True), (700, False)])
         again = star.Table.from_geojson(t.to_geojson(), unit=0.01)
         self.assertEqual(again, t)
-        line = json.loads(t.to_geojson())["features"][1]["geometry"]["coordinates"]
+        line = json.loads(t.to_geojson())["features"][3]["geometry"]["coordinates"]
         self.assertEqual(line, [[13.104, 52.5], [13.11, 52.4], [13.12, 52.5]])
         t.add("mill", (13.1, 52.6), 1)
         t.strike(1)
         t.merge()
         moved = json.loads(t.to_geojson())["features"]
-        self.assertEqual(moved[1]["geometry"]["coordinates"],
+        self.assertEqual(moved[3]["geometry"]["coordinates"],
                          [[13.12, 52.5], [13.2, 52.7], [13.1, 52.6]])
-        self.assertEqual(len(moved), 3)
+        self.assertEqual(len(moved), 5)
         self.assertRaises(ValueError, star.Table(4, YARD).to_geojson)
         for k, change in ((1, {"type": "Polygon", "coordinates": []}), (2, None)):
             wrong = json.loads(json.dumps(STREETS))
