@@ -12,6 +12,7 @@ ghost use Rattle.answer.specs.Records.{fieldsOf};
 ghost use Rattle.star_spec.specs.Door.{doorReturns};
 ghost use Rattle.file_spec.specs.Door.{fileFields, fileDoor, fileDoorLent};
 ghost use Rattle.file_spec.specs.Places.{lineAfter, lineAt};
+ghost use Rattle.file_door_meaning.specs.Bytes.{ReadTableCall};
 ghost use Rattle.file.specs.Answers.{answerOf, lentOf};
 
 // The fields of what was read: the number of names and of rows stand where a verdict has its rows, n or the refusal's place where it has its weight.
@@ -39,6 +40,7 @@ pub fn of_taken(x: Taken) -> Record
 }
 
 // A table file through the door: the columns are written where the text is read, and stay as they are otherwise.
+// `means` says what the bytes and the columns are worth, from the text to the trees that star_work_cst and star_work_mst1 then tell of.
 #[no_mangle]
 pub extern "C" fn star_read_table(
     text: &[u8],
@@ -55,6 +57,7 @@ pub extern "C" fn star_read_table(
     ensures returned { λ r. ⌜ r ≡ doorReturns (now (answer .entry)) ⌝ }
     ensures answered { λ r. ⌜ now (answer .exit) ≡ fileDoor (now (text .entry)) (lentOf (now (left .entry)) (now (right .entry)) (now (weight .entry)) (now (mark .entry)) (now (words .entry)) (now (starts .entry)) (now (ends .entry)) (now (rows .entry))) (now (answer .entry)) ⌝ }
     ensures lent { λ r. ⌜ lentOf (now (left .exit)) (now (right .exit)) (now (weight .exit)) (now (mark .exit)) (now (words .exit)) (now (starts .exit)) (now (ends .exit)) (now (rows .exit)) ≡ fileDoorLent (now (text .entry)) (lentOf (now (left .entry)) (now (right .entry)) (now (weight .entry)) (now (mark .entry)) (now (words .entry)) (now (starts .entry)) (now (ends .entry)) (now (rows .entry))) (now (answer .entry)) ⌝ }
+    ensures means { λ r. ⌜ ReadTableCall (now (text .entry)) (lentOf (now (left .entry)) (now (right .entry)) (now (weight .entry)) (now (mark .entry)) (now (words .entry)) (now (starts .entry)) (now (ends .entry)) (now (rows .entry))) (lentOf (now (left .exit)) (now (right .exit)) (now (weight .exit)) (now (mark .exit)) (now (words .exit)) (now (starts .exit)) (now (ends .exit)) (now (rows .exit))) (now (answer .entry)) (now (answer .exit)) r ⌝ }
 {
     if answer.len() != 16 {
         return 0;

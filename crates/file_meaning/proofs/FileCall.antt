@@ -43,7 +43,7 @@ use Rattle.file_meaning.specs.Means.{linesOf, trenches, namesOver, Trenc
 
 -- ── Lines ──
 
-elem-inside : {A : Type 0} (ts : List A) (k : ℕ) (t : A) → getElem? ts k ≡ some t → k < length ts
+pub elem-inside : {A : Type 0} (ts : List A) (k : ℕ) (t : A) → getElem? ts k ≡ some t → k < length ts
 elem-inside [] k t h = let z : _≡_ {A = ℕ} 0 1 = cc in absurd (omega arith)
 elem-inside (u ∷ ts) zero t h = omega arith
 elem-inside (u ∷ ts) (suc k) t h = omega (arith, elem-inside ts k t h)
@@ -80,7 +80,7 @@ little-append s t j (suc k) h = rw (List·getD-append s t 0 j (omega arith), lit
 byte-row : (s t : List ℕ) (k : ℕ) → k < length s → inRow 1 (s ++ t) (suc k) ≡ getD s k 0
 byte-row s t k h = inRow-byte (s ++ t) k ∙ List·getD-append s t 0 k h
 
-quad-row : (s t : List ℕ) (k : ℕ) → 4 * suc k ≤ length s → inRow 4 (s ++ t) (suc k) ≡ inRow 4 s (suc k)
+pub quad-row : (s t : List ℕ) (k : ℕ) → 4 * suc k ≤ length s → inRow 4 (s ++ t) (suc k) ≡ inRow 4 s (suc k)
 unfolding inRow
 quad-row s t k h = little-append s t (4 * k) 4 (omega arith)
 
@@ -150,17 +150,17 @@ module _ (text : List ℕ) (r : Read) (e : readText text ≡ read r) (dl dr dw d
   abbrev ts : List Trench
   ts = trenches text
 
-  abbrev n : ℕ
+  abbrev pub n : ℕ
   n = junctions r
 
   -- the rows in use as words
-  abbrev words : List ℕ
+  abbrev pub words : List ℕ
   words = columnWordsFrom (unstruck (r .struck)) 0 columnWords
 
   abbrev c : Call
   c = workOf n words (r .left ++ dl) (r .right ++ dr) (r .weight ++ dw) (r .marks ++ dm)
 
-  abbrev h : Graph
+  abbrev pub h : Graph
   h = fileGraph text n
 
   m-read : ReadingMeans text r
@@ -172,7 +172,7 @@ module _ (text : List ℕ) (r : Read) (e : readText text ≡ read r) (dl dr dw d
       let (k, t, z, g) = line-there (λ t. not (t .struck)) ts i q in
       (omega arith, omega (arith, elem-inside ts k t g))
 
-  in-use : (i : ℕ) → inWords words i ≡ h .rows i
+  pub in-use : (i : ℕ) → inWords words i ≡ h .rows i
   unfolding fileGraph
   in-use i = ap (λ p. p i) (words-hold (unstruck (r .struck)) ∙ both-inside 1024 (unstruck (r .struck)) (λ j q. let g = rows-inside j (sym (lines j) ∙ q) in (g .0, omega (arith, g .1, m-read .few-rows)))) ∙ lines i
     where
@@ -394,16 +394,28 @@ module _ (text : List ℕ) (r : Read) (e : readText text ≡ read r) (dl dr dw d
             let o = eqb-true (inRow 1 (mst1Marks c) i) 1 k in
             absurd (omega arith)
 
-    built-least : (w : ℤ) → mst1 c ≡ treeBuilt w → Accepted c → Least h (filePrice text) (marked (mst1Marks c)) × (w ≡ fileTotal text (marked (mst1Marks c)))
+    -- what the checker passes with other marks, none of them at a row that is not in use
+    marks-least : (marks : List ℕ) (w : ℤ) (alone : Bool) → cst (withClaim c marks) ≡ passed w alone → ((i : ℕ) → marked marks i ≡ true → h .rows i ≡ true)
+        → Least h (filePrice text) (marked marks) × (w ≡ fileTotal text (marked marks))
     unfolding used graphOf weightOf claimed claimWeight
+    marks-least marks w alone p f = go (standing (withClaim c marks))
+      where
+        own : claimed (withClaim c marks) ≡ marked marks
+        own = both-subset (used c) (marked marks) (λ i q. used-is i ∙ f i q)
+
+        go : Standing (withClaim c marks) → Least h (filePrice text) (marked marks) × (w ≡ fileTotal text (marked marks))
+        go (accepted b) =
+            let d = withClaim c marks in
+            let l = claim-least d b (demand3 d b .passes .0 (w, alone, p)) in
+            let least = least-file (marked marks) (subst (λ (Q : ℕ → Bool). Least (graphOf c) (weightOf c) Q) own l) in
+            (least, demand3 d b .weight w alone p ∙ ap (total (rowsOf c) (weightOf c)) own ∙ total-file (marked marks) f)
+        go (turned x z) = absurd (refused-passed (cst-turned (withClaim c marks) x z) p)
+
+    built-least : (w : ℤ) → mst1 c ≡ treeBuilt w → Accepted c → Least h (filePrice text) (marked (mst1Marks c)) × (w ≡ fileTotal text (marked (mst1Marks c)))
+    unfolding graphOf
     built-least w q a =
-        let d = withClaim c (mst1Marks c) in
         let (alone, p) = demand3 c a .builds w q in
-        let b = built-accepted c a w q in
-        let l = claim-least d b (demand3 d b .passes .0 (w, alone, p)) in
-        let own : claimed d ≡ marked (mst1Marks c) = both-subset (used c) (marked (mst1Marks c)) (marks-used w q a) in
-        let f = least-file (marked (mst1Marks c)) (subst (λ (Q : ℕ → Bool). Least (graphOf c) (weightOf c) Q) own l) in
-        (f, demand3 d b .weight w alone p ∙ ap (total (rowsOf c) (weightOf c)) own ∙ total-file (marked (mst1Marks c)) (f .tree .inside))
+        marks-least (mst1Marks c) w alone p (λ i k. sym (used-is i) ∙ marks-used w q a i k)
 
     built-accepts : (w : ℤ) → mst1 c ≡ treeBuilt w → Accepted c
     built-accepts w q = go (standing c)
@@ -425,6 +437,7 @@ module _ (text : List ℕ) (r : Read) (e : readText text ≡ read r) (dl dr dw d
           binary = binary;
           passes = (λ p. passed-here (p .0) (p .1) (p .2), passed-there);
           weight = passed-weight;
+          others = marks-least;
           builds = (λ p. built-here (p .0) (p .1), built-there);
           built = λ w q. built-least w q (built-accepts w q);
         }
@@ -495,7 +508,7 @@ module _ (text : List ℕ) (l : Lent) (n names rows : ℕ) where
 over-length : (s l : List ℕ) (k : ℕ) → length l ≡ k → length s ≤ k → length (s ++ drop (length s) l) ≡ k
 over-length s l k e h = omega (arith, length-append s (drop (length s) l), length-drop (length s) l)
 
-lent-after : (text : List ℕ) (l : Lent) (r : Read) → wrongLent l ≡ false → reading text ≡ read r → lentAfter text l ≡ lentOver r l
+pub lent-after : (text : List ℕ) (l : Lent) (r : Read) → wrongLent l ≡ false → reading text ≡ read r → lentAfter text l ≡ lentOver r l
 unfolding lentAfter filledIf filled
 lent-after text l r w e = rw (w, e)
 

@@ -19,7 +19,7 @@ use Rattle.graph_theory.specs.Tree.{SpanningTree}
 use Rattle.rowset.specs.Integers.{total}
 use Rattle.star_meaning.specs.Demand3.{ZeroOrOne}
 use Rattle.star_spec.specs.Accepted.{AcceptedTable}
-use Rattle.star_spec.specs.Call.{Call, workOf, marked}
+use Rattle.star_spec.specs.Call.{Call, workOf, marked, withClaim}
 use Rattle.star_spec.specs.Cst.{passed, cst}
 use Rattle.star_spec.specs.Mst1.{treeBuilt, mst1, mst1Marks}
 use Rattle.file_meaning.specs.Means.{trenches, namesOver, ReadingMeans}
@@ -77,6 +77,9 @@ pub record FileCall (text : List ℕ) (n : ℕ) (c : Call) : Type 0 where
   -- the checker passes exactly where the file's plan is a least spanning tree, and states what it costs
   pub passes : ((w : ℤ) × (alone : Bool) × (cst c ≡ passed w alone)) ↔ (FileTable text n × Least (fileGraph text n) (filePrice text) (filePlan text))
   pub weight : (w : ℤ) (alone : Bool) → cst c ≡ passed w alone → w ≡ fileTotal text (filePlan text)
+  -- and where it passes other marks, of which none is at a row that is not in use, these are a least spanning tree
+  pub others : (marks : List ℕ) (w : ℤ) (alone : Bool) → cst (withClaim c marks) ≡ passed w alone → ((i : ℕ) → marked marks i ≡ true → fileGraph text n .rows i ≡ true)
+      → Least (fileGraph text n) (filePrice text) (marked marks) × (w ≡ fileTotal text (marked marks))
   -- the builder builds exactly where there is a spanning tree; what it marks is a least one, and it states what that costs
   pub builds : ((w : ℤ) × (mst1 c ≡ treeBuilt w)) ↔ (FileTable text n × (S : ℕ → Bool) × SpanningTree (fileGraph text n) S)
   pub built : (w : ℤ) → mst1 c ≡ treeBuilt w → Least (fileGraph text n) (filePrice text) (marked (mst1Marks c)) × (w ≡ fileTotal text (marked (mst1Marks c)))

@@ -4,6 +4,7 @@ use borrow.Author.Tests.{eq-eqb, ne-eqb}
 use lib.ListN.{length}
 use mathlib.Core.Path.{refl, ap, _∙_}
 use native.Mathlib.Omega.{arith}
+use Rattle.file_door_meaning.proofs.Bytes.{read-table-call}
 use Rattle.file_spec.specs.Door.{fileFields, fileDoor, fileDoorLent}
 use Rattle.star_spec.specs.Door.{answerAfter, wellLent, doorReturns}
 use Rattle.file_door.proofs.star_read_table.Statement.{statement}
@@ -11,14 +12,14 @@ use Rattle.file_door.proofs.star_read_table.Tie as tie
 
 returns : tie.Need-returns
 unfolding doorReturns wellLent fileDoor answerAfter fileDoorLent
-returns c = rw (ne-eqb (length (c .before .before .before .before .before .before .before .before .before .before .before .args .answer .now)) 16 (λ e. omega arith)) (refl, (refl, refl))
+returns c = read-table-call (rw (ne-eqb (length (c .before .before .before .before .before .before .before .before .before .before .before .args .answer .now)) 16 (λ e. omega arith)) (refl, (refl, refl)))
 
 returns-2 : tie.Need-returns-2
 unfolding doorReturns wellLent fileDoor fileDoorLent
 returns-2 c =
     let t = c .before .before .before .before .before .before .before .before .before .before .before .before .before .before .before .before .before .before .before .before .before .read-table .ensures in
-    rw (eq-eqb (length (c .before .before .before .before .before .before .before .before .before .before .before .before .before .before .before .before .before .before .before .before .before .before .before .before .before .before .before .before .before .before .before .before .before .before .before .before .before .before .before .before .before .args .answer .now)) 16 (omega arith))
-    (refl, (c .before .before .write-answer .ensures ∙ ap (answerAfter _) (c .before .before .before .before .of-taken .ensures ∙ ap fileFields (t .0)), t .1))
+    read-table-call (rw (eq-eqb (length (c .before .before .before .before .before .before .before .before .before .before .before .before .before .before .before .before .before .before .before .before .before .before .before .before .before .before .before .before .before .before .before .before .before .before .before .before .before .before .before .before .before .args .answer .now)) 16 (omega arith))
+    (refl, (c .before .before .write-answer .ensures ∙ ap (answerAfter _) (c .before .before .before .before .of-taken .ensures ∙ ap fileFields (t .0)), t .1)))
 
 pub star-read-table-spec : {M : Type 1} → statement M
 star-read-table-spec =
