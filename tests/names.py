@@ -16,6 +16,7 @@ STAR = sys.argv[1:]
 HERE = os.path.dirname(os.path.abspath(__file__))
 sys.path.insert(0, os.path.join(HERE, "tablefile"))
 from reader import Reader  # noqa: E402
+from run import random_text  # noqa: E402
 
 NAMES = ["Rathaus", "Markt", "Am Tor", "Münsterplatz"]
 ROWS = [(1, 2, 5, 0), (2, 3, 3, 1), (3, 4, 5, 1), (1, 4, 4, 1), (1, 3, 6, 0)]
@@ -248,6 +249,43 @@ def largest():
     check("largest full", status == 2 and b"all 1024 trenches are in use" in err, err)
 
 
+def edited(rows, command, i, pick):
+    """A change of row i: the command's words, and the rows that are to be read after it."""
+    left, right, price, mark, struck = rows[i]
+    if command == "strike":
+        return [str(i + 1)], (left, right, price, 0, True)
+    if command == "price":
+        price = pick.choice([-12, 0, 2147483647])
+        return [str(i + 1), str(price)], (left, right, price, mark, struck)
+    return [str(i + 1)], (left, right, price, int(command == "mark"), struck)
+
+
+def random_edits(count):
+    """Random files, their fields parted in all ways, with quotes and headers: every change is read
+    back as it is meant, and the other lines stay as they were."""
+    pick, done = random.Random(11), 0
+    while done < count:
+        text = random_text(pick)
+        rows = reading(text) or []
+        used = [i for i in range(len(rows)) if not rows[i][4]]
+        if not used:
+            continue
+        i, command = pick.choice(used), pick.choice(["strike", "price", "mark", "unmark"])
+        words, row = edited(rows, command, i, pick)
+        out, err, status = star(text, command, "FILE", *words)
+        meant = rows[:i] + [row] + rows[i + 1:]
+        check("%s of a random file" % command, status == 0 and reading(out) == meant, (text, out, err))
+        others = re.split(rb"\r\n|\r|\n", text)
+        kept = [line for line in re.split(rb"\r\n|\r|\n", out) if line in others]
+        check("%s: other lines" % command, len(kept) >= len(others) - 1, (text, out))
+        out, err, status = star(text, "merge", "FILE")
+        meant = [row for row in rows if not row[4]]
+        check("merge of a random file", status == 0 and reading(out) == meant, (text, out, err))
+        read = [Reader().read(t)[1] for t in (text, out)]
+        check("merge: junctions", read[0] == read[1], (text, out))
+        done += 1
+
+
 def main():
     for form in FORMS:
         asked(form, ROWS)
@@ -258,6 +296,7 @@ def main():
         objects(form)
         pictures(form)
         changes(form)
+    random_edits(150)
     faults()
     which()
     largest()

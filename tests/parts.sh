@@ -101,7 +101,9 @@ part_memory_console() {
         "districts $at/yard.txt 1 2 3 4 5 6 7 8 9 10" "mend $at/old.txt" "mend $at/struck.txt" \
         "check --json $at/old.txt" "explain --json $at/city.txt 9" \
         "mend --steps --json -o /dev/null $at/old.txt" "outlets --json $at/struck.txt 1 9" \
-        "outlets $at/struck.txt 1 9" "outlets $at/yard.txt 1 3"; do
+        "outlets $at/struck.txt 1 9" "outlets $at/yard.txt 1 3" "draw $at/market.csv" \
+        "add $at/market.csv Markt Hof 3" "check --json $at/market.csv" "digs $at/market.csv" \
+        "page --static $at/market.csv" "check $told/check-refused2.txt"; do
         valgrind -q --error-exitcode=9 --leak-check=full --errors-for-leak-kinds=definite \
             "$build/star" $words >"$work/checked" 2>&1
         if [ $? != 9 ]; then passed=$((passed + 1)); else
