@@ -1,2 +1,3 @@
+pub mod Forests
 pub mod Makes
 pub mod Trees

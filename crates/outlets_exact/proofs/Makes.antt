@@ -1,21 +1,22 @@
 -- What is made of the start and the exchanges, with weights in columns that hold the loaded ones.
--- Main statements: the exchanges by the number of rows at r (reduced-none, reduced-made); no tree, and one with exchanges made on it (makes-none, makes-some). Assumes nothing.
+-- Main statements: the exchanges by the number of rows at r (reduced-none, reduced-whole, reduced-made); no tree, and one with exchanges made on it (makes-none, makes-some). Assumes nothing.
 use Prim.Native.Nat.{ℕ, _-_, _≤_, _<_}
 use borrow.Author.Tests.{lt-ltb, le-ltb}
 use lib.IntN.{ℤ}
 use mathlib.Core.Bool.{Bool, true, false}
 use mathlib.Core.List.{List}
 use mathlib.Core.Path.{_≡_, refl, sym, _∙_}
+use native.Mathlib.Omega.{arith}
 use Rattle.outlets_theory.specs.Degree.{touches}
-use Rattle.outlets_swaps.proofs.Turns.{ends-none}
+use Rattle.outlets_swaps.proofs.Turns.{ends-none, ends-made}
 use Rattle.outlets_swaps.specs.steps.Columns.{priceIn}
-use Rattle.outlets_swaps.specs.steps.Exchanges.{Given, exchangesTo, firstState, Ends}
+use Rattle.outlets_swaps.specs.steps.Exchanges.{Given, found, exchangesTo, firstState, Ends}
 use Rattle.rowset.proofs.Laws.{clash}
 use Rattle.rowset.specs.Sets.{empty, both, without, count}
 use Rattle.slice.specs.Slices.{size}
 use Rattle.outlets_start.specs.steps.Start.{graphIn, Starts}
 use Rattle.table.specs.Loads.{loadedRow}
-use Rattle.outlets_exact.specs.steps.Reduced.{reducedBy, walked, reducedFrom, Held, usedIn, loadedIn, weightIn, Makes}
+use Rattle.outlets_exact.specs.steps.Reduced.{reducedBy, walked, forestIn, reducedFrom, Held, usedIn, loadedIn, weightIn, Makes}
 
 -- ── The exchanges ──
 
@@ -25,10 +26,18 @@ module _ (x : Given) (U T : ℕ → Bool) (r n t have : ℕ) (is : have ≡ coun
   unfolding reducedBy
   reduced-none l p q = rw (← is, lt-ltb have t l) (ends-none refl p q)
 
-  -- there are not, and the exchanges are made for the rows that are not at r, with the path matrix from r
-  pub reduced-made : t ≤ have → (rest : ℕ → Bool) (own : List ℕ) → rest ≡ without U (x .at) → own ≡ walked (loadedRow 1 (x .left)) (loadedRow 1 (x .right)) T r n → Ends (exchangesTo x n (have - t) (firstState x rest T own)) whole chosen → Ends (reducedFrom x U T r n t) whole chosen
+  -- there are exactly t, and no exchange is made
+  pub reduced-whole : have ≡ t → whole ≡ true → chosen ≡ T → Ends (reducedFrom x U T r n t) whole chosen
+  unfolding reducedBy exchangesTo firstState found
+  reduced-whole e p q =
+      let enough : t ≤ have = omega (arith, e) in
+      let over : have - t ≡ 0 = omega (arith, e) in
+      rw (p, q, ← is, le-ltb have t enough, over) (ends-made refl refl)
+
+  -- there are more, and the exchanges are made for rows of the forest of those that are not at r, with the path matrix from r
+  pub reduced-made : t ≤ have → (away forest : ℕ → Bool) (own : List ℕ) → away ≡ without U (x .at) → forest ≡ forestIn x away n → own ≡ walked (loadedRow 1 (x .left)) (loadedRow 1 (x .right)) T r n → Ends (exchangesTo x n (have - t) (firstState x forest T own)) whole chosen → Ends (reducedFrom x U T r n t) whole chosen
   unfolding reducedBy
-  reduced-made l rest own p q e = rw (← is, le-ltb have t l, ← p, ← q) e
+  reduced-made l away forest own p f q e = rw (← is, le-ltb have t l, ← p, ← f, ← q) e
 
 -- ── What is made ──
 

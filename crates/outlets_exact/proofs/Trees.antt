@@ -13,10 +13,13 @@ use mathlib.Core.Path.{_≡_, refl, sym, _∙_, ap, fun-ext}
 use native.Mathlib.Nat.{mod-one}
 use native.Mathlib.Omega.{arith}
 use Rattle.outlets_spec.specs.Outlets.{treeAt}
+use Rattle.districts_theory.specs.Growing.{grownForest}
+use Rattle.outlets_forest_theory.proofs.Inside.{enough}
+use Rattle.outlets_forest_theory.specs.Forest.{awayFrom, forestAway, rowInOf}
 use Rattle.outlets_theory.proofs.Shifted.{shifted}
 use Rattle.outlets_theory.proofs.Start.{low, start-built}
 use Rattle.outlets_theory.specs.Degree as degree
-use Rattle.outlets_theory.specs.Degree.{touches, rowsAt, start, swaps, reduced, treeWith}
+use Rattle.outlets_theory.specs.Degree.{touches, rowsAt, rowIn, start, swaps, reduced, treeWith}
 use Rattle.graph_theory.proofs.Builder.{built-spanning, not-built}
 use Rattle.graph_theory.specs.Builder.{Fragment, tree}
 use Rattle.graph_theory.specs.Graph.{Graph, Sound, joined}
@@ -29,7 +32,7 @@ use Rattle.outlets_swaps.proofs.Swaps.{Ready, first-ready, ends-swaps}
 use Rattle.outlets_swaps.specs.steps.Columns.{priceIn}
 use Rattle.outlets_swaps.specs.steps.Exchanges.{Given, found, firstState, exchangesTo, isMade, rowsLeft, Ends}
 use Rattle.rowset.proofs.Laws.{clash, refuted, sum-cut}
-use Rattle.rowset.proofs.Members.{both-in}
+use Rattle.rowset.proofs.Members.{both-in, without-in}
 use Rattle.rowset.proofs.Signed.{signed-parts}
 use Rattle.rowset.specs.Bytes.{inRow}
 use Rattle.rowset.specs.Sets.{upTo, both, without, count}
@@ -43,6 +46,7 @@ use Rattle.star_spec.specs.Mst1.{chosenRows}
 use Rattle.star_spec.specs.Refusals.{isNone, Accepted}
 use Rattle.table.proofs.Loads.{load-taken, loaded-taken}
 use Rattle.table.specs.Loads.{loadedRow}
+use Rattle.outlets_exact.proofs.Forests.{forest-cut}
 use Rattle.outlets_exact.specs.steps.Reduced.{reducedBy, reducedFrom, walked, Held, usedIn, loadedIn, weightIn, Makes}
 
 -- ── Positions past the table's rows change nothing ──
@@ -175,13 +179,21 @@ module _ (c : Call) (ok : Accepted c) (r : ℕ) (v : Vertex (c .n) r) where
       have = ap (count size) chosen-at ∙ sum-cut size (rowsOf c) (λ i. 1) (both chosen (touches G r)) few (λ i u. refuted _ (λ q. let (l, h, x) = used-row c i (inside i (both-in chosen (touches G r) i q .0)) in omega arith))
 
       -- the rows that are not at r
-      rest : without (usedIn (heldOf c)) at ≡ (λ i. G .rows i && not (touches G r i))
-      unfolding without used graphOf both at
+      rest : without (usedIn (heldOf c)) at ≡ awayFrom G r
+      unfolding without used graphOf both at awayFrom
       rest = fun-ext (λ i. go (upTo (c .m) i && c .inUse i) (touches G r i))
         where
           go : (p x : Bool) → (p && not (p && x)) ≡ (p && not x)
           go true x = refl
           go false x = refl
+
+      -- and their forest
+      forest-is : grownForest (record { n = c .n; m = size; a = inRow 1 (c .left); b = inRow 1 (c .right); rows = awayFrom G r }) (weightOf c) (awayFrom G r) ≡ forestAway G (weightOf c) r
+      unfolding forestAway awayFrom graphOf
+      forest-is = forest-cut G (weightOf c) few-m (awayFrom G r) (λ i h. away-row i h)
+        where
+          away-row : (i : ℕ) → awayFrom G r i ≡ true → (1 ≤ i) × (i ≤ G .m)
+          away-row i h = fine .position i (without-in (G .rows) (touches G r) i h .0)
 
       priced : Priced (weightOf c) (priceIn (c .weight))
       unfolding weightOf flipped
@@ -194,28 +206,39 @@ module _ (c : Call) (ok : Accepted c) (r : ℕ) (v : Vertex (c .n) r) where
       own = walked (inRow 1 (c .left)) (inRow 1 (c .right)) chosen r (c .n)
 
       abbrev others : ℕ → Bool
-      others i = G .rows i && not (touches G r i)
+      others = forestAway G (weightOf c) r
 
       -- what is left of the start, over the table as it was handed in
       ends : Ends (reducedBy given (c .n) (rowsAt G r chosen) n (firstState given others chosen own)) left remaining
       unfolding chosen t
-      ends = rw (at-is, start-same, left-ends, right-ends, loaded-weights c t, have, rest) at (s .ends e)
+      ends = rw (at-is, start-same, left-ends, right-ends, loaded-weights c t, have, rest, forest-is) at (s .ends e)
 
-      plain : Sound (record { n = c .n; m = c .m; a = inRow 1 (c .left); b = inRow 1 (c .right); rows = used c })
+      abbrev P : Graph
+      P = record { n = c .n; m = c .m; a = inRow 1 (c .left); b = inRow 1 (c .right); rows = used c }
+
+      plain : Sound P
       unfolding graphOf
       plain = fine
 
-      ready : Ready (c .n) (c .m) (c .left) (c .right) (used c) (weightOf c) (priceIn (c .weight)) r plain few priced (v .0) (v .1) (firstState given others chosen own)
+      away : (i : ℕ) → others i ≡ true → (used c i ≡ true) × (touches P r i ≡ false)
+      unfolding graphOf
+      away = enough G fine (weightOf c) r .rows
+
+      same-in : (S : ℕ → Bool) → SpanningTree P S → rowInOf P (weightOf c) r others S ≡ rowIn P (weightOf c) r S
+      unfolding graphOf
+      same-in = enough G fine (weightOf c) r .same
+
+      ready : Ready (c .n) (c .m) (c .left) (c .right) (used c) (weightOf c) (priceIn (c .weight)) r plain few priced (v .0) (v .1) others away same-in (firstState given others chosen own)
       unfolding graphOf at
       ready =
           let room : columnWords * c .n ≤ length (replicate {A = ℕ} 4080 0) = omega (arith, length-replicate {A = ℕ} 4080 0, few-vertices) in
-          first-ready (c .n) (c .m) (c .left) (c .right) (used c) (weightOf c) (priceIn (c .weight)) r plain few priced (v .0) (v .1) chosen (start-tree e) own
+          first-ready (c .n) (c .m) (c .left) (c .right) (used c) (weightOf c) (priceIn (c .weight)) r plain few priced (v .0) (v .1) others away same-in chosen (start-tree e) own
           (walked-path G fine chosen (start-tree e) (omega (arith, few-vertices)) few r (v .0) (v .1) (replicate 4080 0) room)
           (walked-room G fine chosen (start-tree e) (omega (arith, few-vertices)) few r (v .0) (v .1) (replicate 4080 0) room)
 
       made-swaps : (k : ℕ) → Ends (exchangesTo given (c .n) k (firstState given others chosen own)) left remaining → ((left ≡ false) × (swaps G (weightOf c) r k chosen ≡ none)) ⊎ ((left ≡ true) × (swaps G (weightOf c) r k chosen ≡ some remaining))
       unfolding graphOf at firstState found
-      made-swaps k en = ends-swaps (c .n) (c .m) (c .left) (c .right) (used c) (weightOf c) (priceIn (c .weight)) r plain few priced (v .0) (v .1) (firstState given others chosen own) ready k left remaining en
+      made-swaps k en = ends-swaps (c .n) (c .m) (c .left) (c .right) (used c) (weightOf c) (priceIn (c .weight)) r plain few priced (v .0) (v .1) others away same-in (firstState given others chosen own) ready k left remaining en
 
       tree-is : treeAt c r n ≡ reduced G (weightOf c) r n chosen
       unfolding treeAt treeWith degree.reducedFrom

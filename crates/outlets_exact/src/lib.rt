@@ -1,8 +1,13 @@
-// The tree with exactly t rows at a vertex r on the machine: the weights are loaded, the start prefers rows at r, a walk over it fills the path matrix from r, and exchanges take rows at r out until t are left.
+// The tree with exactly t rows at a vertex r on the machine: the weights are loaded, the start prefers rows at r, the others grow their forest U, a walk over the start fills the path matrix from r,
+// and exchanges for rows of U take rows at r out until t are left.
 ghost use mathlib.Core.Path.{_≡_};
+ghost use Rattle.districts_theory.specs.Growing.{grownForest};
+ghost use Rattle.outlets_start.specs.steps.Start.{graphIn};
 ghost use Rattle.outlets_swaps.specs.steps.Columns.{givenOf};
 ghost use Rattle.outlets_swaps.specs.steps.Exchanges.{Ends};
+ghost use Rattle.search_columns.specs.steps.Integers.{integersAfter};
 ghost use Rattle.slice.specs.Slices.{size, component};
+ghost use Rattle.table.specs.Loads.{loadedRow};
 ghost use Rattle.outlets_exact.specs.steps.Reduced.{reducedFrom, Makes};
 use outlets_swaps::Reduced;
 use slice::Slice;
@@ -15,7 +20,24 @@ pub struct Made {
     pub chosen: Slice,
 }
 
-// A tree over the rows of a slice with as many exchanges made as it has rows at r more than t; none where it has fewer.
+// The forest of the rows of a slice: that of one run, which has every position.
+fn forest_of(
+    left: &[u8],
+    right: &[u8],
+    weights: &[u64],
+    first: usize,
+    rows: Slice,
+    n: usize,
+) -> Slice
+    ensures { λ f.
+        let g = graphIn (loadedRow 1 (now (left .entry))) (loadedRow 1 (now (right .entry))) (component rows) n in
+        ⌜ component f ≡ grownForest g (integersAfter (now (weights .entry)) first) (component rows) ⌝ }
+{
+    let ends = [1024u32; 1];
+    districts_forests::forests_of(left, right, weights, first, rows, n, &ends)
+}
+
+// A tree over the rows of a slice with as many exchanges made as it has rows at r more than t; none where it has fewer. Rows of U alone come in.
 fn reduce(
     n: u32,
     left: &[u8],
@@ -41,7 +63,14 @@ fn reduce(
             chosen: Slice::empty(),
         };
     }
-    let rest = slice::difference::without(used, at);
+    if have == least {
+        return Reduced {
+            whole: true,
+            chosen: tree,
+        };
+    }
+    let away = slice::difference::without(used, at);
+    let forest = forest_of(left, right, weights, first, away, n as usize);
     let mut own = [0u64; path::ALL_WORDS];
     path_walk::walk(left, right, tree, r, n, &mut own);
     outlets_swaps::reduce(
@@ -52,7 +81,7 @@ fn reduce(
         weights,
         first,
         at,
-        rest,
+        forest,
         have - least,
         tree,
         &mut own,

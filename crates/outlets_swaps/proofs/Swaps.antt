@@ -1,4 +1,4 @@
--- The exchanges of the code are those of the definition: over a spanning tree, its path matrix from r and what is kept of each row they give the same trees, and fail where there is none (ends-swaps).
+-- The exchanges of the code are those of the definition: over a spanning tree, its path matrix from r and what is kept of rows enough they give the same trees, and fail where there is none (ends-swaps).
 -- Assumes nothing.
 use Prim.Native.Nat.{ℕ, zero, suc, _+_, _-_, _*_, _≤_, _<_}
 use borrow.Author.Tests.{eqb-true, eqb-false}
@@ -12,7 +12,8 @@ use mathlib.Core.Option.{Option, none, some}
 use mathlib.Core.Path.{_≡_, refl, sym, _∙_, ap, ap₂, subst, fun-ext}
 use native.Mathlib.Decide.{decLt}
 use native.Mathlib.Omega.{arith}
-use Rattle.outlets_theory.specs.Degree.{touches, pathAt, rowOut, swap, swaps}
+use Rattle.outlets_forest_theory.specs.Forest.{rowInOf}
+use Rattle.outlets_theory.specs.Degree.{touches, pathAt, rowOut, rowIn, swap, swaps}
 use Rattle.path_exchange.proofs.Turned.{length-all-turned, paths-turned}
 use Rattle.path_exchange.specs.Turned.{columnsTurned, PathsFrom, ringOf}
 use Rattle.graph_theory.proofs.Path.{path-inside, path-columns}
@@ -54,22 +55,20 @@ module _ (n m : ℕ) (left right : List ℕ) (rows : ℕ → Bool) (w : ℕ → 
   abbrev g : Graph
   g = record { n = n; m = m; a = inRow 1 left; b = inRow 1 right; rows = rows }
 
-  -- the rows that are not at r
-  abbrev pub restOf : ℕ → Bool
-  restOf i = rows i && not (touches g r i)
-
   abbrev pub given : Given
   given = record { left = left; right = right; price = price; weight = w; at = both rows (touches g r) }
 
-  module _ (ok : Sound g) (few : m ≤ size) (priced : Priced w price) (low : 1 ≤ r) (high : r ≤ n) where
-    -- a spanning tree, its path matrix from r, and for each row what is kept of it
+  -- Y: rows that are not at r, among which the row that comes in is always found
+  module _ (ok : Sound g) (few : m ≤ size) (priced : Priced w price) (low : 1 ≤ r) (high : r ≤ n) (Y : ℕ → Bool) (away : (i : ℕ) → Y i ≡ true → (rows i ≡ true) × (touches g r i ≡ false))
+      (enough : (S : ℕ → Bool) → SpanningTree g S → rowInOf g w r Y S ≡ rowIn g w r S) where
+    -- a spanning tree, its path matrix from r, and for each row of Y what is kept of it
     pub record Ready (s : State) : Type 0 where
       pub tree : SpanningTree g (s .chosen)
       pub paths : PathsFrom g (s .chosen) r (s .own)
       pub long : columnWords * n ≤ length (s .own)
       pub outs : length (s .out) ≡ size
       pub all : length (s .cost) ≡ size
-      pub kept : (i : ℕ) → 1 ≤ i → i ≤ size → numberOf (s .out) i ≡ cond (restOf i) (rowOut g w r (s .chosen) i) 0
+      pub kept : (i : ℕ) → 1 ≤ i → i ≤ size → numberOf (s .out) i ≡ cond (Y i) (rowOut g w r (s .chosen) i) 0
       pub cost : (i : ℕ) → 1 ≤ i → i ≤ size → numberOf (s .cost) i ≡ costOf price i (numberOf (s .out) i)
 
     -- what an exchange of the code says of the one of the definition
@@ -77,13 +76,9 @@ module _ (n m : ℕ) (left right : List ℕ) (rows : ℕ → Bool) (w : ℕ → 
       both-none : Agrees none none
       both-some : (s : State) → Ready s → Agrees (some s) (some (s .chosen))
 
-    -- no row past the table's is in use
-    past : (i : ℕ) → m < i → restOf i ≡ false
-    past i h = refuted _ (λ e. go (rows i) refl e)
-      where
-        go : (b : Bool) → rows i ≡ b → (b && not (touches g r i)) ≡ true → ⊥
-        go true q e = omega (arith, ok .position i q)
-        go false q e = clash e refl
+    -- Y has no row past the table's
+    past : (i : ℕ) → m < i → Y i ≡ false
+    past i h = refuted _ (λ e. omega (arith, ok .position i (away i e .0)))
 
     module _ (S : ℕ → Bool) (tree : SpanningTree g S) (own : List ℕ) (paths : PathsFrom g S r own) where
       -- the xor of the columns of a row's ends is the path between them
@@ -126,7 +121,7 @@ module _ (n m : ℕ) (left right : List ℕ) (rows : ℕ → Bool) (w : ℕ → 
       S = s .chosen
 
       -- what is kept, over the rows of the table
-      keeps : Keeps g ok w price priced r S (ready .tree) (numberOf (s .out))
+      keeps : Keeps g ok w price priced r S (ready .tree) Y (numberOf (s .out))
       keeps i l u = ready .kept i l (omega arith)
 
       prices : (i : ℕ) → 1 ≤ i → i ≤ m → numberOf (s .cost) i ≡ costOf price i (numberOf (s .out) i)
@@ -147,24 +142,24 @@ module _ (n m : ℕ) (left right : List ℕ) (rows : ℕ → Bool) (w : ℕ → 
           ∙ ap (λ (o : Pick). o .row) (cheapest-cut (numberOf (s .cost)) m size few past-cost)
 
       stops : f ≡ 0 → swap g w r (some S) ≡ none
-      stops e = exchange-none g ok w price priced r S (ready .tree) (numberOf (s .out)) (numberOf (s .cost)) keeps prices f is-cheapest e
+      stops e = exchange-none g ok w price priced r S (ready .tree) Y away (enough S (ready .tree)) (numberOf (s .out)) (numberOf (s .cost)) keeps prices f is-cheapest e
 
       module _ (l : 1 ≤ f) where
         offer : Offered g ok w price priced r S (ready .tree) f
-        offer = made g ok w price priced r S (ready .tree) (numberOf (s .out)) (numberOf (s .cost)) keeps prices f is-cheapest l .0
+        offer = made g ok w price priced r S (ready .tree) Y away (enough S (ready .tree)) (numberOf (s .out)) (numberOf (s .cost)) keeps prices f is-cheapest l .0
 
         hf : f ≤ m
-        hf = made g ok w price priced r S (ready .tree) (numberOf (s .out)) (numberOf (s .cost)) keeps prices f is-cheapest l .1
+        hf = made g ok w price priced r S (ready .tree) Y away (enough S (ready .tree)) (numberOf (s .out)) (numberOf (s .cost)) keeps prices f is-cheapest l .1
 
         e : ℕ
         e = suc (offer .goes)
 
         is-out : numberOf (s .out) f ≡ e
         unfolding e offer
-        is-out = made-out g ok w price priced r S (ready .tree) (numberOf (s .out)) (numberOf (s .cost)) keeps prices f is-cheapest l
+        is-out = made-out g ok w price priced r S (ready .tree) Y away (enough S (ready .tree)) (numberOf (s .out)) (numberOf (s .cost)) keeps prices f is-cheapest l
 
         goes : swap g w r (some S) ≡ some (exchange S e f)
-        goes = exchange-made g ok w price priced r S (ready .tree) (numberOf (s .out)) (numberOf (s .cost)) keeps prices f is-cheapest l ∙ ap (λ (k : ℕ). some (exchange S k f)) is-out
+        goes = exchange-made g ok w price priced r S (ready .tree) Y away (enough S (ready .tree)) (numberOf (s .out)) (numberOf (s .cost)) keeps prices f is-cheapest l ∙ ap (λ (k : ℕ). some (exchange S k f)) is-out
 
         on : (onPath g S (inRow 1 left f) (inRow 1 right f) e ≡ true) × (touches g r e ≡ true)
         unfolding e
@@ -209,17 +204,14 @@ module _ (n m : ℕ) (left right : List ℕ) (rows : ℕ → Bool) (w : ℕ → 
         unfolding e S′
         stays i row apart = out-stays g ok w r S (ready .tree) f (offer .goes) (offer .row) (offer .out) (offer .off) (offer .is) i row apart
 
-        kept′ : (i : ℕ) → 1 ≤ i → i ≤ size → numberOf (next .out) i ≡ cond (restOf i) (rowOut g w r S′ i) 0
-        kept′ i li hi = out-is i li hi ∙ go (keptAs (s .out) e i) (rows i) (touches g r i) refl refl refl (ready .kept i li hi)
+        kept′ : (i : ℕ) → 1 ≤ i → i ≤ size → numberOf (next .out) i ≡ cond (Y i) (rowOut g w r S′ i) 0
+        kept′ i li hi = out-is i li hi ∙ go (keptAs (s .out) e i) (Y i) refl refl (ready .kept i li hi)
           where
-            go : (b p t : Bool) → keptAs (s .out) e i ≡ b → rows i ≡ p → touches g r i ≡ t → numberOf (s .out) i ≡ cond (rows i && not (touches g r i)) (rowOut g w r S i) 0
-                → cond b (dearest given own′ i) (numberOf (s .out) i) ≡ cond (p && not t) (rowOut g w r S′ i) 0
-            go true true false k p t h = dearest-out S′ tree′ own′ paths′ i p
-            go true false t k p q h = absurd (omega (arith, low-e .0, eqb-true (numberOf (s .out) i) e k, rw p at h))
-            go true true true k p t h = absurd (omega (arith, low-e .0, eqb-true (numberOf (s .out) i) e k, rw (p, t) at h))
-            go false true false k p t h = let q = rw (p, t) at h in q ∙ sym (stays i p (λ z. eqb-false (numberOf (s .out) i) e k (q ∙ z)))
-            go false false t k p q h = rw p at h
-            go false true true k p t h = rw (p, t) at h
+            go : (b v : Bool) → keptAs (s .out) e i ≡ b → Y i ≡ v → numberOf (s .out) i ≡ cond (Y i) (rowOut g w r S i) 0 → cond b (dearest given own′ i) (numberOf (s .out) i) ≡ cond v (rowOut g w r S′ i) 0
+            go true true k p h = dearest-out S′ tree′ own′ paths′ i (away i p .0)
+            go true false k p h = absurd (omega (arith, low-e .0, eqb-true (numberOf (s .out) i) e k, rw p at h))
+            go false true k p h = let q = rw p at h in q ∙ sym (stays i (away i p .0) (λ z. eqb-false (numberOf (s .out) i) e k (q ∙ z)))
+            go false false k p h = rw p at h
 
         cost′ : (i : ℕ) → 1 ≤ i → i ≤ size → numberOf (next .cost) i ≡ costOf price i (numberOf (next .out) i)
         cost′ i li hi = rw (out-is i li hi, cost-is i li hi) (go (keptAs (s .out) e i))
@@ -277,30 +269,29 @@ module _ (n m : ℕ) (left right : List ℕ) (rows : ℕ → Bool) (w : ℕ → 
         go o p (both-some t x) q b c = inr (b, q ∙ ap some (sym c))
 
     -- the first state is ready, where the path matrix is the tree's from r
-    pub first-ready : (T : ℕ → Bool) → SpanningTree g T → (own : List ℕ) → PathsFrom g T r own → columnWords * n ≤ length own → Ready (firstState given restOf T own)
+    pub first-ready : (T : ℕ → Bool) → SpanningTree g T → (own : List ℕ) → PathsFrom g T r own → columnWords * n ≤ length own → Ready (firstState given Y T own)
     unfolding firstState found costOf
     first-ready T tree own paths long =
         record {
           tree = tree;
           paths = paths;
           long = long;
-          outs = length-filled restOf (dearest given own) 0 (replicate size 0) ∙ length-replicate {A = ℕ} size 0;
-          all = length-filled restOf (costs given own) 0 (replicate size noCost) ∙ length-replicate {A = ℕ} size noCost;
-          kept = λ i l u. outs-are i l u ∙ go i (rows i) (touches g r i) refl;
-          cost = λ i l u. rw (outs-are i l u, costs-are i l u) (no i (restOf i));
+          outs = length-filled Y (dearest given own) 0 (replicate size 0) ∙ length-replicate {A = ℕ} size 0;
+          all = length-filled Y (costs given own) 0 (replicate size noCost) ∙ length-replicate {A = ℕ} size noCost;
+          kept = λ i l u. outs-are i l u ∙ go i (Y i) refl;
+          cost = λ i l u. rw (outs-are i l u, costs-are i l u) (no i (Y i));
         }
       where
-        go : (i : ℕ) (p t : Bool) → rows i ≡ p → cond (p && not t) (dearest given own i) 0 ≡ cond (p && not t) (rowOut g w r T i) 0
-        go i true false q = dearest-out T tree own paths i q
-        go i true true q = refl
-        go i false t q = refl
+        go : (i : ℕ) (v : Bool) → Y i ≡ v → cond v (dearest given own i) 0 ≡ cond v (rowOut g w r T i) 0
+        go i true q = dearest-out T tree own paths i (away i q .0)
+        go i false q = refl
 
         no : (i : ℕ) (b : Bool) → cond b (costOf price i (dearest given own i)) noCost ≡ costOf price i (cond b (dearest given own i) 0)
         no i true = refl
         no i false = refl
 
-        outs-are : (i : ℕ) → 1 ≤ i → i ≤ size → numberOf (filled restOf (dearest given own) 0 (replicate size 0)) i ≡ cond (restOf i) (dearest given own i) 0
-        outs-are i l u = number-filled restOf (dearest given own) (replicate size 0) i l (omega (arith, length-replicate {A = ℕ} size 0)) ∙ ap (λ (y : ℕ). cond (restOf i) (dearest given own i) y) (getD-replicate size (i - 1) 0 0 (omega arith))
+        outs-are : (i : ℕ) → 1 ≤ i → i ≤ size → numberOf (filled Y (dearest given own) 0 (replicate size 0)) i ≡ cond (Y i) (dearest given own i) 0
+        outs-are i l u = number-filled Y (dearest given own) (replicate size 0) i l (omega (arith, length-replicate {A = ℕ} size 0)) ∙ ap (λ (y : ℕ). cond (Y i) (dearest given own i) y) (getD-replicate size (i - 1) 0 0 (omega arith))
 
-        costs-are : (i : ℕ) → 1 ≤ i → i ≤ size → numberOf (filled restOf (costs given own) 0 (replicate size noCost)) i ≡ cond (restOf i) (costOf price i (dearest given own i)) noCost
-        costs-are i l u = number-filled restOf (costs given own) (replicate size noCost) i l (omega (arith, length-replicate {A = ℕ} size noCost)) ∙ ap (λ (y : ℕ). cond (restOf i) (costOf price i (dearest given own i)) y) (getD-replicate size (i - 1) noCost 0 (omega arith))
+        costs-are : (i : ℕ) → 1 ≤ i → i ≤ size → numberOf (filled Y (costs given own) 0 (replicate size noCost)) i ≡ cond (Y i) (costOf price i (dearest given own i)) noCost
+        costs-are i l u = number-filled Y (costs given own) (replicate size noCost) i l (omega (arith, length-replicate {A = ℕ} size noCost)) ∙ ap (λ (y : ℕ). cond (Y i) (costOf price i (dearest given own i)) y) (getD-replicate size (i - 1) noCost 0 (omega arith))

@@ -1,4 +1,4 @@
-// The exchanges that take rows at a vertex r out of a tree, one at a time, by the path matrix from r. For each row that is not at r two columns of numbers keep the dearest row at r on its path,
+// The exchanges that take rows at a vertex r out of a tree, one at a time, by the path matrix from r. For each row of a set, none of which is at r, two columns of numbers keep the dearest row at r on its path,
 // found by MAX, and what their exchange costs. After an exchange the matrix is turned over, and only the rows for which the row that went out was kept are looked at anew.
 ghost use Prim.Native.Nat.{_+_, _-_, _<_};
 ghost use lib.ListN.{length, getD, set};

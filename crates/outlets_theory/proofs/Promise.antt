@@ -45,7 +45,7 @@ module _ (g : Graph) (ok : Sound g) (w : ℕ → ℤ) (r t : ℕ) where
         go false q = omega (arith, ltb-false (rowsAt g r S) t q, swaps-none g ok w r S tight (rowsAt g r S - t) (rw q at e) S₁ t₁)
 
   -- the start is tight and has the most rows at r
-  start-tight : (f : Fragment) → start g w r ≡ some f → Tight g w r (f .chosen) × ((S′ : ℕ → Bool) → SpanningTree g S′ → rowsAt g r S′ ≤ rowsAt g r (f .chosen))
+  pub start-tight : (f : Fragment) → start g w r ≡ some f → Tight g w r (f .chosen) × ((S′ : ℕ → Bool) → SpanningTree g S′ → rowsAt g r S′ ≤ rowsAt g r (f .chosen))
   start-tight f e =
       let (L, l) = low g ok w in
       let least = built-least g ok (shifted g w r L) f (sym (start-built g ok w r L l) ∙ e) in

@@ -54,7 +54,7 @@ and-swap true false c = sym (and-false c)
 and-swap false b c = refl
 
 module _ (g : Graph) (ok : Sound g) (w : ℕ → ℤ) (r : ℕ) (S : ℕ → Bool) (tree : SpanningTree g S) where
-  offers-in : (f : ℕ) → offers g r S f ≡ true → Offers g r S f
+  pub offers-in : (f : ℕ) → offers g r S f ≡ true → Offers g r S f
   unfolding offers
   offers-in f e =
       let (rs, ta) = and-eq-true-iff (g .rows f && not (S f)) (not (touches g r f) && any (g .m) (pathAt g r S f)) .0 e in
@@ -63,13 +63,13 @@ module _ (g : Graph) (ok : Sound g) (w : ℕ → ℤ) (r : ℕ) (S : ℕ → Boo
       record { row = row; out = not-true _ out; off = not-true _ off; some-at = some-at }
 
   -- a row outside the tree and not at r, on whose path a row is at r, offers itself
-  in-offers : (f e : ℕ) → g .rows f ≡ true → S f ≡ false → touches g r f ≡ false → onPath g S (g .a f) (g .b f) e ≡ true → touches g r e ≡ true → offers g r S f ≡ true
+  pub in-offers : (f e : ℕ) → g .rows f ≡ true → S f ≡ false → touches g r f ≡ false → onPath g S (g .a f) (g .b f) e ≡ true → touches g r e ≡ true → offers g r S f ≡ true
   unfolding offers pathAt
   in-offers f e row out off path here =
       let (l, u) = ok .position e (tree .inside e (path-inside g ok S tree (g .a f) (g .b f) e path)) in
       rw (row, out, off) (any-some (g .m) e (both (onPath g S (g .a f) (g .b f)) (touches g r)) l u (in-both (onPath g S (g .a f) (g .b f)) (touches g r) e path here))
 
-  goes-out : (f : ℕ) → any (g .m) (pathAt g r S f) ≡ true → GoesOut g w r S f (rowOut g w r S f)
+  pub goes-out : (f : ℕ) → any (g .m) (pathAt g r S f) ≡ true → GoesOut g w r S f (rowOut g w r S f)
   unfolding rowOut pathAt
   goes-out f some-at =
       let (j, q) = any-found (g .m) (largest (g .m) w X) (largest-exists (g .m) w X some-at) in

@@ -1,4 +1,5 @@
--- The tree with exactly t rows at r as the machine makes it: the start on the loaded columns, the path matrix from r by a walk over it, and as many exchanges as it has rows at r more than t.
+-- The tree with exactly t rows at r as the machine makes it: the start on the loaded columns, the forest U of the rows not at r, the path matrix from r by a walk over the start,
+-- and as many exchanges for rows of U as it has rows at r more than t.
 -- Assumes nothing.
 use Prim.Native.Nat.{ℕ, _-_}
 use lib.Dec.{ltb}
@@ -8,6 +9,7 @@ use mathlib.Core.Bool.{Bool, true, false, not, cond}
 use mathlib.Core.List.{List}
 use mathlib.Core.Option.{Option, none}
 use mathlib.Core.Path.{_≡_}
+use Rattle.districts_theory.specs.Growing.{grownForest}
 use Rattle.outlets_theory.specs.Degree.{touches, start}
 use Rattle.graph_theory.specs.Graph.{Graph}
 use Rattle.path_walk.specs.steps.Walks.{walk}
@@ -29,10 +31,14 @@ reducedBy x n have t s = cond (ltb have t) none (exchangesTo x n (have - t) s)
 abbrev pub walked : (a b : ℕ → ℕ) → (T : ℕ → Bool) → (r n : ℕ) → List ℕ
 walked a b T r n = walk a b T r (replicate 4080 0) n .words
 
--- the exchanges on the tree T over the rows U, of which those of `at` are at r
-abbrev pub reducedFrom : Given → (U T : ℕ → Bool) → (r n t : ℕ) → Option State
-reducedFrom x U T r n t =
-    reducedBy x n (count size (both T (x .at))) t (firstState x (without U (x .at)) T (walked (loadedRow 1 (x .left)) (loadedRow 1 (x .right)) T r n))
+-- the forest of the rows of X
+abbrev pub forestIn : Given → (X : ℕ → Bool) → (n : ℕ) → ℕ → Bool
+forestIn x X n = grownForest (graphIn (loadedRow 1 (x .left)) (loadedRow 1 (x .right)) X n) (x .weight) X
+
+-- the exchanges on the tree T over the rows of Y, of which those of `at` are at r: for rows of the forest of the others
+abbrev pub reducedFrom : Given → (Y T : ℕ → Bool) → (r n t : ℕ) → Option State
+reducedFrom x Y T r n t =
+    reducedBy x n (count size (both T (x .at))) t (firstState x (forestIn x (without Y (x .at)) n) T (walked (loadedRow 1 (x .left)) (loadedRow 1 (x .right)) T r n))
 
 -- a table as it is handed in: the numbers of vertices and of rows, the rows in use, and three columns of bytes
 pub record Held : Type 0 where

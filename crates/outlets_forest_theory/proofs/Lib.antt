@@ -1,0 +1,4 @@
+pub mod Ranked
+pub mod Forest
+pub mod Inside
+pub mod Trials
