@@ -47,20 +47,29 @@ tried
 holds 'refused: passes' [ $? = 0 ]
 holds 'refused: told' says 'edits: must-fail one/another: refused, as it must be .*'
 holds 'refused: counted' says '1 passed, 0 failed'
+before() { grep -qE "^crate one: modules loaded=$1 checked=$2$" "$at/target/edits/one/before.log"; }
+holds 'over what is proved: nothing twice' before '[1-9][0-9]*' 0
+mv "$at/target/rlib/one.rlib" "$work/rlib"
+tried
+holds 'over nothing: refused' says '1 passed, 0 failed'
+holds 'over nothing: all is checked' before 0 '[1-9][0-9]*'
+mv "$work/rlib" "$at/target/rlib/one.rlib"
 edit comment src/lib.rt 'One function' 'A function'
+edit named src/lib.rt '    x' '    let y = x; y'
 edit nowhere src/lib.rt 'two' 'three'
 edit outside ../lib.rt 'x' 'y'
 tried
 holds 'admitted: fails' [ $? != 0 ]
 holds 'admitted: told' says 'edits: must-fail one/comment: NOT REFUSED: .*'
+holds 'admitted after a refusal: told' says 'edits: must-fail one/named: NOT REFUSED: .*'
 holds 'no such text: told' says 'edits: must-fail one/nowhere: BAD EDIT: its old text .*'
 holds 'no such file: told' says 'edits: must-fail one/outside: BAD EDIT: it names no file .*'
-holds 'counted' says '1 passed, 3 failed'
-rm "$at"/crates/one/must-fail/{comment,nowhere,outside}.edit
+holds 'counted' says '1 passed, 4 failed'
+rm "$at"/crates/one/must-fail/{comment,named,nowhere,outside}.edit
 sed -i 's/^    x$/    OTHER/' "$at/crates/one/src/lib.rt"
 tried
 holds 'not proved: fails' [ $? != 0 ]
-holds 'not proved: told' says 'edits: one NOT PROVED as it stands'
+holds 'not proved, over what was: told' says 'edits: one NOT PROVED as it stands'
 
 echo "$passed passed, $failed failed"
 [ "$failed" = 0 ]

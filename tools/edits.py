@@ -3,14 +3,17 @@
 
 usage: edits.py [CRATE..]    those of these crates, or all, after the crates have been proved
 
-A copy of each crate is checked once as it stands; then each edit is made in that copy and checked
-over the folder that this check left (rattle check --incremental), so that the prover goes over what
-the edit reaches and no more. The copy as it stands has to be proved before the first edit and, over
-the same folder, after the last one. `rt must-fail CRATE` tries the same edits from nothing.
+Each edit is made in a copy of its crate and checked over the modules that the crate's proof has
+left in target/rlib (rattle check --incremental), so that the prover goes over what the edit reaches
+and no more; of a module that an earlier edit reached, over the declarations that rest on the edit.
+The copy as it stands has to be proved over them before the first edit and after the last one; what
+they do not have, or have of other sources, is checked then. `rt must-fail CRATE` tries the same
+edits from nothing. The copies lie in memory where there is room for them.
 It ends in one line 'N passed, M failed'; the logs are in target/edits.
 """
 import concurrent.futures
 import glob
+import hashlib
 import os
 import re
 import shutil
@@ -25,7 +28,8 @@ KIT = subprocess.run(['sh', 'tools/kit.sh'], stdout=subprocess.PIPE, text=True,
                      check=True).stdout.strip()
 OWN = os.path.join(KIT, 'on', os.uname().machine)
 RLIBS = [os.path.abspath('target/rlib'), os.path.join(OWN, 'rlib')]
-FOLDER = os.path.abspath('target/edits')
+FOLDER, MEMORY = os.path.abspath('target/edits'), '/dev/shm'
+ROOM = 4 << 30  # bytes: twice the modules of all crates, which the prover copies for each check
 ERROR = re.compile(r'^(\S+): error', re.M)
 NOTE = re.compile(r'^note: (\S+:\d+:\d+):', re.M)
 
@@ -87,12 +91,51 @@ def words_of(crate, named):
                   '--logic-built', os.path.join(OWN, 'logic-built')]
 
 
-class Crate:
-    """One crate, its copy, and the folder of its check."""
+def available(path):
+    """The bytes of memory that are free, or 0 where the folder has less room than is asked."""
+    try:
+        place = os.statvfs(path)
+        with open('/proc/meminfo', encoding='ascii') as file:
+            free = next(int(line.split()[1]) for line in file if line.startswith('MemAvailable'))
+    except (OSError, StopIteration):
+        return 0
+    return free << 10 if place.f_bavail * place.f_frsize >= ROOM else 0
 
-    def __init__(self, name, named, edits):
+
+def work_folder():
+    """Where the copies lie: in memory if there is room for them and for the prover, else here."""
+    if available(MEMORY) < 3 * ROOM or not os.access(MEMORY, os.W_OK):
+        return os.path.join(FOLDER, 'work')
+    return os.path.join(MEMORY, 'edits-' + hashlib.sha256(FOLDER.encode()).hexdigest()[:16])
+
+
+def take_modules(crate, kept):
+    """The modules that the proof of a crate has left, where a check looks for what it may spare."""
+    rlib = os.path.join(RLIBS[0], crate + '.rlib')
+    try:
+        with open(os.path.join(rlib, 'format'), encoding='utf-8') as file:
+            build = next(line.split()[1] for line in file if line.startswith('rattle-build '))
+        shutil.copytree(os.path.join(rlib, 'toolchain/checked'),
+                        os.path.join(kept, build.replace('/', '_')))
+    except (OSError, StopIteration):
+        os.makedirs(kept, exist_ok=True)
+
+
+def hand_on(used, kept):
+    """What the check of an edit noted of single declarations, for the edits after it."""
+    for path in glob.glob(os.path.join(glob.escape(used), '*/records/*')):
+        place = os.path.join(kept, os.path.relpath(path, used))
+        if not os.path.exists(place):
+            os.makedirs(os.path.dirname(place), exist_ok=True)
+            os.rename(path, place)
+
+
+class Crate:
+    """One crate, its logs, its copy, and the folder of its modules."""
+
+    def __init__(self, name, named, edits, work):
         self.name, self.edits, self.words = name, edits, words_of(name, named)
-        self.at = os.path.join(FOLDER, name)
+        self.logs, self.at = os.path.join(FOLDER, name), os.path.join(work, name)
         self.copy, self.kept = os.path.join(self.at, 'copy'), os.path.join(self.at, 'kept')
 
     def check(self, label, kept):
@@ -102,8 +145,9 @@ class Crate:
         command = [os.path.join(OWN, 'bin/rattle'), 'check', '--crate-name', self.name,
                    os.path.join(self.copy, root)] + self.words + ['--incremental', kept]
         done = subprocess.run(command, stdout=subprocess.PIPE, stderr=subprocess.STDOUT,
-                              text=True, errors='replace', check=False)
-        with open(os.path.join(self.at, label + '.log'), 'w', encoding='utf-8') as file:
+                              text=True, errors='replace', check=False,
+                              env={**os.environ, 'TMPDIR': self.at})
+        with open(os.path.join(self.logs, label + '.log'), 'w', encoding='utf-8') as file:
             file.write(done.stdout)
         return done.returncode, done.stdout
 
@@ -123,6 +167,7 @@ class Crate:
         shutil.rmtree(used, ignore_errors=True)
         shutil.copytree(self.kept, used)
         status, said = self.check(label, used)
+        hand_on(used, self.kept)
         if status == 1 and re.search('^logic=not-proved', said, re.M):
             short = said.replace(self.copy + '/', '')
             first = ERROR.search(short) or NOTE.search(short)
@@ -133,8 +178,17 @@ class Crate:
 
     def run(self, say):
         """Tries every edit; the number refused and the number of failures."""
-        shutil.rmtree(self.at, ignore_errors=True)
-        os.makedirs(self.kept)
+        for folder in (self.logs, self.at):
+            shutil.rmtree(folder, ignore_errors=True)
+            os.makedirs(folder)
+        try:
+            return self.tried(say)
+        finally:
+            shutil.rmtree(self.at, ignore_errors=True)
+
+    def tried(self, say):
+        """The same, where the folders are there."""
+        take_modules(self.name, self.kept)
         if not self.stands('before'):
             say(f'{self.name} NOT PROVED as it stands')
             return 0, 1 + len(self.edits)
@@ -148,25 +202,23 @@ class Crate:
         if not self.stands('after'):
             say(f'{self.name} NOT PROVED after its edits, as it stands')
             failed += 1
-        for folder in ('copy', 'kept', 'used'):
-            shutil.rmtree(os.path.join(self.at, folder), ignore_errors=True)
         return refused, failed
 
 
-def chosen(names):
+def chosen(names, work):
     """The crates with edits, those first that take longest."""
     seconds = told.read_seconds()
     out = []
     for name, named in crates.listed().items():
         edits = sorted(glob.glob(f'crates/{name}/must-fail/*.edit'))
         if edits and (not names or name in names):
-            out.append(Crate(name, named, edits))
+            out.append(Crate(name, named, edits, work))
     return sorted(out, key=lambda crate: -seconds.get(crate.name, told.UNKNOWN)
                   * (4 + len(crate.edits)))
 
 
 def main(names):
-    run = chosen(names)
+    run = chosen(names, work_folder())
     parts = {edit: told.edit_seconds(crate.name) for crate in run for edit in crate.edits}
     progress, tried = told.Progress(parts, told.processors()), 0
 
