@@ -3,8 +3,9 @@ use answer::Record;
 use answer::of_refusal;
 use best::Found;
 use in_use::InUse;
-use quote_door::quote_door::QuoteRecord;
-use quote_door::quote_door::write_quote;
+use quote_answer::LENGTH;
+use quote_answer::QuoteRecord;
+use quote_answer::write_quote;
 ghost use mathlib.Core.Path.{_≡_};
 ghost use Rattle.answer.specs.Records.{fieldsOf};
 ghost use Rattle.best.specs.Answers.{answerOf};
@@ -12,9 +13,6 @@ ghost use Rattle.best_spec.specs.Bytes.{BestCall};
 ghost use Rattle.best_spec.specs.Door.{bestFields, leastOf, bestReturns, bestDoor};
 ghost use Rattle.rowset.specs.Integers.{fromBits};
 ghost use Rattle.star_spec.specs.Call.{callOf, workOf};
-
-// The length of the answer.
-const LENGTH: usize = 24;
 
 // The fields of what was found; the last eight bytes of a refusal are 0.
 pub fn of_best(b: Found) -> QuoteRecord

@@ -1,8 +1,8 @@
 // The dig list of an STP text for C.
-use crate::fields::of_text_list;
 use answer::well_lent;
 use answer::write_answer;
 use digs::LIST_BYTES;
+use digs_answer::of_text_list;
 ghost use mathlib.Core.Path.{_≡_};
 ghost use Rattle.digs_spec.specs.DigList.{textList};
 ghost use Rattle.digs_spec.specs.Door.{textFields, listReturns, listAnswered, listText};

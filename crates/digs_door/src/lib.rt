@@ -2,5 +2,4 @@
 // If the lent answer has not sixteen bytes or the lent text fewer than 6,370 the call returns 0 and writes nothing anywhere; else it returns 1.
 pub mod digs_door; // digs_door.rt: a plain table's list
 pub mod digs_text_door; // digs_text_door.rt: a text's list
-pub mod fields; // fields.rt: the fields of what was listed
 pub mod work_digs_door; // work_digs_door.rt: a working table's list

@@ -1,8 +1,8 @@
 // The dig list of a working table for C.
-use crate::fields::of_list;
 use answer::well_lent;
 use answer::write_answer;
 use digs::LIST_BYTES;
+use digs_answer::of_list;
 use in_use::InUse;
 ghost use mathlib.Core.Path.{_≡_};
 ghost use Rattle.digs_spec.specs.Bytes.{DigsCall};

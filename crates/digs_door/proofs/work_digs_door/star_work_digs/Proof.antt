@@ -4,7 +4,7 @@ use borrow.Author.Tests.{not-true, not-false}
 use mathlib.Core.Path.{sym, _∙_}
 use native.Mathlib.Omega.{arith}
 use Rattle.digs_spec.proofs.Bytes.{digs-call}
-use Rattle.digs_door.proofs.Told.{no-answer, no-room, table-told}
+use Rattle.digs_answer.proofs.Told.{no-answer, no-room, table-told}
 use Rattle.digs_door.proofs.work_digs_door.star_work_digs.Statement.{statement}
 use Rattle.digs_door.proofs.work_digs_door.star_work_digs.Tie as tie
 

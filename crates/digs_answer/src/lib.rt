@@ -1,10 +1,10 @@
-// The fields of what was listed.
+// The fields of what was listed, as the doors of dig lists write them into the lent answer.
 use answer::Record;
 use answer::of_refusal;
 use digs::Listed;
 ghost use mathlib.Core.Path.{_≡_};
 ghost use Rattle.answer.specs.Records.{fieldsOf};
-ghost use Rattle.digs_door.specs.steps.Fields.{tableFields, stpFields};
+ghost use Rattle.digs_answer.specs.steps.Fields.{tableFields, stpFields};
 
 // The fields of a table's list: its length stands where a verdict has its weight.
 pub fn of_list(l: Listed) -> Record

@@ -1,10 +1,10 @@
--- `quote_door::quote_door::of_quoted` meets its contract: each case's fields, written out, with the totals' bits handed on. Assumes nothing.
+-- `quote_answer::of_quoted` meets its contract: each case's fields, written out, with the totals' bits handed on. Assumes nothing.
 use borrow.Author.Needs.{needs}
 use mathlib.Core.Path.{refl}
 use Rattle.answer.specs.Records.{fieldsOf}
 use Rattle.quote.specs.Answers.{answerOf}
-use Rattle.quote_door.proofs.quote_door.of_quoted.Statement.{statement}
-use Rattle.quote_door.proofs.quote_door.of_quoted.Tie as tie
+use Rattle.quote_answer.proofs.of_quoted.Statement.{statement}
+use Rattle.quote_answer.proofs.of_quoted.Tie as tie
 use Rattle.price_spec.specs.Door.{quoteFields, afterOf}
 use Rattle.rowset.specs.Integers.{fromBits}
 use Rattle.star_spec.specs.Door.{fields}

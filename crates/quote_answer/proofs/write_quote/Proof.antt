@@ -1,4 +1,4 @@
--- `quote_door::quote_door::write_quote` meets its contract. The loop's invariant: the first i bytes of the answer are those of the array.
+-- `quote_answer::write_quote` meets its contract. The loop's invariant: the first i bytes of the answer are those of the array.
 -- Assumes nothing.
 use Prim.Native.Nat.{_≤_, _-_}
 use borrow.Author.Needs.{needs}
@@ -7,8 +7,8 @@ use lib.ListN.{length, take, length-set}
 use mathlib.Core.Path.{_≡_, refl, _∙_}
 use native.Mathlib.Omega.{arith}
 use Rattle.answer.proofs.Copies.{copy-more, copy-all}
-use Rattle.quote_door.proofs.quote_door.write_quote.Statement.{statement}
-use Rattle.quote_door.proofs.quote_door.write_quote.Tie as tie
+use Rattle.quote_answer.proofs.write_quote.Statement.{statement}
+use Rattle.quote_answer.proofs.write_quote.Tie as tie
 use Rattle.price_spec.specs.Door.{lentQuote}
 
 abbrev Inv-loop : tie.InvT-loop

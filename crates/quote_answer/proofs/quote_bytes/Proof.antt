@@ -1,9 +1,9 @@
--- `quote_door::quote_door::quote_bytes` meets its contract: the bytes of two records, of which the second has the total after for its amount. Assumes nothing.
+-- `quote_answer::quote_bytes` meets its contract: the bytes of two records, of which the second has the total after for its amount. Assumes nothing.
 use borrow.Author.Needs.{needs}
 use mathlib.Core.Path.{refl}
 use Rattle.answer.specs.Records.{fieldsOf}
-use Rattle.quote_door.proofs.quote_door.quote_bytes.Statement.{statement}
-use Rattle.quote_door.proofs.quote_door.quote_bytes.Tie as tie
+use Rattle.quote_answer.proofs.quote_bytes.Statement.{statement}
+use Rattle.quote_answer.proofs.quote_bytes.Tie as tie
 use Rattle.star_spec.specs.Door.{bytesOf, fieldBytes}
 
 returns : tie.Need-returns

@@ -1,10 +1,10 @@
--- `digs_door::fields::of_list` meets its contract: each case's fields, written out. Assumes nothing.
+-- `digs_answer::of_list` meets its contract: each case's fields, written out. Assumes nothing.
 use borrow.Author.Needs.{needs}
 use mathlib.Core.Path.{refl}
 use Rattle.answer.specs.Records.{fieldsOf}
-use Rattle.digs_door.proofs.fields.of_list.Statement.{statement}
-use Rattle.digs_door.proofs.fields.of_list.Tie as tie
-use Rattle.digs_door.specs.steps.Fields.{tableFields}
+use Rattle.digs_answer.proofs.of_list.Statement.{statement}
+use Rattle.digs_answer.proofs.of_list.Tie as tie
+use Rattle.digs_answer.specs.steps.Fields.{tableFields}
 use Rattle.star_spec.specs.Door.{fields}
 
 returns : tie.Need-returns

@@ -8,7 +8,7 @@ use mathlib.Core.Bool.{true, false, and-false}
 use mathlib.Core.List.{List, _++_}
 use mathlib.Core.Path.{_≡_, refl, sym, ap, _∙_}
 use native.Mathlib.Omega.{arith}
-use Rattle.digs_door.specs.steps.Fields.{tableFields, stpFields}
+use Rattle.digs_answer.specs.steps.Fields.{tableFields, stpFields}
 use Rattle.digs_lines.specs.Prints.{Prints}
 use Rattle.digs_spec.specs.DigList.{ListAnswer, unlisted, listing}
 use Rattle.digs_spec.specs.Door.{listFields, textFields, lentBoth, listReturns, listAnswered, withList, listText}

@@ -1,12 +1,12 @@
--- `digs_door::fields::of_text_list` meets its contract: each case's fields, written out. Assumes nothing.
+-- `digs_answer::of_text_list` meets its contract: each case's fields, written out. Assumes nothing.
 use borrow.Author.Needs.{needs}
 use lib.IntN.{ℤ}
 use mathlib.Core.Path.{refl, ap}
 use native.Mathlib.Omega.{arith}
 use Rattle.answer.specs.Records.{fieldsOf}
-use Rattle.digs_door.proofs.fields.of_text_list.Statement.{statement}
-use Rattle.digs_door.proofs.fields.of_text_list.Tie as tie
-use Rattle.digs_door.specs.steps.Fields.{stpFields}
+use Rattle.digs_answer.proofs.of_text_list.Statement.{statement}
+use Rattle.digs_answer.proofs.of_text_list.Tie as tie
+use Rattle.digs_answer.specs.steps.Fields.{stpFields}
 use Rattle.rowset.proofs.Signed.{natural-bits}
 use Rattle.star_spec.specs.Door.{Fields}
 
