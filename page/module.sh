@@ -42,7 +42,7 @@ done
 # For size, but for the readers of STP texts, which call each other once a section: with more calls
 # and frames than -O2 leaves, the deepest text does not fit a browser's stack.
 for crate; do
-    level=-Os
+    level=-Oz
     case $crate in stp_door | digs_door) level=-O2 ;; esac
     RATTLE_HOME=$work/kit sh tools/compile.sh "$crate" "$work/$crate.a"
     retarget "$work/kept1.bc" >"$work/$crate.ll"
@@ -52,8 +52,9 @@ for crate; do
 done
 
 # Every function that the header declares: one that no crate has fails the link.
-exports=$(sed -nE 's/^(uint32_t |const char \*)(star_[a-z0-9_]+)\(.*/--export=\2/p' include/star.h)
+exports=$(sed -nE 's/^(uint(32|64)_t |const char \*)(star_[a-z0-9_]+)\(.*/--export=\3/p' \
+    include/star.h)
 exports="$exports $(sed -nE 's/^(void|int) (places_(of|given|bends|read))\(.*/--export=\2/p' \
     console/places.h)"
 "$work/wasm-ld" -mwasm32 --no-entry $exports --export=__heap_base --strip-all --stack-first \
-    -z stack-size=2097152 --initial-memory=4194304 --max-memory=4194304 -o "$out" $objects
+    -z stack-size=2097152 --initial-memory=20971520 --max-memory=20971520 -o "$out" $objects

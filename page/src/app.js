@@ -1,17 +1,15 @@
 // What a planner does with a plan: open, mark, exchange, strike, add, price, mend, undo, save. It
 // knows no document; what is to be shown is told to those who listen.
-import { PASSED } from './core.js';
-import { FileFault, fileAdd, fileRead, fileWrite } from './file.js';
+import { MIXED_NAMES, PASSED } from './core.js';
+import { FileFault, fileAdd, fileRead, fileText, fileWrite } from './file.js';
 import { History } from './history.js';
 import { judge, judgeExchanged } from './judge.js';
-import { openedText } from './opened.js';
+import { openedFile } from './opened.js';
 import { planCopy } from './plan.js';
 
 /** @typedef {import('./plan.js').Plan} Plan */
 /** @typedef {import('./core.js').Step} Step */
-/** `coordinates` are those of the junctions, where the file has them.
- * @typedef {{file: import('./file.js').File, plan: Plan, name: string,
- * coordinates: number[][] | null}} State */
+/** @typedef {import('./opened.js').Opened & {name: string}} State */
 /** @typedef {'open' | 'change' | 'show'} Told */
 
 export class App {
@@ -28,7 +26,7 @@ export class App {
     /** @type {((told: Told) => void)[]} */
     this.listeners = [];
     /** @type {History<State>} */
-    this.history = new History({ ...fileRead('junctions 1\n'), name: '', coordinates: null });
+    this.history = new History({ ...fileRead(core, 'junctions 1\n'), name: '', coordinates: null });
     this.judgement = judge(core, this.plan);
   }
 
@@ -68,8 +66,7 @@ export class App {
     /** @type {State} */
     let state;
     try {
-      const { text, coordinates } = openedText(this.core, bytes, name);
-      state = { ...fileRead(text), name, coordinates };
+      state = { ...openedFile(this.core, bytes, name), name };
     } catch (fault) {
       if (fault instanceof FileFault) return fault.message.replace(/^/gm, `${name}:`);
       throw fault;
@@ -166,11 +163,11 @@ export class App {
 
   /** The marks of the least network that the core builds. */
   build() {
-    const { least } = this.judgement;
-    if (!least || least.kind !== PASSED) return;
+    const { kind, mark } = this.core.mst1(this.plan);
+    if (kind !== PASSED) return;
     this.selected = -1;
     this.change('build cheapest', (p) => {
-      p.mark = least.mark.slice();
+      p.mark = mark;
     });
   }
 
@@ -213,20 +210,55 @@ export class App {
     this.tell('change');
   }
 
-  /** Adds a trench.
-   * @param {number} a @param {number} b @param {number} price
+  /** Adds a trench between two junctions, told by their numbers or names; a new name is that of a
+   * new junction.
+   * @param {string[]} words @param {number} price
    * @returns {string} what is wrong with it, or nothing */
-  add(a, b, price) {
-    const { file, plan } = this.history.now;
-    const answer = this.core.add(plan, a, b, price);
+  add(words, price) {
+    const { now } = this.history;
+    const ends = words.map((word) => this.end(word.trim()));
+    if (ends.includes('')) return this.core.refused(MIXED_NAMES, 0);
+    const answer = this.core.add(now.plan, price);
     if (answer.kind !== PASSED) return this.core.refused(answer.number, answer.out);
-    const text = fileAdd(file, plan, answer.amount, a, b, price);
-    const state = { ...this.history.now, ...fileRead(text) };
+    /** @type {State} */
+    let state;
+    try {
+      const { file } = fileRead(this.core, fileWrite(now.file, now.plan));
+      const n = this.junctionsWith(ends);
+      const text = fileAdd(file, now.plan, answer.amount, ends, price, n);
+      state = { ...now, ...fileRead(this.core, text) };
+    } catch (fault) {
+      if (fault instanceof FileFault) return fault.message;
+      throw fault;
+    }
+    if (now.file.names.length === 0) state.plan.names = now.plan.names; // they are shown alone
     const { kind, number, out } = this.sound(state.plan);
     if (kind !== PASSED) return this.core.refused(number, out);
     this.selected = answer.amount - 1;
     this.keep(`add trench ${answer.amount}`, state);
     return '';
+  }
+
+  /** A junction as the file has it: by its name, or by its number. Nothing for a number among names
+   * that is no junction's, and for a name among numbers.
+   * @param {string} word */
+  end(word) {
+    const { file, plan } = this.history.now;
+    const named = file.names.length > 0;
+    const known = plan.names.indexOf(word);
+    if (known >= 0) return named ? file.names[known] : String(known + 1);
+    if (/^[0-9]+$/.test(word)) return named ? file.names[Number(word) - 1] || '' : word;
+    return named || plan.m === 0 ? fileText(new TextEncoder().encode(word)) : '';
+  }
+
+  /** How many junctions there are with those of a new trench.
+   * @param {string[]} ends */
+  junctionsWith(ends) {
+    const { file, plan } = this.history.now;
+    return ends.reduce((n, end) => {
+      if (file.names.length > 0) return n + Number(!file.names.includes(end));
+      return Math.max(n, Number(end) || 0);
+    }, plan.n);
   }
 
   /** Marks the network that a door has built, or says why it has not.
@@ -283,6 +315,15 @@ export class App {
         p.mark = mark;
       });
     } else this.tell('change');
+  }
+
+  /** The breaking price of a row, which is asked for once a plan.
+   * @param {number} i */
+  breaking(i) {
+    const { breakings } = this.judgement;
+    const known = breakings.get(i) || this.core.breaking(this.plan, i + 1);
+    breakings.set(i, known);
+    return known;
   }
 
   /** The dig list of the plan, by the core. */

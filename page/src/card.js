@@ -1,6 +1,5 @@
 // The card of one trench: why it is in or out, what can be done with it, and its price.
 import { button, byId } from './dom.js';
-import { namesEnds } from './names.js';
 import { planHas } from './plan.js';
 import { ends, money } from './words.js';
 
@@ -34,7 +33,6 @@ export function cardShow(app, i, why) {
   const looked = i !== app.selected;
   card.classList.toggle('peek', looked);
   byId('which').textContent = `Trench ${i + 1}: ${ends(app.plan, i)}, ${money(app.plan.price[i])}`;
-  byId('which-names').textContent = namesEnds(app.history.now.file, app.plan, i);
   byId('reason').replaceChildren(...why.words);
   byId('card-acts').replaceChildren(...(looked ? [] : cardActs(app, i, why)));
 }

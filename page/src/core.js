@@ -11,6 +11,7 @@
 export const MAX_JUNCTIONS = 255;
 export const MAX_ROWS = 1024;
 export const MAX_TEXT = 65536;
+export const MAX_FILE = 16777216;
 export const MIN_PRICE = -2147483648;
 export const MAX_PRICE = 2147483647;
 export const REFUSED = 0;
@@ -21,6 +22,10 @@ export const DROPPED = 1;
 export const ADDED = 2;
 export const MARK_COUNT = 9;
 export const NOT_JOINED = 10;
+export const TOO_MANY_ROWS = 2;
+export const BAD_TEXT = 12;
+export const MIXED_NAMES = 25;
+export const TOO_MANY_NAMES = 26;
 const MAX_LIST = 6370;
 const USE_BYTES = 128;
 
@@ -46,10 +51,11 @@ export class Core {
     this.view = new DataView(buffer);
     const room = coreRooms(doors.__heap_base.value, buffer.byteLength);
     this.use = room(USE_BYTES);
-    this.left = room(MAX_ROWS + 1);
-    this.right = room(MAX_ROWS + 1);
-    this.weight = room(4 * MAX_ROWS + 4);
-    this.mark = room(MAX_ROWS + 1);
+    this.left = room(MAX_ROWS);
+    this.right = room(MAX_ROWS);
+    this.weight = room(4 * MAX_ROWS);
+    this.prices = new Int32Array(buffer, this.weight, MAX_ROWS);
+    this.mark = room(MAX_ROWS);
     this.second = room(MAX_ROWS);
     this.answer = room(24);
     this.matrix = room(USE_BYTES * MAX_JUNCTIONS);
@@ -57,10 +63,12 @@ export class Core {
     this.numbers = room(4 * MAX_ROWS);
     this.groupsAt = room(MAX_JUNCTIONS);
     this.rings = room(MAX_ROWS);
-    this.text = room(MAX_TEXT + 1);
     this.list = room(MAX_LIST);
     this.at = room(16 * (MAX_JUNCTIONS + 1));
     this.bend = room(8 * MAX_ROWS);
+    this.nameFrom = room(4 * MAX_JUNCTIONS);
+    this.nameTo = room(4 * MAX_JUNCTIONS);
+    this.text = room(MAX_FILE + 1);
   }
 
   /** The words that the library has for a refusal.
@@ -90,15 +98,31 @@ export class Core {
   /** Puts a plan's columns into the module's memory.
    * @param {Plan} p */
   put(p) {
-    const { memory, view } = this;
-    memory.fill(0, this.use, this.use + USE_BYTES);
-    for (let i = 0; i < p.m; i++) {
-      memory[this.left + i] = p.left[i];
-      memory[this.right + i] = p.right[i];
-      memory[this.mark + i] = p.mark[i];
-      view.setInt32(this.weight + 4 * i, p.price[i], true);
-      if (!p.struck[i]) memory[this.use + (i >> 3)] |= 1 << (i & 7);
-    }
+    const { memory, use } = this;
+    memory.set(p.left, this.left);
+    memory.set(p.right, this.right);
+    memory.set(p.mark, this.mark);
+    this.prices.set(p.price);
+    memory.fill(0, use, use + USE_BYTES);
+    for (let i = 0; i < p.m; i++) if (p.struck[i] === 0) memory[use + (i >> 3)] |= 1 << (i & 7);
+  }
+
+  /** The plan of the columns that a door left in the module's memory.
+   * @param {number} n @param {number} m @param {string[]} names @returns {Plan} */
+  plan(n, m, names) {
+    const { memory, use, left, right, mark } = this;
+    /** @param {number} i */
+    const inUse = (i) => (memory[use + (i >> 3)] >> (i & 7)) & 1;
+    return {
+      n,
+      m,
+      left: memory.slice(left, left + m),
+      right: memory.slice(right, right + m),
+      price: this.prices.slice(0, m),
+      mark: memory.slice(mark, mark + m),
+      struck: Uint8Array.from({ length: m }, (_, i) => 1 - inUse(i)),
+      names,
+    };
   }
 
   /** The table as doors over working tables take it, without marks. */
@@ -115,7 +139,7 @@ export class Core {
    * @param {string} door @param {(number|bigint)[]} given
    * @returns {Answer} */
   ask(door, ...given) {
-    const bytes = door.endsWith('quote') ? 24n : 16n;
+    const bytes = door === 'star_work_best' ? 24n : 16n;
     const taken = this.doors[door](...given, this.answer, bytes);
     const { memory, view, answer } = this;
     if (taken === 0 && memory[answer] !== REFUSED) throw Error(`${door} took nothing`);
@@ -137,10 +161,9 @@ export class Core {
     return mark;
   }
 
-  /** Judges the marks. A table of more rows than are taken is refused as a plain one.
+  /** Judges the marks.
    * @param {Plan} p */
   cst(p) {
-    if (p.m > MAX_ROWS) return this.tooMany(p.n);
     this.put(p);
     return this.ask('star_work_cst', p.n, ...this.table(), ...this.marks());
   }
@@ -152,17 +175,19 @@ export class Core {
     return this.ask('star_work_mst1', n, ...this.table(), ...this.marks()).number !== 1;
   }
 
-  /** @param {number} n */
-  tooMany(n) {
-    const rows = BigInt(MAX_ROWS + 1);
-    const columns = [this.left, rows, this.right, rows, this.weight, 4n * rows, this.mark, rows];
-    return this.ask('star_cst', n, ...columns);
-  }
-
   /** @param {Plan} p */
   other(p) {
     this.put(p);
     return this.ask('star_work_other', p.n, ...this.table(), ...this.marks());
+  }
+
+  /** Of a network the exchange of two rows that saves most, as out, in and amount, and the least
+   * total; its own total as amount where none saves.
+   * @param {Plan} p */
+  best(p) {
+    this.put(p);
+    const answer = this.ask('star_work_best', p.n, ...this.table(), ...this.marks());
+    return { ...answer, least: Number(this.view.getBigInt64(this.answer + 16, true)) };
   }
 
   /** A least network, as marks.
@@ -216,19 +241,8 @@ export class Core {
     const answer = this.ask(
       'star_work_detours', p.n, ...this.table(), ...this.marks(), ...numbers);
     if (answer.kind !== PASSED) return null;
-    const beside = Int32Array.from({ length: p.m }, (_, i) => {
-      return this.view.getUint32(this.numbers + 4 * i, true) - 1;
-    });
+    const beside = Int32Array.from(this.numbersAt(this.numbers, p.m), (row) => row - 1);
     return { total: answer.amount, beside };
-  }
-
-  /** The least totals before and after a row, counted from 1, has another price.
-   * @param {Plan} p @param {number} row @param {number} price */
-  quote(p, row, price) {
-    this.put(p);
-    const answer = this.ask('star_work_quote', p.n, ...this.table(), row, price);
-    const after = Number(this.view.getBigInt64(this.answer + 16, true));
-    return { kind: answer.kind, number: answer.number, before: answer.amount, after };
   }
 
   /** The price above which a row, counted from 1, is in no least network.
@@ -294,12 +308,12 @@ export class Core {
     return this.ask('star_work_which', p.n, ...this.table(), ...lent);
   }
 
-  /** Where a new row goes, and how the others are numbered then.
-   * @param {Plan} p @param {number} a @param {number} b @param {number} price */
-  add(p, a, b, price) {
+  /** Where a new row goes; its ends are not looked at.
+   * @param {Plan} p @param {number} price */
+  add(p, price) {
     this.put(p);
     const numbers = [this.numbers, BigInt(MAX_ROWS)];
-    return this.ask('star_add', ...this.table(), ...numbers, a, b, price);
+    return this.ask('star_add', ...this.table(), ...numbers, 0, 0, price);
   }
 
   /** @param {Plan} p @param {number} row counted from 1 */
@@ -314,63 +328,46 @@ export class Core {
     return this.ask('star_restore', this.use, 16n, row);
   }
 
-  /** Reads an STP text. A longer one is refused by its length alone.
-   * @param {Uint8Array} bytes */
-  stp(bytes) {
-    const length = Math.min(bytes.length, MAX_TEXT + 1);
-    this.memory.set(bytes.subarray(0, length), this.text);
+  /** Puts a text, a character for each byte, into the module's memory; of one that is longer than
+   * is read a byte more than that.
+   * @param {string} text @param {number} most @returns {number} its length there */
+  putText(text, most) {
+    const length = Math.min(text.length, most + 1);
+    for (let k = 0; k < length; k++) this.memory[this.text + k] = text.charCodeAt(k);
+    return length;
+  }
+
+  /** Reads the text that was put as a table file: the number of names in `out`, of rows in `in`, of
+   * junctions in `amount`.
+   * @param {number} length */
+  readTable(length) {
+    const { nameFrom, nameTo, numbers } = this;
+    const names = BigInt(MAX_JUNCTIONS);
+    const lent = [nameFrom, names, nameTo, names, numbers, BigInt(MAX_ROWS)];
+    const text = [this.text, BigInt(length)];
+    return this.ask('star_read_table', ...text, ...this.table(), ...this.marks(), ...lent);
+  }
+
+  /** The line of a place in the text that was put.
+   * @param {number} length @param {number} place */
+  lineOf(length, place) {
+    return Number(this.doors.star_line_of(this.text, BigInt(length), place));
+  }
+
+  /** Numbers that a door left.
+   * @param {number} at @param {number} count */
+  numbersAt(at, count) {
+    return new Uint32Array(this.memory.slice(at, at + 4 * count).buffer);
+  }
+
+  /** Reads the text that was put as an STP text.
+   * @param {number} length */
+  stp(length) {
+    this.memory.fill(255, this.use, this.use + USE_BYTES);
+    this.memory.fill(0, this.mark, this.mark + MAX_ROWS);
     const columns = this.table().slice(2);
     const a = this.ask('star_import', this.text, BigInt(length), ...columns);
-    const rows = [];
-    for (let i = 0; a.kind === PASSED && i < a.in; i++) {
-      const price = this.view.getInt32(this.weight + 4 * i, true);
-      rows.push([this.memory[this.left + i], this.memory[this.right + i], price, 0]);
-    }
-    const coordinates = a.kind === PASSED ? this.coordinates(length, a.out) : null;
-    return { kind: a.kind, number: a.number, n: a.out, rows, place: a.amount, coordinates };
-  }
-
-  /** The coordinates of junctions 1 to n in the STP text that was read; null unless each has them.
-   * @param {number} length @param {number} n */
-  coordinates(length, n) {
-    if (!this.doors.places_read(this.text, length, n, this.at)) return null;
-    return Array.from({ length: n }, (_, k) => this.place(k + 1));
-  }
-
-  /** Where a junction stands.
-   * @param {number} v */
-  place(v) {
-    return [0, 8].map((by) => this.view.getFloat64(this.at + 16 * v + by, true));
-  }
-
-  /** Where junctions stand, and how rows are bent.
-   * @param {Plan} p */
-  places(p) {
-    this.put(p);
-    this.doors.places_of(p.n, p.m, this.left, this.right, this.at);
-    return this.placed(p);
-  }
-
-  /** The same by coordinates; null where two junctions have the same.
-   * @param {Plan} p @param {number[][]} given */
-  placesGiven(p, given) {
-    this.put(p);
-    given.slice(0, p.n).forEach((place, k) => {
-      place.forEach((c, by) => this.view.setFloat64(this.at + 16 * (k + 1) + 8 * by, c, true));
-    });
-    const { doors, left, right, at } = this;
-    return doors.places_given(p.n, p.m, left, right, at) ? this.placed(p) : null;
-  }
-
-  /** @param {Plan} p whose junctions are placed */
-  placed(p) {
-    this.doors.places_bends(p.n, p.m, this.left, this.right, this.at, this.bend);
-    const places = Array.from({ length: p.n }, (_, k) => this.place(k + 1));
-    const bends = Float64Array.from({ length: p.m }, (_, i) => {
-      return this.view.getFloat64(this.bend + 8 * i, true);
-    });
-    const [x, y] = [0, 1].map((by) => Float64Array.from(places, (place) => place[by]));
-    return { x, y, bends };
+    return { ...a, plan: a.kind === PASSED ? this.plan(a.out, a.in, []) : null };
   }
 }
 

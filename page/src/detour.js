@@ -46,19 +46,6 @@ export function detourOf(matrix, p, i, dearest) {
   return { rows, stops, dearest, sum };
 }
 
-/** The exchange that saves most, the uppermost row of those that save as much; null where none
- * saves. Beside each row stands the one that it is best exchanged with.
- * @param {Plan} p @param {Int32Array} beside */
-export function detourBest(p, beside) {
-  let best = null;
-  for (let i = 0; i < p.m; i++) {
-    const out = planLeaves(p, i) ? beside[i] : -1;
-    const saves = out < 0 ? 0 : p.price[out] - p.price[i];
-    if (saves > (best ? best.saves : 0)) best = { out, in: i, saves };
-  }
-  return best;
-}
-
 /** What a row of the plan holds together: the junctions beyond it, and the rows left out that join
  * both sides again.
  * @param {Uint32Array} matrix @param {Plan} p @param {number} i */

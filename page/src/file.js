@@ -1,21 +1,20 @@
-// Table files, read and written as the console does (console/table.c, console/edit.c): a line that
-// says the same stays byte for byte. A text here has a character for each byte of the file.
-import { MAX_JUNCTIONS, MAX_PRICE, MAX_ROWS, MIN_PRICE } from './core.js';
-import { planOf } from './plan.js';
+// Table files: read by the core, in whose words lines that cannot stand are told, and written as
+// the console does (console/edit.c): a line that says the same stays byte for byte. A text here has
+// a character for each byte of the file.
+import { BAD_TEXT, MAX_FILE, PASSED, TOO_MANY_NAMES, TOO_MANY_ROWS } from './core.js';
+import { fieldsChanged, fieldsOf, fieldsPart, fieldsWord } from './fields.js';
 
+/** @typedef {import('./core.js').Core} Core */
 /** @typedef {import('./plan.js').Plan} Plan */
-/** Lines with their ends; the line of each row; whether a line 'junctions N' is there, and the word
- * that gives the number of junctions, with its line.
- * @typedef {{mark: string, lines: string[], rowLine: number[], told: boolean, count: string,
- * countLine: number, rows: number}} File */
+/** Lines with their ends, and that of each row; the names of junctions; the plan as it was read;
+ * whether a line 'junctions N' is there, and the word that gives the number of junctions.
+ * @typedef {{mark: string, lines: string[], rowLine: number[], names: string[], filed: Plan,
+ * told: boolean, count: string}} File */
 
-const KEPT = MAX_ROWS + 1;
-const MOST_BYTES = 1 << 24;
-const UINT32_MAX = 4294967295;
+const TOLD = 20; // the most lines that are told
 const QUOTED = 40;
-const TOLD = 20;
+const [LINE_FEED, RETURN, BLANK] = [10, 13, 32];
 const ORDER_MARK = '\xef\xbb\xbf';
-const PRICE_WORDS = 'a whole number from -2147483648 to 2147483647';
 
 /** What is wrong with a file, a sentence a line that cannot stand. */
 export class FileFault extends Error {}
@@ -33,218 +32,199 @@ export function fileText(bytes) {
 /** @param {string} text */
 export const fileBytes = (text) => Uint8Array.from(text, (c) => c.charCodeAt(0));
 
+/** What the bytes of a text say in UTF-8.
+ * @param {string} text */
+export const fileShown = (text) => new TextDecoder().decode(fileBytes(text));
+
+/** A text without its byte order mark.
+ * @param {string} text */
+export const fileBody = (text) => (text.startsWith(ORDER_MARK) ? text.slice(3) : text);
+
 /** Whether a text is an STP text.
  * @param {string} text */
 export const fileIsStp = (text) => /^[ \t\r\n]*33d32945(?=[ \t\r\n]|$)/i.test(fileBody(text));
 
-/** @param {string} text without a byte order mark */
-export const fileBody = (text) => (text.startsWith(ORDER_MARK) ? text.slice(3) : text);
-
-/** A number of any length, the largest for those above it; -1 where the word is none.
- * @param {string} word */
-const fileNumber = (word) => (/^[0-9]+$/.test(word) ? Math.min(Number(word), UINT32_MAX) : -1);
-
-/** A piece of the file in quotes, as the console shows it.
- * @param {string} piece */
-function fileQuote(piece) {
-  /** @param {string} c */
-  const shown = (c) => `\\x${c.charCodeAt(0).toString(16).padStart(2, '0')}`;
-  const start = piece.slice(0, QUOTED).replace(/\t/g, ' ').replace(/[^ -~]/g, shown);
-  return `'${start}${piece.length > QUOTED ? '..' : ''}'`;
-}
-
-/** @param {number} line @param {string} own the line's content @param {string} piece
- * @param {string} what @returns {never} */
-function fileWrong(line, own, piece, what) {
-  const blanks = '; words are parted by blanks, not by commas or semicolons';
-  throw new FileFault(`${line}: ${fileQuote(piece)} ${what}${/[,;]/.test(own) ? blanks : ''}`);
-}
-
-/** One trench: its two junctions, price, mark, and whether it is struck.
- * @param {number} line @param {string} own @param {string[]} all
- * @returns {number[]} */
-function fileTrench(line, own, all) {
-  const struck = all[0].toLowerCase() === 'struck';
-  const words = struck ? all.slice(1) : all;
-  if (words.length < 3 || words.length > 4) {
-    fileWrong(line, own, own, 'is not a trench, which has two junctions, a price and a mark');
-  }
-  const [left, right] = words.slice(0, 2).map((word) => {
-    const end = fileNumber(word);
-    if (end < 0) fileWrong(line, own, word, 'is not a junction, a number from 1 to 255');
-    return end;
-  });
-  const price = Number(words[2]);
-  if (!/^-?[0-9]+$/.test(words[2]) || price < MIN_PRICE || price > MAX_PRICE) {
-    fileWrong(line, own, words[2], `is not a price, ${PRICE_WORDS}`);
-  }
-  const mark = words.length === 4 ? fileNumber(words[3]) : 0;
-  if (mark < 0) fileWrong(line, own, words[3], 'is not a mark, 0 or 1');
-  return [left, right, price, mark, struck ? 1 : 0];
-}
-
 /** Reads a table file.
- * @param {string} text @returns {{file: File, plan: Plan}} */
-export function fileRead(text) {
-  if (text.length > MOST_BYTES) {
-    throw new FileFault(' it has more than 16777216 bytes, far more than 1024 trenches need');
-  }
+ * @param {Core} core @param {string} text @returns {{file: File, plan: Plan}} */
+export function fileRead(core, text) {
   if (/^(\xff\xfe|\xfe\xff)/.test(text)) {
     throw new FileFault(' it is UTF-16 text; save it as UTF-8 or ASCII');
   }
-  const body = fileBody(text);
-  const mark = text.slice(0, text.length - body.length);
-  const lines = body.match(/[^\r\n]*(\r\n|\r|\n)|[^\r\n]+$/g) || [];
+  const length = core.putText(text, MAX_FILE);
+  const { kind, out: names, in: m, amount: n } = core.readTable(length);
+  if (kind !== PASSED) throw new FileFault(fileFaults(core, length));
+  const [from, to] = [core.nameFrom, core.nameTo].map((at) => core.numbersAt(at, names));
+  const own = Array.from(from, (at, k) => text.slice(at, to[k]));
+  const places = core.numbersAt(core.numbers, m);
+  const plan = core.plan(n, m, own.map(fileShown));
+  const file = fileLines(text, places, own, plan);
+  fileHidden(core, file, plan);
+  return { file, plan };
+}
+
+/** The lines of a text, those of its rows, and how many junctions it tells.
+ * @param {string} text @param {Uint32Array} places @param {string[]} names @param {Plan} filed
+ * @returns {File} */
+function fileLines(text, places, names, filed) {
+  const mark = text.slice(0, text.length - fileBody(text).length);
+  const lines = fileBody(text).match(/[^\r\n]*(\r\n|\r|\n)|[^\r\n]+$/g) || [];
   /** @type {File} */
-  const file = { mark, lines, rowLine: [], told: false, count: '', countLine: 0, rows: 0 };
-  /** @type {number[][]} */
-  const rows = [];
-  /** @type {string[]} */
-  const faults = [];
-  let n = 0;
+  const file = { mark, lines, rowLine: [], names, filed, told: false, count: '' };
+  let at = mark.length;
   lines.forEach((line, k) => {
-    const own = line.replace(/[\r\n]+$/, '').replace(/#.*$/, '').replace(/^[ \t]+|[ \t]+$/g, '');
-    if (own === '') return;
-    try {
-      n = fileEntry(file, rows, n, k, own);
-    } catch (fault) {
-      if (!(fault instanceof FileFault)) throw fault;
-      faults.push(fault.message);
-    }
-  });
-  if (faults.length > 0) throw new FileFault(fileFaults(faults));
-  file.rows = rows.length;
-  return { file, plan: filePlan(n, rows.slice(0, KEPT)) };
-}
-
-/** The first faults, and how many there are more.
- * @param {string[]} faults */
-function fileFaults(faults) {
-  const more = faults.length - TOLD;
-  const rest = more > 0 ? [` ${more} more ${more === 1 ? 'line' : 'lines'} cannot stand`] : [];
-  return [...faults.slice(0, TOLD), ...rest].join('\n');
-}
-
-/** A line that is not empty: gives the number of junctions that is known by then.
- * @param {File} file @param {number[][]} rows @param {number} known
- * @param {number} k @param {string} own */
-function fileEntry(file, rows, known, k, own) {
-  const words = own.match(/[^ \t\r\n]+/g) || [];
-  if (own.includes('\0')) fileWrong(k + 1, own, own, 'has a zero byte');
-  if (words[0].toLowerCase() === 'junctions') return fileJunctions(file, k + 1, own, words);
-  const row = fileTrench(k + 1, own, words);
-  const struck = row[4];
-  let n = known;
-  row.slice(0, 2).forEach((end, e) => {
-    if (file.told || end <= n || (struck && end > MAX_JUNCTIONS)) return;
-    n = end;
-    file.count = words[e + struck];
-    file.countLine = k + 1;
-  });
-  if (rows.push(row) <= KEPT) file.rowLine.push(k);
-  return n;
-}
-
-/** The line 'junctions N'.
- * @param {File} file @param {number} line @param {string} own
- * @param {string[]} words */
-function fileJunctions(file, line, own, words) {
-  if (file.told) fileWrong(line, own, own, "is a second line 'junctions N'");
-  const n = words.length === 2 ? fileNumber(words[1]) : -1;
-  if (n < 0) fileWrong(line, own, own, "is not a line 'junctions N', N a number");
-  file.told = true;
-  file.count = words[1];
-  file.countLine = line;
-  return n;
-}
-
-/** A junction above 255 becomes 0 and a mark above 255 becomes 255, which the core refuses.
- * @param {number} n @param {number[][]} rows */
-function filePlan(n, rows) {
-  const plan = planOf(n, rows.length);
-  rows.forEach(([left, right, price, mark, struck], i) => {
-    plan.left[i] = left > 255 ? 0 : left;
-    plan.right[i] = right > 255 ? 0 : right;
-    plan.price[i] = price;
-    plan.mark[i] = Math.min(mark, 255);
-    plan.struck[i] = struck;
-  });
-  return plan;
-}
-
-/** A line with the words of a row changed where they say something else.
- * @param {string} line @param {Plan} p @param {number} i */
-function fileLine(line, p, i) {
-  const end = line.search(/[#\r\n]/);
-  const own = end < 0 ? line : line.slice(0, end);
-  const found = own.match(/^([ \t]*)(struck[ \t]+)?(.*)$/i) || ['', '', '', own];
-  let [, before, struck, rest] = found;
-  const places = [...rest.matchAll(/[^ \t]+/g)].map((m) => [m.index || 0, m[0].length]);
-  /** @param {number} k @param {number} value */
-  const change = (k, value) => {
-    if (places[k] === undefined) {
-      const last = places[2][0] + places[2][1];
-      if (value !== 0) rest = `${rest.slice(0, last)} ${value}${rest.slice(last)}`;
+    at += line.length;
+    if (file.rowLine.length < places.length && places[file.rowLine.length] < at) {
+      file.rowLine.push(k);
       return;
     }
-    const [at, length] = places[k];
-    if (Math.min(Number(rest.slice(at, at + length)), k === 3 ? 255 : MAX_PRICE) === value) return;
-    rest = rest.slice(0, at) + value + rest.slice(at + length);
-  };
-  change(3, p.mark[i]);
-  change(2, p.price[i]);
-  if (Boolean(struck) !== Boolean(p.struck[i])) struck = p.struck[i] ? 'struck ' : '';
-  return before + (struck || '') + rest + line.slice(own.length);
+    const fields = fieldsOf(line);
+    if (fieldsWord(line, fields, 0) !== 'junctions') return;
+    file.told = true;
+    file.count = fieldsWord(line, fields, 1);
+  });
+  if (!file.told && names.length === 0) file.count = fileLargest(file, filed);
+  return file;
 }
+
+/** The word that names the largest junction first.
+ * @param {File} file @param {Plan} p */
+function fileLargest(file, p) {
+  const row = p.left.findIndex((a, i) => a === p.n || p.right[i] === p.n);
+  if (row < 0) return '';
+  const line = file.lines[file.rowLine[row]];
+  return fieldsWord(line, fieldsOf(line), p.struck[row] + Number(p.left[row] !== p.n));
+}
+
+/** A struck trench is read as unmarked; the mark that its line has counts again when it comes back.
+ * It is what is read where the word 'struck' is blanked.
+ * @param {Core} core @param {File} file @param {Plan} p */
+function fileHidden(core, file, p) {
+  if (!p.struck.includes(1)) return;
+  const lines = file.lines.slice();
+  p.struck.forEach((struck, i) => {
+    const line = lines[file.rowLine[i]];
+    const [, [own]] = fieldsOf(line).whole;
+    if (struck) lines[file.rowLine[i]] = ' '.repeat(own) + line.slice(own);
+  });
+  core.readTable(core.putText(file.mark + lines.join(''), MAX_FILE));
+  p.mark = core.plan(p.n, p.m, []).mark;
+}
+
+/** The lines that cannot stand, a sentence each: each is blanked, and the text is read again.
+ * @param {Core} core @param {number} length */
+function fileFaults(core, length) {
+  const faults = [];
+  for (;;) {
+    const { kind, number, amount: place } = core.readTable(length);
+    if (kind === PASSED) break;
+    if (faults.length === TOLD) {
+      faults.push(' more lines cannot stand');
+      break;
+    }
+    const words = core.refusal(number);
+    if (number === BAD_TEXT) return ` ${words}`;
+    const { start, end } = fileLineAround(core, length, place);
+    const piece = core.memory.subarray(core.text + place, core.text + end);
+    faults.push(`${core.lineOf(length, place)}: ${words}: ${fileQuote(piece)}`);
+    if (number === TOO_MANY_ROWS || number === TOO_MANY_NAMES) break;
+    core.memory.fill(BLANK, core.text + start, core.text + end);
+  }
+  return faults.join('\n');
+}
+
+/** Where the line of a place begins and ends.
+ * @param {Core} core @param {number} length @param {number} place */
+function fileLineAround(core, length, place) {
+  /** @param {number} k */
+  const within = (k) => {
+    const byte = core.memory[core.text + k];
+    return k >= 0 && k < length && byte !== LINE_FEED && byte !== RETURN;
+  };
+  let [start, end] = [place, place];
+  while (within(start - 1)) start--;
+  while (within(end)) end++;
+  return { start, end };
+}
+
+/** A piece of the file in quotes, as the console shows it.
+ * @param {Uint8Array} piece */
+function fileQuote(piece) {
+  /** @param {string} c */
+  const shown = (c) => `\\x${c.charCodeAt(0).toString(16).padStart(2, '0')}`;
+  const start = fileText(piece.subarray(0, QUOTED)).replace(/\t/g, ' ').replace(/[^ -~]/g, shown);
+  return `'${start}${piece.length > QUOTED ? '..' : ''}'`;
+}
+
+/** What a row of a plan says.
+ * @param {Plan} p @param {number} i */
+const fileRow = (p, i) => ({ mark: p.mark[i], price: p.price[i], struck: p.struck[i] });
 
 /** The file with the plan's marks, prices and strikes.
  * @param {File} file @param {Plan} p */
 export function fileWrite(file, p) {
   const lines = file.lines.slice();
   file.rowLine.forEach((k, i) => {
-    lines[k] = fileLine(lines[k], p, i);
+    lines[k] = fieldsChanged(lines[k], fileRow(file.filed, i), fileRow(p, i));
   });
   return file.mark + lines.join('');
 }
 
-/** The lines of a file with some of them changed: where a struck trench went, the number of
- * junctions may be named by no line any more, and is told in a line of its own.
- * @param {File} file @param {Plan} p @param {string} end @param {number} n
- * @param {(row: number, line: string) => string} line */
-function fileChanged(file, p, end, n, line) {
-  const rows = new Map(file.rowLine.map((k, i) => [k, i]));
-  const lines = file.lines.map((own, k) => {
-    const row = rows.get(k);
-    return row === undefined ? own : line(row, own);
+/** What parts the fields of the last trench.
+ * @param {File} file */
+function filePart({ lines, rowLine }) {
+  return rowLine.length > 0 ? fieldsOf(lines[rowLine[rowLine.length - 1]]).by : ' ';
+}
+
+/** Whether a line 'junctions N' is to be written: lines of trenches go, none says it yet, and of a
+ * file with names one goes with them.
+ * @param {File} file @param {Plan} p
+ * @param {(i: number) => boolean} stays @param {string[]} ends */
+function fileCounts(file, p, stays, ends) {
+  if (p.left.every((_, i) => stays(i)) || file.told) return false;
+  if (file.names.length === 0) return p.n > 0;
+  const left = new Set(ends.map((word) => file.names.indexOf(word) + 1));
+  p.left.forEach((a, i) => {
+    if (stays(i)) left.add(a).add(p.right[i]);
   });
-  if (!p.struck.includes(1) || file.told || n === 0) return lines;
-  return [`junctions ${n > p.n ? n : file.count}${end}`, ...lines];
+  return file.names.some((_, k) => !left.has(k + 1));
 }
 
 /** The text with one more trench, at the row that star_add gave, counted from 1: at the file's end;
  * in place of a struck one; or, where all rows were in use or struck, after the struck ones are
  * gone.
- * @param {File} file @param {Plan} p @param {number} at
- * @param {number} a @param {number} b @param {number} price */
-export function fileAdd(file, p, at, a, b, price) {
-  const now = fileRead(fileWrite(file, p)).file;
-  const [end] = (now.lines[0] || '').match(/\r\n|\r|\n/) || ['\n'];
-  const added = `${a} ${b} ${price} 0${end}`;
-  const n = Math.max(p.n, a, b);
+ * @param {File} file the lines as the plan has them @param {Plan} p @param {number} at
+ * @param {string[]} ends words for its junctions @param {number} price @param {number} n */
+export function fileAdd(file, p, at, ends, price, n) {
+  const [end] = (file.lines[0] || '').match(/\r\n|\r|\n/) || ['\n'];
+  const part = fieldsPart(ends, filePart(file)) || ';';
+  const added = [...ends, price, 0].join(part) + end;
   const merged = at <= p.struck.lastIndexOf(0) + 1;
-  if (!merged && at <= p.m) {
-    const instead = fileChanged(now, p, end, n, (i, own) => (i === at - 1 ? added : own));
-    return now.mark + instead.join('');
-  }
-  const last = now.lines[now.lines.length - 1] || '\n';
-  const lines = merged
-    ? fileChanged(now, p, end, n, (i, own) => (p.struck[i] ? '' : own))
-    : now.lines;
-  return now.mark + lines.join('') + (/[\r\n]$/.test(last) ? '' : end) + added;
+  const instead = !merged && at <= p.m ? at - 1 : -1;
+  /** @param {number} i */
+  const stays = (i) => i !== instead && !(merged && p.struck[i]);
+  const rows = new Map(file.rowLine.map((k, i) => [k, i]));
+  const lines = file.lines.map((own, k) => {
+    const row = rows.get(k);
+    if (row === undefined || stays(row)) return own;
+    return row === instead ? added : '';
+  });
+  const word = n > p.n || file.names.length > 0 ? n : file.count;
+  const count = `junctions${filePart(file)}${word}${end}`;
+  const first = fileCounts(file, p, stays, ends) ? [count] : [];
+  const open = !/[\r\n]$/.test(file.lines[file.lines.length - 1] || '\n');
+  const last = open ? [end, added] : [added];
+  return file.mark + [...first, ...lines, ...(instead < 0 ? last : [])].join('');
 }
 
-/** Rows as a table file: two junctions, a price and a mark each.
- * @param {number} n @param {number[][]} rows */
-export function fileOfRows(n, rows) {
-  return `junctions ${n}\n${rows.map((row) => `${row.join(' ')}\n`).join('')}`;
+/** A plan as a table file: fields are parted by blanks, and where there are names, by semicolons,
+ * which no name holds.
+ * @param {Plan} p @param {string[]} names */
+export function fileOfPlan(p, names) {
+  const by = names.length > 0 ? ';' : ' ';
+  /** @param {number} v */
+  const end = (v) => (names.length > 0 ? names[v - 1] : v);
+  const rows = Array.from(p.left, (left, i) => {
+    return `${[end(left), end(p.right[i]), p.price[i], p.mark[i]].join(by)}\n`;
+  });
+  return `junctions${by}${p.n}\n${rows.join('')}`;
 }

@@ -1,6 +1,5 @@
 // All that is asked about a plan after each change.
 import { LIGHTER, MARK_COUNT, NOT_JOINED, PASSED, REFUSED } from './core.js';
-import { detourBest } from './detour.js';
 import { planRows } from './plan.js';
 import { ringsOf } from './rings.js';
 
@@ -8,12 +7,13 @@ import { ringsOf } from './rings.js';
 /** @typedef {import('./core.js').Answer} Answer */
 /** @typedef {import('./plan.js').Plan} Plan */
 /** `network`: the marks are one. `drawn`: the table is sound, so that it can be drawn. `total` is
- * the core's, 0 where the table is refused. `exchange` saves most; `after` is the core's
- * total after it. `beside` has what the core says of detours.
+ * the core's, 0 where the table is refused; `least` that of a cheapest network, or why there is
+ * none. `exchange` is the one of two rows that saves most, by the core. `beside` has what the core
+ * says of detours, `breakings` the breaking prices that were asked for.
  * @typedef {{verdict: Answer, network: boolean, drawn: boolean, marks: number, total: number,
- * least: (Answer & {mark: Uint8Array}) | null, other: Answer | null,
+ * least: {kind: number, number: number, amount: number} | null, other: Answer | null,
  * matrix: Uint32Array | null, beside: Int32Array | null,
- * exchange: {out: number, in: number, saves: number} | null, after: number,
+ * exchange: {out: number, in: number, saves: number} | null, breakings: Map<number, Answer>,
  * rings: import('./rings.js').Rings | null}} Judgement */
 
 /** The plan's marks with one row out and another one in.
@@ -25,37 +25,43 @@ export function judgeExchanged(p, out, into) {
   return mark;
 }
 
-/** Detours and the exchange that saves most, for a plan that is a network.
+/** Detours and the exchange that saves most, for a plan that is a network; another network of the
+ * same total where it is a cheapest one and not the only one.
  * @param {Core} core @param {Plan} p @param {Answer} verdict */
 function judgeNetwork(core, p, verdict) {
-  const matrix = core.paths(p);
   const told = core.detours(p);
-  const beside = told && told.beside;
-  const exchange = beside && verdict.kind === LIGHTER ? detourBest(p, beside) : null;
-  const after = exchange ? core.total(p, judgeExchanged(p, exchange.out, exchange.in)).amount : 0;
-  const total = told ? told.total : 0;
-  const other = verdict.kind === PASSED && !verdict.only ? core.other(p) : null;
-  return { matrix, beside, exchange, after, total, other };
+  const best = verdict.kind === LIGHTER ? core.best(p) : null;
+  return {
+    matrix: core.paths(p),
+    beside: told && told.beside,
+    exchange: best && { out: best.out - 1, in: best.in - 1, saves: best.amount },
+    total: told ? told.total : 0,
+    least: { kind: PASSED, number: 0, amount: best ? best.least : verdict.amount },
+    other: verdict.kind === PASSED && !verdict.only ? verdict : null,
+    rings: null,
+  };
 }
 
-const NONE = { matrix: null, beside: null, exchange: null, after: 0, other: null };
+/** What is asked about marks that are no network.
+ * @param {Core} core @param {Plan} p @param {boolean} drawn @param {number} marks */
+function judgeOthers(core, p, drawn, marks) {
+  return {
+    matrix: null,
+    beside: null,
+    exchange: null,
+    total: core.total(p, p.mark).amount,
+    least: drawn ? core.mst1(p) : null,
+    other: null,
+    rings: drawn ? ringsOf(core, p, marks) : null,
+  };
+}
 
 /** @param {Core} core @param {Plan} p @returns {Judgement} */
 export function judge(core, p) {
-  const verdict = core.cst(p);
+  const verdict = core.other(p);
   const network = verdict.kind !== REFUSED;
   const drawn = network || verdict.number === MARK_COUNT || verdict.number === NOT_JOINED;
   const marks = planRows(p).length;
-  const found = network
-    ? judgeNetwork(core, p, verdict)
-    : { ...NONE, total: core.total(p, p.mark).amount };
-  return {
-    verdict,
-    network,
-    drawn,
-    marks,
-    least: drawn ? core.mst1(p) : null,
-    rings: drawn && !network ? ringsOf(core, p, marks) : null,
-    ...found,
-  };
+  const found = network ? judgeNetwork(core, p, verdict) : judgeOthers(core, p, drawn, marks);
+  return { verdict, network, drawn, marks, breakings: new Map(), ...found };
 }

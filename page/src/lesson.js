@@ -2,7 +2,7 @@
 // that was open is kept meanwhile.
 import { bold, button, byId, coreSays, html, pageSays, svg } from './dom.js';
 import { KINDS, exerciseAnswer, exerciseFits, exerciseMake } from './exercises.js';
-import { fileOfRows, fileRead } from './file.js';
+import { fileOfPlan, fileRead } from './file.js';
 import { History } from './history.js';
 import { setOffNone } from './why.js';
 import { money } from './words.js';
@@ -11,13 +11,6 @@ import { money } from './words.js';
 /** @typedef {import('./exercises.js').Exercise} Exercise */
 
 const MOST_SEEDS = 1000000;
-
-/** A plan as a table file.
- * @param {import('./plan.js').Plan} p */
-export function lessonText(p) {
-  const rows = Array.from(p.left, (left, i) => [left, p.right[i], p.price[i], p.mark[i]]);
-  return fileOfRows(p.n, rows);
-}
 
 export class Lesson {
   /** @param {App} app @param {number} seed */
@@ -53,7 +46,9 @@ export class Lesson {
     this.answer = exerciseAnswer(app.core, this.exercise);
     app.saved = true;
     const name = `Exercise ${seed}`;
-    const state = { ...fileRead(lessonText(this.exercise.plan)), name, coordinates: null };
+    const { plan } = this.exercise;
+    const { file } = fileRead(app.core, fileOfPlan(plan, []));
+    const state = { file, plan, name, coordinates: null };
     app.show(new History(state));
   }
 

@@ -1,16 +1,20 @@
 // The table of trenches: a checkbox a row. One row at a time is in the tab order; arrows move, and
 // space marks.
 import { byId, html } from './dom.js';
-import { namesEnds } from './names.js';
 import { planHas, planLeaves } from './plan.js';
-import { count, ends, money } from './words.js';
+import { count, ends, junction, junctionOf, money } from './words.js';
 
 /** @typedef {import('./app.js').App} App */
 /** What stands beside a row: words, a look, and what it costs or saves.
  * @typedef {{words: string, look: string, gain: number}} Standing */
+/** The parts of a row that change, and what they say now.
+ * @typedef {{row: any, box: any, figure: Text, standing: Text, on: boolean, struck: number,
+ * price: number, words: string, look: string}} Drawn */
 
 /** @type {Record<string, number>} */
 const MOVES = { ArrowDown: 1, ArrowUp: -1, PageDown: 12, PageUp: -12, Home: -2000, End: 2000 };
+
+const QUIET = { words: '', look: '' };
 
 /** @param {App} app @param {number} i @returns {Standing} */
 export function listStanding(app, i) {
@@ -47,13 +51,14 @@ export class List {
     this.body = byId('list-rows');
     /** @type {any[]} */
     this.rows = [];
-    /** @type {string[]} */
+    /** @type {Drawn[]} */
     this.drawn = [];
+    this.chosen = -1;
     this.tab = 0;
     this.body.addEventListener('change', (/** @type {any} */ e) => {
-      toggle(this.rowOf(e));
-      this.drawn[this.rowOf(e)] = ''; // a mark that may not turn is shown as it stands
-      this.update();
+      const i = this.rowOf(e);
+      toggle(i);
+      e.target.checked = planHas(app.shown, i); // a mark that may not turn is shown as it stands
     });
     this.body.addEventListener('click', (/** @type {any} */ e) => {
       if (e.target.type !== 'checkbox' && this.rowOf(e) >= 0) app.select(this.rowOf(e));
@@ -85,49 +90,77 @@ export class List {
   }
 
   open() {
-    const { file, plan } = this.app.history.now;
-    this.rows = Array.from({ length: plan.m }, (_, i) =>
-      html(
-        'tr',
-        { 'data-row': i, role: 'row' },
-        html('td', { role: 'cell' }, html('input', { type: 'checkbox', tabindex: -1 })),
-        html('td', { role: 'cell' }, String(i + 1)),
-        html('td', { role: 'cell', title: namesEnds(file, plan, i) }, ends(plan, i)),
-        html('td', { role: 'cell', class: 'figure' }),
-        html('td', { role: 'cell' }),
-      ),
-    );
-    this.drawn = [];
+    const { plan } = this.app;
+    this.drawn = Array.from({ length: plan.m }, (_, i) => this.row(plan, i));
+    this.rows = this.drawn.map(({ row }) => row);
+    this.chosen = -1;
     const longest = plan.price.reduce((most, price) => Math.max(most, money(price).length), 6);
     byId('list').style.setProperty('--price-column', `${8.5 * longest + 12}px`);
+    const named = plan.names.length > 0;
+    byId('list').style.setProperty('--ends-column', named ? 'minmax(86px, 1.6fr)' : '86px');
     this.update();
     this.arrange();
     this.reach(0);
     byId('list-scroll').scrollTop = 0;
   }
 
-  /** Writes the rows that say something else than before. */
+  /** A row that says nothing yet. Its checkbox is named by what it is, and described by how it
+   * stands.
+   * @param {import('./plan.js').Plan} p @param {number} i @returns {Drawn} */
+  row(p, i) {
+    const [figure, standing] = [document.createTextNode(''), document.createTextNode('')];
+    const id = `standing-${i + 1}`;
+    const box = html('input', { type: 'checkbox', tabindex: -1, 'aria-describedby': id });
+    const row = html(
+      'tr',
+      { 'data-row': i, role: 'row' },
+      html('td', { role: 'cell' }, box),
+      html('td', { role: 'cell' }, String(i + 1)),
+      html('td', { role: 'cell', title: ends(p, i) }, ends(p, i)),
+      html('td', { role: 'cell', class: 'figure' }, figure),
+      html('td', { role: 'cell', id }, standing),
+    );
+    const price = NaN; // no price is drawn yet
+    return { row, box, figure, standing, on: false, struck: 0, price, words: '', look: '' };
+  }
+
+  /** Writes what says something else than before. */
   update() {
     const { app } = this;
     const plan = app.shown;
+    const quiet = Boolean(app.mending || app.asked);
     for (let i = 0; i < plan.m; i++) {
-      const quiet = app.mending || app.asked;
-      const { words, look } = quiet ? { words: '', look: '' } : listStanding(app, i);
+      const { words, look } = quiet ? QUIET : listStanding(app, i);
+      const now = this.drawn[i];
       const on = planHas(plan, i);
-      const key = `${on}|${plan.price[i]}|${plan.struck[i]}|${look}|${words}|${i === app.selected}`;
-      if (this.drawn[i] === key) continue;
-      this.drawn[i] = key;
-      const row = this.rows[i];
-      const box = row.cells[0].firstChild;
-      box.checked = on;
-      box.disabled = plan.struck[i] === 1;
-      const standing = words ? `, ${words}` : '';
-      const name = `Trench ${i + 1}, ${plan.left[i]} to ${plan.right[i]}, price ${plan.price[i]}`;
-      box.setAttribute('aria-label', name + standing);
-      row.cells[3].textContent = money(plan.price[i]);
-      row.cells[4].textContent = words;
-      row.className = `${look}${on ? ' on' : ''}${i === app.selected ? ' now' : ''}`;
+      if (now.price !== plan.price[i]) this.priced(now, plan, i);
+      if (now.words !== words) now.standing.data = words;
+      if (now.struck !== plan.struck[i]) now.box.disabled = plan.struck[i] === 1;
+      if (now.on !== on) now.box.checked = on;
+      if (now.look !== look || now.on !== on) now.row.className = on ? `${look} on` : look;
+      Object.assign(now, { on, struck: plan.struck[i], words, look });
     }
+    const chosen = this.rows[this.chosen];
+    if (chosen) chosen.classList.add('now'); // its look may have been written anew
+    this.choose(app.selected);
+  }
+
+  /** @param {Drawn} now @param {import('./plan.js').Plan} p @param {number} i */
+  priced(now, p, i) {
+    const [from, to] = [p.left[i], p.right[i]].map((v) => junction(p, v));
+    now.box.setAttribute('aria-label', `Trench ${i + 1}, ${from} to ${to}, price ${p.price[i]}`);
+    now.figure.data = money(p.price[i]);
+    now.price = p.price[i];
+  }
+
+  /** Sets off the row that is chosen.
+   * @param {number} i */
+  choose(i) {
+    if (i === this.chosen) return;
+    for (const k of [this.chosen, i]) {
+      if (this.rows[k]) this.rows[k].classList.toggle('now', k === i);
+    }
+    this.chosen = i;
   }
 
   /** The row that the tab key reaches.
@@ -153,10 +186,10 @@ export class List {
     });
   }
 
-  /** @param {number} i @param {string} filter @param {string} at */
+  /** @param {number} i @param {string} filter @param {number} at a junction, or -1 for any */
   wanted(i, filter, at) {
     const { plan } = this.app;
-    if (at !== '' && String(plan.left[i]) !== at && String(plan.right[i]) !== at) return false;
+    if (at >= 0 && plan.left[i] !== at && plan.right[i] !== at) return false;
     if (filter === 'all') return true;
     if (filter === 'plan') return planHas(plan, i);
     if (filter === 'left') return planLeaves(plan, i);
@@ -168,7 +201,8 @@ export class List {
     const { app, rows } = this;
     const filter = byId('list-filter').value;
     const order = byId('list-order').value;
-    const at = byId('list-at').value.trim();
+    const word = byId('list-at').value.trim();
+    const at = word === '' ? -1 : junctionOf(app.plan, word);
     const keys = rows.map((_, i) => {
       if (order === 'price') return app.plan.price[i];
       return order === 'gain' ? listStanding(app, i).gain : i;

@@ -9,14 +9,13 @@ import { fileBytes } from './file.js';
 import { Lesson, lessonListen, lessonShow } from './lesson.js';
 import { List } from './list.js';
 import { mendSetOff, mendShow } from './mend.js';
-import { namesOf } from './names.js';
 import { Picture } from './picture.js';
 import { plansDistricts, plansOutlets, plansWhich } from './plans.js';
 import { Pointer } from './pointer.js';
 import { Price } from './price.js';
 import { verdictShow } from './verdict.js';
 import { setOffNone, whyOf } from './why.js';
-import { count, money } from './words.js';
+import { count, junctionOf, money } from './words.js';
 import { worksheetPrint } from './worksheet.js';
 
 /** @typedef {import('./core.js').Core} Core */
@@ -203,16 +202,15 @@ class Page {
    * @param {any} e */
   add(e) {
     if (e.submitter && e.submitter.value === 'cancel') return;
-    const [a, b, price] = ['add-a', 'add-b', 'add-price'].map((id) => Number(byId(id).value));
-    const wrong = this.app.add(a, b, price);
+    const [a, b, price] = ['add-a', 'add-b', 'add-price'].map((id) => byId(id).value);
+    const wrong = this.app.add([a, b], Number(price));
     byId('add-wrong').textContent = wrong;
     if (wrong) e.preventDefault();
     else byId('add-form').reset();
   }
 
   find() {
-    const v = Number(byId('find').value);
-    this.found = v >= 1 && v <= this.app.plan.n ? v : 0;
+    this.found = junctionOf(this.app.plan, byId('find').value);
     if (this.found > 0 && this.app.judgement.drawn) this.picture.find(this.found);
     this.show();
   }
@@ -280,7 +278,7 @@ class Page {
     if (told === 'open') {
       this.found = 0;
       if (drawn) {
-        this.picture.open(app.shown, app.coordinates, namesOf(app.history.now.file));
+        this.picture.open(app.shown, app.coordinates);
         this.list.open();
       }
     }
@@ -290,7 +288,8 @@ class Page {
       mendShow(app);
       if (drawn) this.picture.marks(app.shown);
     }
-    if (drawn) this.list.update();
+    if (drawn && told === 'show') this.list.choose(app.selected);
+    else if (drawn) this.list.update();
     this.show();
   }
 

@@ -1,9 +1,16 @@
-// What a file holds, by its name and content, as a table file: a table, an STP text, CSV, GeoJSON.
-import { PASSED } from './core.js';
-import { csvRead } from './csv.js';
-import { FileFault, fileBody, fileBytes, fileIsStp, fileOfRows, fileText } from './file.js';
+// What a file holds, by its name and content: GeoJSON, an STP text, or a table file, which CSV is.
+import { MAX_JUNCTIONS, MAX_ROWS, MAX_TEXT, PASSED, TOO_MANY_ROWS } from './core.js';
+import { FileFault, fileBody, fileIsStp, fileOfPlan, fileRead, fileText } from './file.js';
 import { geojsonRead } from './geojson.js';
-import { rowsFault, rowsText } from './rows.js';
+import { layoutCoordinates } from './layout.js';
+import { planOfRows } from './plan.js';
+import { rowsFault, rowsNames } from './rows.js';
+
+/** @typedef {import('./core.js').Core} Core */
+/** @typedef {import('./plan.js').Plan} Plan */
+/** `coordinates` are those of the junctions, where the file has them.
+ * @typedef {{file: import('./file.js').File, plan: Plan,
+ * coordinates: number[][] | null}} Opened */
 
 /** @param {Uint8Array} bytes */
 function openedUtf8(bytes) {
@@ -14,20 +21,45 @@ function openedUtf8(bytes) {
   }
 }
 
-/** The text of the table, and the coordinates of its junctions where the file has them.
- * @param {import('./core.js').Core} core @param {Uint8Array} bytes @param {string} name
- * @returns {{text: string, coordinates: number[][] | null}} */
-export function openedText(core, bytes, name) {
-  if (/\.(csv|tsv)$/i.test(name)) {
-    return { text: rowsText(csvRead(openedUtf8(bytes))), coordinates: null };
+/** A plan as a table file with the names of its junctions; without them where what is written with
+ * them is not read as it was: then they are shown alone.
+ * @param {Core} core @param {Plan} plan */
+function openedNamed(core, plan) {
+  const utf8 = new TextEncoder();
+  const names = plan.names.map((name) => fileText(utf8.encode(name)));
+  try {
+    const read = fileRead(core, fileOfPlan(plan, names));
+    const columns = [plan, read.plan].map((p) => [p.names, p.left, p.right, p.price]);
+    if (JSON.stringify(columns[0]) === JSON.stringify(columns[1])) return read;
+  } catch (fault) {
+    if (!(fault instanceof FileFault)) throw fault;
   }
-  if (/\.(geo)?json$/i.test(name)) {
-    const read = geojsonRead(openedUtf8(bytes));
-    return { text: rowsText(read), coordinates: read.coordinates };
-  }
+  const { file } = fileRead(core, fileOfPlan(plan, []));
+  return { file, plan };
+}
+
+/** @param {Core} core @param {Uint8Array} bytes @returns {Opened} */
+function openedMap(core, bytes) {
+  const { n, rows, names, coordinates } = geojsonRead(openedUtf8(bytes));
+  if (n > MAX_JUNCTIONS) throw new FileFault(` ${core.refused(1, 0)}`);
+  if (rows.length > MAX_ROWS) throw new FileFault(` ${core.refused(TOO_MANY_ROWS, 0)}`);
+  const plan = planOfRows(n, rows, rowsNames(names));
+  return { ...openedNamed(core, plan), coordinates };
+}
+
+/** @param {Core} core @param {string} body @returns {Opened} */
+function openedStp(core, body) {
+  const length = core.putText(body, MAX_TEXT);
+  const { kind, number, amount, plan } = core.stp(length);
+  if (kind !== PASSED || !plan) throw new FileFault(` ${core.refused(number, amount)}`);
+  const coordinates = layoutCoordinates(core, length, plan.n);
+  return { ...fileRead(core, fileOfPlan(plan, [])), coordinates };
+}
+
+/** @param {Core} core @param {Uint8Array} bytes @param {string} name @returns {Opened} */
+export function openedFile(core, bytes, name) {
+  if (/\.(geo)?json$/i.test(name)) return openedMap(core, bytes);
   const text = fileText(bytes);
-  if (!fileIsStp(text)) return { text, coordinates: null };
-  const read = core.stp(fileBytes(fileBody(text)));
-  if (read.kind !== PASSED) throw new FileFault(` ${core.refused(read.number, read.place)}`);
-  return { text: fileOfRows(read.n, read.rows), coordinates: read.coordinates };
+  if (fileIsStp(text)) return openedStp(core, fileBody(text));
+  return { ...fileRead(core, text), coordinates: null };
 }

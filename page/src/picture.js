@@ -3,7 +3,7 @@
 // view.
 import { bendPath, bendPoint } from './bends.js';
 import { svg } from './dom.js';
-import { Taken, labelBox, labelsPlace } from './labels.js';
+import { Labels, Taken, labelHigh, labelWide, labelsPlace } from './labels.js';
 import { layoutOf } from './layout.js';
 import { planHas } from './plan.js';
 import { View, viewBox } from './view.js';
@@ -15,6 +15,7 @@ import { money } from './words.js';
 
 const SHARES = [0.5, 0.42, 0.58, 0.34, 0.66, 0.27, 0.73];
 const FAR_SHARES = [0.78, 0.7, 0.86, 0.62, 0.54, 0.46]; // away from a junction of many trenches
+const NEAR_SHARES = FAR_SHARES.map((share) => 1 - share);
 const TAG_SHARES = Array.from({ length: 19 }, (_, k) => (k + 1) / 20);
 const MANY = 12;
 const TAG_ASIDE = [[0, -18], [0, 18], [-34, 0], [34, 0], [0, -34], [0, 34], [-50, -20], [50, 20],
@@ -41,13 +42,12 @@ export class Picture {
     this.samples = new Float32Array(0);
     this.setOff = setOffNone();
     this.asked = false;
-    /** @type {Map<number, string>} */
-    this.names = new Map();
     this.radius = 5;
     this.usual = 1;
     this.near = 1;
     this.crowded = 1; // how many more trenches there are than can have their prices shown
     this.rowsAt = new Uint16Array(0);
+    this.states = new Uint8Array(0); // of each row as it is drawn: left out, struck, in the plan
     /** @type {any[]} */
     this.lines = [];
     /** @type {any[]} */
@@ -57,6 +57,7 @@ export class Picture {
     );
     this.world = svg('g', {}, ...Object.values(this.groups));
     this.top = svg('g', { class: 'top' });
+    this.labels = new Labels(this.top, () => svg('text'));
     root.append(this.world, this.top);
     new ResizeObserver(() => this.resized()).observe(root);
   }
@@ -76,19 +77,18 @@ export class Picture {
     else this.fit();
   }
 
-  /** @param {Plan} p @param {number[][] | null} given coordinates of the junctions, or null
-   * @param {Map<number, string>} names of junctions */
-  open(p, given, names) {
+  /** @param {Plan} p @param {number[][] | null} given coordinates of the junctions, or null */
+  open(p, given) {
     this.measure();
-    this.names = names;
     this.plan = p;
     this.at = layoutOf(this.core, p, given, this.view.w >= this.view.h);
     this.measureTable(p);
-    for (const group of [...Object.values(this.groups), this.top]) group.replaceChildren();
+    for (const group of Object.values(this.groups)) group.replaceChildren();
     this.lines = Array.from({ length: p.m }, (_, i) => {
       return svg('path', { d: bendPath(p, this.at, i) });
     });
     this.groups.left.append(...this.lines);
+    this.states = new Uint8Array(p.m);
     this.discs = Array.from({ length: p.n }, (_, v) => {
       const d = `M${this.at.x[v]} ${this.at.y[v]}h0.0001`; // a length of 0 is drawn in many ways
       return svg('g', {}, svg('path', { class: 'rim', d }), svg('path', { class: 'disc', d }));
@@ -130,11 +130,13 @@ export class Picture {
    * @param {Plan} p */
   marks(p) {
     this.plan = p;
-    this.lines.forEach((line, i) => {
-      const group = planHas(p, i) ? this.groups.plan : this.groups.left;
-      if (line.parentNode !== group) group.append(line);
-      line.classList.toggle('struck', p.struck[i] === 1);
-    });
+    for (let i = 0; i < p.m; i++) {
+      const state = planHas(p, i) ? 2 : p.struck[i];
+      if (this.states[i] === state) continue;
+      this.states[i] = state;
+      (state === 2 ? this.groups.plan : this.groups.left).append(this.lines[i]);
+      this.lines[i].classList.toggle('struck', state === 1);
+    }
     this.draw();
   }
 
@@ -142,6 +144,7 @@ export class Picture {
   show(setOff) {
     const { plan } = this;
     if (!plan) return;
+    const before = this.setOff.spots;
     this.setOff = setOff;
     for (const name of /** @type {('under' | 'over')[]} */ (['under', 'over'])) {
       const paths = setOff[name].map(([i, look]) => {
@@ -149,7 +152,10 @@ export class Picture {
       });
       this.groups[name].replaceChildren(...paths);
     }
-    this.discs.forEach((disc, v) => disc.setAttribute('class', setOff.spots.get(v + 1) || ''));
+    for (const v of new Set([...before.keys(), ...setOff.spots.keys()])) {
+      const look = setOff.spots.get(v) || '';
+      if ((before.get(v) || '') !== look) this.discs[v - 1].setAttribute('class', look);
+    }
     this.root.classList.toggle('quiet', setOff.quiet);
     this.draw();
   }
@@ -225,22 +231,12 @@ export class Picture {
   }
 
   drawLabels() {
-    const taken = new Taken();
+    const taken = new Taken(this.view);
     const { numbers, apart, named } = this.numbers(taken);
-    taken.put({ x0: this.view.w - BUTTONS.w, x1: this.view.w, y0: 0, y1: BUTTONS.h });
+    taken.put(this.view.w - BUTTONS.w, this.view.w, 0, BUTTONS.h);
     const { tags, prices } = this.wanted();
     const wanted = [...tags, ...apart, ...prices, ...named];
-    const labels = [...numbers, ...labelsPlace(taken, wanted, this.view)];
-    while (this.top.childNodes.length > labels.length) this.top.lastChild.remove();
-    while (this.top.childNodes.length < labels.length) this.top.append(svg('text'));
-    labels.forEach((label, k) => {
-      const text = this.top.childNodes[k];
-      text.setAttribute('x', label.x.toFixed(1));
-      text.setAttribute('y', (label.y + label.size * 0.35).toFixed(1));
-      text.setAttribute('font-size', label.size.toFixed(1));
-      text.setAttribute('class', label.look);
-      if (text.textContent !== label.text) text.textContent = label.text;
-    });
+    this.labels.show([...numbers, ...labelsPlace(taken, wanted, this.view)]);
   }
 
   /** The numbers of the junctions; where discs are too small for them, of those that are set off.
@@ -248,6 +244,7 @@ export class Picture {
    * @param {Taken} taken */
   numbers(taken) {
     const { radius, view, setOff } = this;
+    const { names } = /** @type {Plan} */ (this.plan);
     const numbers = [];
     /** @type {Wanted[]} */
     const apart = [];
@@ -256,31 +253,33 @@ export class Picture {
     for (let v = 1; v <= this.discs.length; v++) {
       const { x, y } = view.pixels({ x: this.at.x[v - 1], y: this.at.y[v - 1] });
       if (x < -20 || y < -20 || x > view.w + 20 || y > view.h + 20) continue;
-      taken.put({ x0: x - radius, x1: x + radius, y0: y - radius, y1: y + radius });
+      taken.put(x - radius, x + radius, y - radius, y + radius);
       const text = String(v);
       const look = `number ${setOff.spots.get(v) || ''}`;
       const size = Math.min(13, radius * (v > 99 ? 0.95 : 1.1));
       if (radius >= 7) {
-        numbers.push({ x, y, text, look, size });
-        if (this.names.has(v)) named.push(this.named(v, { x, y }));
+        numbers.push({ key: `number ${v}`, x, y, text, look, size });
+        if (names[v - 1]) named.push(this.named(v, names[v - 1], { x, y }));
       } else if (setOff.spots.has(v)) {
-        apart.push({ text, look: 'number apart', size: 11, at: [{ x, y: y - radius - 8 }] });
+        const at = () => ({ x, y: y - radius - 8 });
+        apart.push({ key: `number ${v}`, text, look: 'number apart', size: 11, places: 1, at });
       }
     }
     return { numbers, apart, named };
   }
 
   /** The name of a junction, below it, above it or beside it.
-   * @param {number} v @param {{x: number, y: number}} at @returns {Wanted} */
-  named(v, { x, y }) {
-    const letters = [...(/** @type {string} */ (this.names.get(v)))];
+   * @param {number} v @param {string} name @param {{x: number, y: number}} at @returns {Wanted} */
+  named(v, name, { x, y }) {
+    const letters = [...name];
     const cut = letters.length > NAME_MOST;
-    const text = cut ? `${letters.slice(0, NAME_MOST - 1).join('')}\u2026` : letters.join('');
-    const { x1, y1 } = labelBox(text, NAME_SIZE, { x: 0, y: 0 });
-    const [down, aside] = [this.radius + y1 + 1, this.radius + x1 + 1];
+    const text = cut ? `${letters.slice(0, NAME_MOST - 1).join('')}\u2026` : name;
+    const down = this.radius + labelHigh(NAME_SIZE) / 2 + 1;
+    const aside = this.radius + labelWide(text, NAME_SIZE) / 2 + 1;
     const places = [[0, down], [0, -down], [aside, 0], [-aside, 0]];
-    const at = places.map(([dx, dy]) => ({ x: x + dx, y: y + dy }));
-    return { text, look: 'name', size: NAME_SIZE, at };
+    /** @param {number} k */
+    const at = (k) => ({ x: x + places[k][0], y: y + places[k][1] });
+    return { key: `name ${v}`, text, look: 'name', size: NAME_SIZE, places: places.length, at };
   }
 
   /** The prices to be shown: what is set off, first the row that is chosen; then the plan, then
@@ -291,7 +290,10 @@ export class Picture {
     const order = [...this.setOff.tags];
     order.sort(([a], [b]) => Number(chosen.includes(b)) - Number(chosen.includes(a)));
     const tags = order.map(([i, text]) => {
-      return { text, size: 13, look: 'tag', at: this.along(i, true) };
+      const places = this.shares(p, i).length + TAG_ASIDE.length + TAG_SHARES.length;
+      /** @param {number} k */
+      const at = (k) => this.aside(p, i, k);
+      return { key: `tag ${i}`, text, size: 13, look: 'tag', places, at };
     });
     /** @type {Wanted[]} */
     const own = [];
@@ -299,9 +301,14 @@ export class Picture {
     const left = [];
     for (let i = 0; i < p.m; i++) {
       if (this.setOff.tags.has(i) || !this.priced(p, i)) continue;
-      const look = planHas(p, i) ? 'price own' : 'price';
-      const label = { text: money(p.price[i]), size: 12, look, at: this.along(i, false) };
-      (planHas(p, i) ? own : left).push(label);
+      const marked = planHas(p, i);
+      const shares = this.shares(p, i);
+      /** @param {number} k */
+      const at = (k) => this.along(p, i, shares[k]);
+      const look = marked ? 'price own' : 'price';
+      const text = money(p.price[i]);
+      const label = { key: `price ${i}`, text, size: 12, look, places: shares.length, at };
+      (marked ? own : left).push(label);
     }
     return { tags, prices: [...own, ...left] };
   }
@@ -312,21 +319,26 @@ export class Picture {
     const usual = this.view.k * this.usual;
     const from = planHas(p, i) ? OWN_FROM : LEFT_FROM * this.crowded;
     if (p.struck[i] || usual < from) return false;
-    const box = labelBox(money(p.price[i]), 12, { x: 0, y: 0 });
-    return this.view.k * this.lengths[i] - 2 * this.radius >= 0.7 * (box.x1 - box.x0);
+    const room = this.view.k * this.lengths[i] - 2 * this.radius;
+    return room >= 0.7 * labelWide(money(p.price[i]), 12);
   }
 
-  /** Pixels along a row where its label may stand; wherever the row is seen, and around its middle,
-   * where it has to stand.
-   * @param {number} i @param {boolean} tag */
-  along(i, tag) {
-    const p = /** @type {Plan} */ (this.plan);
-    /** @param {number} share */
-    const place = (share) => this.view.pixels(bendPoint(p, this.at, i, share));
-    const at = this.shares(p, i).map(place);
-    if (!tag) return at;
-    const aside = TAG_ASIDE.map(([dx, dy]) => ({ x: at[0].x + dx, y: at[0].y + dy }));
-    return [...at, ...aside, ...TAG_SHARES.map(place)];
+  /** The pixels at a share of a row.
+   * @param {Plan} p @param {number} i @param {number} share */
+  along(p, i, share) {
+    return this.view.pixels(bendPoint(p, this.at, i, share));
+  }
+
+  /** Pixels where the label of a row may stand that has to have one: where any label may, around
+   * its middle, and wherever the row is seen.
+   * @param {Plan} p @param {number} i @param {number} k */
+  aside(p, i, k) {
+    const shares = this.shares(p, i);
+    if (k < shares.length) return this.along(p, i, shares[k]);
+    const by = k - shares.length;
+    if (by >= TAG_ASIDE.length) return this.along(p, i, TAG_SHARES[by - TAG_ASIDE.length]);
+    const { x, y } = this.along(p, i, shares[0]);
+    return { x: x + TAG_ASIDE[by][0], y: y + TAG_ASIDE[by][1] };
   }
 
   /** The shares of a row's length at which its label may stand.
@@ -334,7 +346,7 @@ export class Picture {
   shares(p, i) {
     const [left, right] = [this.rowsAt[p.left[i]], this.rowsAt[p.right[i]]];
     if (Math.max(left, right) < MANY || left === right) return SHARES;
-    return left > right ? FAR_SHARES : FAR_SHARES.map((share) => 1 - share);
+    return left > right ? FAR_SHARES : NEAR_SHARES;
   }
 
   /** The nearest row within a distance in pixels, -1 for none.

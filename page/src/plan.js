@@ -1,8 +1,9 @@
 // A plan: the columns of a table of trenches. Rows are counted from 0 here and from 1 for planners.
 
-/** A struck row keeps its mark, which does not count while it is struck.
+/** A struck row keeps its mark, which does not count while it is struck. `names` are those of the
+ * junctions, junction v at index v - 1; none where they have numbers.
  * @typedef {{n: number, m: number, left: Uint8Array, right: Uint8Array, price: Int32Array,
- * mark: Uint8Array, struck: Uint8Array}} Plan */
+ * mark: Uint8Array, struck: Uint8Array, names: string[]}} Plan */
 
 /** @param {number} n @param {number} m @returns {Plan} */
 export function planOf(n, m) {
@@ -14,7 +15,17 @@ export function planOf(n, m) {
     price: new Int32Array(m),
     mark: new Uint8Array(m),
     struck: new Uint8Array(m),
+    names: [],
   };
+}
+
+/** A plan of rows: two junctions, a price and a mark each.
+ * @param {number} n @param {number[][]} rows @param {string[]} names @returns {Plan} */
+export function planOfRows(n, rows, names) {
+  const [left, right, mark] = [0, 1, 3].map((k) => Uint8Array.from(rows, (row) => row[k]));
+  const price = Int32Array.from(rows, (row) => row[2]);
+  const struck = new Uint8Array(rows.length);
+  return { n, m: rows.length, left, right, price, mark, struck, names };
 }
 
 /** A plan that can be changed while the other stays.

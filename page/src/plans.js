@@ -1,7 +1,8 @@
 // Plans of another kind: with a fixed number of trenches at a junction, by districts; and the plan
 // held against another office's.
-import { FileFault, fileRead, fileText } from './file.js';
+import { FileFault } from './file.js';
 import { byId, coreSays, pageSays } from './dom.js';
+import { openedFile } from './opened.js';
 import { money } from './words.js';
 
 /** @typedef {import('./app.js').App} App */
@@ -51,7 +52,7 @@ function plansDiffer(p, q) {
 export function plansWhich(app, bytes, name) {
   let other;
   try {
-    other = fileRead(fileText(bytes)).plan;
+    other = openedFile(app.core, bytes, name).plan;
   } catch (fault) {
     if (!(fault instanceof FileFault)) throw fault;
     plansSay(pageSays(`${name}:${fault.message}`));

@@ -1,5 +1,6 @@
 // The price of the chosen trench: typed, or moved along the curve of the least total, whose knee is
-// the breaking price. The plan's own total is a second line.
+// the breaking price. The plan's own total is a second line. The curve is drawn from the core's
+// least total at the price that stands, and from its breaking price.
 import { MAX_PRICE, MIN_PRICE, NEVER, PASSED } from './core.js';
 import { byId, coreSays, svg } from './dom.js';
 import { planHas } from './plan.js';
@@ -80,7 +81,7 @@ export class Price {
    * @param {number} row */
   show(row) {
     const { app } = this;
-    const answer = row < 0 || app.plan.struck[row] ? null : app.core.breaking(app.plan, row + 1);
+    const answer = row < 0 || app.plan.struck[row] ? null : app.breaking(row);
     const known = answer !== null && (answer.kind === PASSED || answer.kind === NEVER);
     byId('price').hidden = !known;
     if (!answer || !known) {
@@ -102,7 +103,7 @@ export class Price {
     const own = app.plan.price[row];
     const at = [low, ...(breaking === null ? [] : [breaking]), high];
     const curve = at.filter((price) => price >= low && price <= high)
-      .map((price) => [price, app.core.quote(app.plan, row + 1, price).after]);
+      .map((price) => [price, this.leastAt(price)]);
     const ends = app.judgement.network ? [low, high] : [];
     const plan = ends.map((price) => [price, this.planAt(price)]);
     const totals = [...curve, ...plan].map((point) => point[1]);
@@ -117,7 +118,7 @@ export class Price {
     const line = (look, points) => {
       return svg('path', { class: look, d: `M${points.map(pixels).join('L')}` });
     };
-    const now = app.core.quote(app.plan, row + 1, own).after;
+    const now = this.leastAt(own);
     const [x, y] = pixels([own, now]).split(' ');
     byId('price-curve').replaceChildren(
       ...(plan.length > 0 ? [line('mine', plan)] : []),
@@ -129,6 +130,16 @@ export class Price {
     );
     byId('price-says').replaceChildren(coreSays(`At this price the least total is ${money(now)}.`));
     byId('price-curve').setAttribute('aria-label', this.label());
+  }
+
+  /** The least total at a price: it follows the price up to the breaking price, and not above it.
+   * @param {number} price */
+  leastAt(price) {
+    const { app, row, breaking } = this;
+    const { least } = app.judgement;
+    /** @param {number} x */
+    const counted = (x) => (breaking === null ? x : Math.min(x, breaking));
+    return (least ? least.amount : 0) + counted(price) - counted(app.plan.price[row]);
   }
 
   /** The plan's own total at a price.

@@ -15,7 +15,11 @@ export function ringsOf(core, p, marks) {
   const group = Uint8Array.of(0, ...told.group);
   /** @type {Map<number, number[]>} */
   const of = new Map();
-  for (let v = 1; v <= p.n; v++) of.set(group[v], [...(of.get(group[v]) || []), v]);
+  for (let v = 1; v <= p.n; v++) {
+    const own = of.get(group[v]);
+    if (own) own.push(v);
+    else of.set(group[v], [v]);
+  }
   const groups = [...of.values()];
   const largest = groups.reduce((best, g) => (g.length > best.length ? g : best));
   const apart = groups.filter((g) => g !== largest);

@@ -1,7 +1,7 @@
 // Rows as other programs have them, with junctions of any name, made into a table: as
 // python/star/rows.py does, whose words these are.
 import { MAX_PRICE, MIN_PRICE } from './core.js';
-import { FileFault, fileText } from './file.js';
+import { FileFault } from './file.js';
 
 /** A name, or the place of a junction that has none.
  * @typedef {string | number | boolean | number[]} Name */
@@ -84,15 +84,10 @@ export function rowsNumbered(given, numbered) {
   return { n, names, rows };
 }
 
-/** A table file: the names stand in comments, so that they are kept.
- * @param {Numbered} numbered */
-export function rowsText({ n, names, rows }) {
-  const lines = [];
-  names.forEach((name, k) => {
-    if (Array.isArray(name)) return;
-    const line = `# junction ${k + 1}: ${String(name).replace(/[^ -\uffff]+/g, ' ')}`;
-    lines.push(fileText(new TextEncoder().encode(line)));
+/** Names as they are shown, nothing for a junction that has none.
+ * @param {Name[]} names */
+export function rowsNames(names) {
+  return names.map((name) => {
+    return Array.isArray(name) ? '' : String(name).replace(/[^ -\uffff]+/g, ' ');
   });
-  lines.push(`junctions ${n}`, ...rows.map((row) => row.join(' ')));
-  return `${lines.join('\n')}\n`;
 }

@@ -1,22 +1,15 @@
 // The verdict in words: what the core says of the plan, and what the page adds to it.
 import { LIGHTER, PASSED } from './core.js';
 import { bold, button, byId, coreSays, html, pageSays } from './dom.js';
-import { namesFew, namesRows } from './names.js';
 import { ringsThrough } from './rings.js';
-import { count, money, rowNumbers, runs, trench } from './words.js';
+import { count, junction, money, rowNumbers, runs, trench } from './words.js';
 
 /** @typedef {import('./app.js').App} App */
 /** @typedef {{look: string, head: string, words: any[], acts: any[]}} Said */
 
 const VERDICT_SHOWN = 9;
 const GROUPS_SHOWN = 6;
-
-/** The names of rows' ends, as the file has them.
- * @param {App} app @param {number[]} rows */
-function verdictNames(app, rows) {
-  const words = namesRows(app.history.now.file, app.plan, rows);
-  return words === '' ? [] : [pageSays(words)];
-}
+const NAMES_FEW = 3;
 
 /** @param {App} app @returns {Said} */
 function verdictPassed(app) {
@@ -29,7 +22,6 @@ function verdictPassed(app) {
         bold('Another network costs the same'),
         `: take out ${trench(app.plan, other.out - 1)}, put in ${trench(app.plan, other.in - 1)}.`,
       ),
-      ...verdictNames(app, [other.out - 1, other.in - 1]),
       pageSays('Two right answers, no contradiction.'),
     );
   }
@@ -37,32 +29,31 @@ function verdictPassed(app) {
   return { look: 'ok', head: '\u2713 Cheapest network', words, acts };
 }
 
-/** @param {App} app @returns {Said} */
+/** What can be saved in all is the plan's total less the least one, both of the core.
+ * @param {App} app @returns {Said} */
 function verdictLighter(app) {
-  const { exchange, after, total, least } = app.judgement;
+  const { exchange, total, least } = app.judgement;
   const acts = [button('swap', 'Make this exchange', true)];
   const all = total - (least ? least.amount : total);
-  const words = [];
-  if (exchange) {
-    words.push(
+  const words = exchange
+    ? [
       coreSays(
         'Take out ',
         bold(trench(app.plan, exchange.out), 'out'),
         ', put in ',
         bold(trench(app.plan, exchange.in), 'in'),
-        `: the total is then ${money(after)}.`,
+        `: this saves ${money(exchange.saves)}, and no exchange of two trenches saves more.`,
       ),
-      ...verdictNames(app, [exchange.out, exchange.in]),
-      pageSays(verdictSavings(exchange.saves, all)),
-    );
-  }
+      coreSays(verdictSavings(exchange.saves, all)),
+    ]
+    : [];
   return { look: 'less', head: `\u21c4 ${money(all)} can be saved`, words, acts };
 }
 
 /** @param {number} one @param {number} all */
 function verdictSavings(one, all) {
-  if (one === all) return `This exchange saves ${money(one)}, all that can be saved.`;
-  return `Of single exchanges this one saves most, ${money(one)} of ${money(all)} in all.`;
+  if (one === all) return 'Nothing more can be saved.';
+  return `${money(all)} can be saved in all.`;
 }
 
 /** Marks that are no network.
@@ -98,16 +89,19 @@ function verdictRings(app, rings) {
   return words;
 }
 
+/** The names of a few junctions in brackets; nothing where they have none, or where they are many.
+ * @param {App} app @param {number[]} group */
+function verdictNames(app, group) {
+  const named = app.plan.names.length > 0 && group.length <= NAMES_FEW;
+  return named ? ` (${group.map((v) => junction(app.plan, v)).join(', ')})` : '';
+}
+
 /** @param {App} app @param {number[][]} all the groups */
 function verdictGroups(app, all) {
-  const { file } = app.history.now;
-  const groups = all.slice(0, GROUPS_SHOWN);
+  const groups = all.slice(0, GROUPS_SHOWN).map((g) => runs(g) + verdictNames(app, g));
   const rest = all.length > groups.length ? `; and ${all.length - groups.length} more` : '';
-  const said = `: ${groups.map(runs).join('; ')}${rest}.`;
-  const words = [coreSays(bold('Groups that stand apart', 'cut'), said)];
-  const named = groups.filter((g) => namesFew(file, g) !== '');
-  const names = named.map((g) => runs(g) + namesFew(file, g)).join('; ');
-  return names === '' ? words : [...words, pageSays(`${names}.`)];
+  const said = `: ${groups.join('; ')}${rest}.`;
+  return [coreSays(bold('Groups that stand apart', 'cut'), said)];
 }
 
 /** A table that is refused.
@@ -116,12 +110,10 @@ function verdictRefused(app) {
   const { verdict } = app.judgement;
   const { file } = app.history.now;
   const words = [coreSays(app.core.refused(verdict.number, 0))];
-  const row = file.rowLine[verdict.out - 1];
-  if (verdict.out > 0 && row !== undefined) {
-    words.push(pageSays(`Trench ${verdict.out}, line ${row + 1} of the file.`));
-  } else if (verdict.number === 1 && file.countLine > 0) {
-    words.push(pageSays(`Line ${file.countLine} of the file says ${file.count.slice(0, 40)}.`));
-  }
+  const line = file.rowLine[verdict.out - 1];
+  if (verdict.out > 0 && line !== undefined) {
+    words.push(pageSays(`Trench ${verdict.out}, line ${line + 1} of the file.`));
+  } else if (verdict.number === 1) words.push(pageSays(`The file has ${app.plan.n} junctions.`));
   return { look: 'no', head: '\u2717 Refused', words, acts: [] };
 }
 
@@ -168,5 +160,6 @@ export function verdictShow(app) {
   byId('acts').replaceChildren(...said.acts, ...verdictActs(app));
   const words = [said.head, ...said.words.map((w) => w.textContent.replace('\u25c6 ', ''))];
   if (app.asked) return;
-  byId('live').textContent = `${words.join(' ')} ${byId('totals').innerText}`;
+  const totals = verdictTotals(app).map((part) => part.textContent);
+  byId('live').textContent = [...words, ...totals].join(' ');
 }

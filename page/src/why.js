@@ -6,7 +6,7 @@ import { bold, coreSays, html, pageSays } from './dom.js';
 import { judgeExchanged } from './judge.js';
 import { planHas } from './plan.js';
 import { ringsThrough } from './rings.js';
-import { count, money, rowNumbers, some, stops, trench } from './words.js';
+import { count, junction, money, rowNumbers, some, stops, trench } from './words.js';
 
 /** @typedef {import('./app.js').App} App */
 /** Rows under and over the lines with their looks, texts at rows, looks of junctions, and whether
@@ -33,7 +33,7 @@ function whySign(a, b) {
  * @param {App} app
  * @param {number} i */
 function whyBreaking(app, i) {
-  const answer = app.core.breaking(app.plan, i + 1);
+  const answer = app.breaking(i);
   if (answer.kind === PASSED) {
     const price = money(answer.amount);
     const words = 'below it, it is in every cheapest network, at it in some, above it in none';
@@ -91,7 +91,7 @@ function whyLeft(app, i) {
     ),
     barsOf(p, i, detour),
     pageSays(
-      `Detour ${stops(detour.stops)}. Its sum, `,
+      `Detour ${stops(p, detour.stops)}. Its sum, `,
       html('s', {}, money(detour.sum)),
       ', does not count.',
     ),
@@ -119,7 +119,8 @@ function whyIn(app, i) {
   setOff.quiet = true;
   setOff.over.push([i, 'chosen']);
   for (const v of side) setOff.spots.set(v, 'far');
-  const off = `${count(side.length, 'junction is', 'junctions are')} cut off (${some(side, 8)})`;
+  const names = some(side.map((v) => junction(p, v)), 8);
+  const off = `${count(side.length, 'junction is', 'junctions are')} cut off (${names})`;
   if (cut.best < 0) {
     const words = [
       coreSays('In the plan. No trench could take its place.'),

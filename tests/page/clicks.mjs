@@ -4,7 +4,7 @@ import path from 'node:path';
 import { tablesFor } from './tables.mjs';
 
 const CLICKS = 20;
-const MOST_RATIO = 250; // some 90 were measured
+const MOST_RATIO = 150; // 40 to 100 were measured
 
 /** @param {import('./page.mjs').Tools} tools @returns {Record<string, () => Promise<void>>} */
 export function clicksGroups({ b, check, examples, folder, html, middle }) {

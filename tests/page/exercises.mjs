@@ -6,7 +6,7 @@ import { coreOpen } from '../../page/src/core.js';
 import { detourRows } from '../../page/src/detour.js';
 import { KINDS, exerciseAnswer, exerciseFits } from '../../page/src/exercises.js';
 import { exerciseFrom, exerciseMake } from '../../page/src/exercises.js';
-import { fileRead, fileText } from '../../page/src/file.js';
+import { fileRead } from '../../page/src/file.js';
 import { planRows } from '../../page/src/plan.js';
 
 const [, , module, seeds] = process.argv;
@@ -56,7 +56,7 @@ const KIND = [
 function own(core) {
   for (const name of ['yard.txt', 'city.txt', 'grant.txt']) {
     const text = fs.readFileSync(new URL(`../../console/examples/${name}`, import.meta.url));
-    const { plan } = fileRead(fileText(text));
+    const { plan } = fileRead(core, text.toString('latin1'));
     let made = 0;
     for (let k = 0; k < 30; k++) {
       const e = exerciseFrom(core, k % 3, k, plan);

@@ -1,5 +1,5 @@
-// CSV and GeoJSON as the page reads them, held to the Python package on random files, some of them
-// wrong: the same tables, names and coordinates, or the same words about what is wrong.
+// GeoJSON as the page reads it, held to the Python package on random files, some of them wrong: the
+// same tables, names and coordinates, or the same words about what is wrong.
 // usage: node formats.mjs STAR.wasm COUNT   STAR_LIBRARY names the shared library.
 // Ends in one line 'N passed, M failed'.
 import { spawnSync } from 'node:child_process';
@@ -10,6 +10,7 @@ import { fileURLToPath } from 'node:url';
 import { App } from '../../page/src/app.js';
 import { coreOpen } from '../../page/src/core.js';
 import { randomFrom } from '../../page/src/random.js';
+import { junction } from '../../page/src/words.js';
 
 const [, , module, count] = process.argv;
 const here = path.dirname(fileURLToPath(import.meta.url));
@@ -21,10 +22,6 @@ const pick = (list) => list[rnd(list.length)];
 
 const NAMES = ['mill', 'lock', "St. John's", 'a "b"', 'x, y', 'Gr\u00fcner Weg; 3', '7', '012',
   '\u6c34', 'tab\there', 'two\nlines', ' ends ', '-', '#1', '300', 'constructor'];
-const PRICES = ['7', '7', '12', '-3', '1e3', '+4', '7.00', '2.5', '0', '0.7e1', '.5', '5.',
-  '12,50', '', 'x', '2147483647', '2147483648', '-2147483648', '-2147483649', '1e1000', ' 9 ',
-  '7 EUR', 'nan', '1e-400'];
-const MARKS = ['', '0', '1', 'x', 'X', 'yes', 'No', 'true', ' 1 ', '2', 'constructor'];
 
 /** Rows of junctions by their indices, mostly without repeats.
  * @param {number} n */
@@ -36,43 +33,6 @@ function pairs(n) {
     seen.add(key);
     return true;
   });
-}
-
-/** @param {string} text @param {string} parted */
-function field(text, parted) {
-  const needs = /["\r\n]/.test(text) || text.includes(parted);
-  return (needs && rnd(30)) || rnd(15) === 0 ? `"${text.replace(/"/g, '""')}"` : text;
-}
-
-/** @param {string} left @param {string} right @param {boolean} wrong
- * @returns {Record<string, string>} */
-function anyFields(left, right, wrong) {
-  const price = wrong ? pick(PRICES) : pick(PRICES.slice(0, 7));
-  const marked = wrong ? pick(MARKS) : pick(MARKS.slice(0, 9));
-  return { left, right, price, marked, street: pick(NAMES) };
-}
-
-function anyCsv() {
-  const parted = pick([',', ',', ';', '\t']);
-  const end = pick(['\n', '\n', '\r\n', '\r']);
-  const numbers = rnd(2) === 0;
-  const header = pick([['left', 'right', 'price'], ['left', 'right', 'price', 'marked'],
-    ['street', 'left', 'price', 'marked', 'right'], ['Left', 'right', 'price'],
-    ['left', 'right', 'price', 'price']].slice(0, rnd(6) ? 3 : 5));
-  const most = rnd(40) ? 12 : 300;
-  const lines = [header.map((word) => field(word, parted)).join(parted)];
-  const wrong = rnd(3) === 0;
-  for (const [a, b] of pairs(most)) {
-    /** @param {number} v */
-    const name = (v) => (numbers ? String(v + 1) : NAMES[v % NAMES.length] + (v < 16 ? '' : v));
-    const row = anyFields(name(a), name(b), wrong);
-    const fields = header.map((word) => field(row[word.toLowerCase()], parted));
-    if (wrong && rnd(8) === 0) fields.splice(rnd(fields.length), 1);
-    if (wrong && rnd(8) === 0) fields.push('more');
-    lines.push(fields.join(parted));
-    if (rnd(12) === 0) lines.push('');
-  }
-  return (rnd(9) ? '' : '\ufeff') + lines.join(end) + (rnd(4) ? end : '');
 }
 
 /** A feature that is wrong in one way.
@@ -119,6 +79,21 @@ function anyGeojson() {
   return rnd(15) ? text : text.slice(0, rnd(text.length));
 }
 
+/** Whether the file that is saved is read as the table that it was, with its names where each can
+ * be one.
+ * @param {import('../../page/src/core.js').Core} core @param {App} app */
+function savedAgain(core, app) {
+  const again = new App(core);
+  if (again.open(new Uint8Array(Buffer.from(app.text(), 'latin1')), 'again.txt')) return false;
+  /** @param {App} of */
+  const table = ({ plan: p }) => [p.n, p.left, p.right, p.price, p.mark].join(';');
+  const { names } = app.plan;
+  const apart = names.every((name) => /[A-Za-z\u0080-\uffff]/.test(name) && !/[";#]/.test(name) &&
+    name === name.trim());
+  const kept = again.plan.names.join('\n') === names.join('\n');
+  return table(app) === table(again) && (apart && names.length > 0 ? kept : true);
+}
+
 /** What the page makes of a file, in the words of formats.py.
  * @param {import('../../page/src/core.js').Core} core @param {string} name @param {Buffer} bytes */
 function read(core, name, bytes) {
@@ -127,18 +102,17 @@ function read(core, name, bytes) {
   const wrong = app.open(new Uint8Array(bytes), name);
   if (wrong) {
     const kept = app.name === 'before.txt' && app.text() === '1 2 9 1\n';
+    const refused = /^\S+: Refused \((\d+)\)/.exec(wrong);
+    if (refused && kept) return { refused: Number(refused[1]) };
     const found = /^\S+: (?:row (\d+): )?([^]*)$/.exec(wrong) || ['', '0', wrong];
     return { place: Number(found[1] || 0), words: found[2], kept };
   }
   const { verdict } = app.judgement;
   if (verdict.kind === 0 && verdict.number <= 2) return { refused: verdict.number };
   const { n, m, left, right, price, mark } = app.plan;
-  /** @type {string[]} */
-  const names = Array.from({ length: n }, (_, k) => String(k + 1));
-  const text = Buffer.from(app.text(), 'latin1').toString();
-  for (const [, v, own] of text.matchAll(/^# junction (\d+): (.*)$/gm)) names[Number(v) - 1] = own;
+  const names = Array.from({ length: n }, (_, k) => junction(app.plan, k + 1));
   const rows = Array.from({ length: m }, (_, i) => [left[i], right[i], price[i], mark[i]]);
-  return { n, names, rows, places: app.coordinates };
+  return { n, names, rows, places: app.coordinates, saved: savedAgain(core, app) };
 }
 
 /** Whether the page and the package say the same. The package has more words where it names what
@@ -160,6 +134,7 @@ function same(mine, theirs) {
     [...[a, b].map((end) => 1 + keys.indexOf(JSON.stringify(end))), ...rest]);
   const named = theirs.names.every((/** @type {any} */ name, /** @type {number} */ k) =>
     Array.isArray(name) ? mine.names[k] === String(k + 1) : mine.names[k] === shown(name));
+  if (!mine.saved) return false;
   const placed = !mine.places || JSON.stringify(mine.places) === JSON.stringify(theirs.places);
   return named && placed && JSON.stringify(mine.rows) === JSON.stringify(numbers);
 }
@@ -169,10 +144,9 @@ function run(core) {
   const folder = fs.mkdtempSync(path.join(os.tmpdir(), 'star-formats-'));
   /** @type {[string, Buffer][]} */
   const files = Array.from({ length: Number(count) }, (_, k) => {
-    const csv = rnd(2) === 0;
-    const bytes = Buffer.from(csv ? anyCsv() : anyGeojson());
+    const bytes = Buffer.from(anyGeojson());
     if (rnd(60) === 0 && bytes.length > 0) bytes[rnd(bytes.length)] = 0xff;
-    const suffix = pick(csv ? ['csv', 'tsv', 'CSV'] : ['json', 'geojson']);
+    const suffix = pick(['json', 'geojson']);
     const name = `${String(k).padStart(6, '0')}.${suffix}`;
     fs.writeFileSync(path.join(folder, name), bytes);
     return [name, bytes];

@@ -39,7 +39,8 @@ export function insideGroups({ b, bytesOf, check, choose, example, examples, fol
         check(`saved again ${told}`, (await saved()) === text);
       }
       await open(example('street.stp'));
-      check('an STP text inside', (await saved()) === star('table', example('street.stp')));
+      const table = star('table', example('street.stp'));
+      check('an STP text inside', (await saved()) === table);
       fs.mkdirSync(folder, { recursive: true });
       const large = path.join(folder, 'large.txt');
       fs.writeFileSync(large, tablesFor(examples).large);
