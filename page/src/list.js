@@ -97,7 +97,7 @@ export class List {
     const longest = plan.price.reduce((most, price) => Math.max(most, money(price).length), 6);
     byId('list').style.setProperty('--price-column', `${8.5 * longest + 12}px`);
     const named = plan.names.length > 0;
-    byId('list').style.setProperty('--ends-column', named ? 'minmax(86px, 1.6fr)' : '86px');
+    byId('list').style.setProperty('--ends-column', named ? 'minmax(60px, 1fr)' : '86px');
     this.update();
     this.arrange();
     this.reach(0);

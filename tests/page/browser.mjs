@@ -13,7 +13,8 @@ const FLAGS = [
 const KEYS = {
   ' ': ['Space', 32, ' '], Tab: ['Tab', 9], Enter: ['Enter', 13, '\r'], Escape: ['Escape', 27],
   ArrowDown: ['ArrowDown', 40], ArrowUp: ['ArrowUp', 38], End: ['End', 35], Home: ['Home', 36],
-  z: ['KeyZ', 90, 'z'], y: ['KeyY', 89, 'y'],
+  z: ['KeyZ', 90, 'z'], y: ['KeyY', 89, 'y'], '+': ['Equal', 187, '+'], '-': ['Minus', 189, '-'],
+  0: ['Digit0', 48, '0'], ArrowLeft: ['ArrowLeft', 37],
 };
 
 /** @param {number} ms */

@@ -9,6 +9,7 @@ import os from 'node:os';
 import path from 'node:path';
 import { fileURLToPath } from 'node:url';
 import { browserMake } from './browser.mjs';
+import { buttonsGroups } from './buttons.mjs';
 import { clicksGroups } from './clicks.mjs';
 import { ROUNDING, apart, drawnBy } from './drawn.mjs';
 import { insideGroups } from './inside.mjs';
@@ -25,6 +26,8 @@ const examples = path.join(here, '../../console/examples');
 const folder = fs.mkdtempSync(path.join(os.tmpdir(), 'star-page-test-'));
 const b = browserMake(program);
 let [passed, failed] = [0, 0];
+/** @type {Set<string>} the buttons that were pressed, by what they do */
+const pressed = new Set();
 
 /** @param {string} what @param {boolean} holds */
 function check(what, holds) {
@@ -61,6 +64,7 @@ async function choose(file) {
 /** Clicks a button by what it does.
  * @param {string} act */
 async function press(act) {
+  pressed.add(act);
   const box = await b.value(`(() => {
     const all = [...document.querySelectorAll('[data-act="${act}"]')];
     const button = all.find((x) => x.offsetParent);
@@ -409,8 +413,8 @@ const OWN = {
 
 };
 
-const PARTS = [OWN, clicksGroups(tools), insideGroups(tools), kindsGroups(tools),
-  movesGroups(tools), reachGroups(tools), paperReadable() ? paperGroups(tools) : {}];
+const PARTS = [OWN, ...[buttonsGroups, clicksGroups, insideGroups, kindsGroups, movesGroups,
+  reachGroups, ...(paperReadable() ? [paperGroups] : [])].map((groups) => groups(tools))];
 /** @type {Record<string, () => Promise<void>>} */
 const GROUPS = Object.assign({}, ...PARTS);
 const names = PARTS.flatMap((part) => Object.keys(part));
@@ -424,6 +428,11 @@ async function run() {
   const named = asked.filter((name) => !name.startsWith('-'));
   const rest = Object.keys(GROUPS).filter((name) => !asked.includes(`-${name}`));
   for (const name of named.length > 0 ? named : rest) await GROUPS[name]();
+  if (named.length === 0) {
+    const acts = await b.value('Object.keys(star.acts)');
+    const never = acts.filter((/** @type {string} */ act) => !pressed.has(act));
+    check(`every button was pressed; not so: ${never}`, never.length === 0);
+  }
   check(`no request, no word on the console (${b.log.slice(0, 3)})`, b.log.length === 0);
   await b.close();
   fs.rmSync(folder, { recursive: true, force: true });
