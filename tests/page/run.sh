@@ -56,6 +56,15 @@ control() { # NAME FILE EXPRESSION GROUP
     else passed=$((passed + 1)); fi
 }
 
+# A page is not built of modules of which two define one name.
+twice() {
+    rm -rf "$work/page"
+    cp -r page "$work/page"
+    echo 'export const byId = 1;' >>"$work/page/src/words.js"
+    ! node "$work/page/build.mjs" "$build/star.wasm" "$work/wrong.html" >"$work/said" 2>&1 &&
+        grep -q 'byId is defined in dom.js and in words.js' "$work/said"
+}
+
 # The console that is installed finds the program that is installed with it.
 installed() {
     local to=$work/usr yard=console/examples/yard.txt
@@ -97,6 +106,7 @@ if [ "$clicks" = clicks ]; then
 fi
 clean make -s page BUILD="$build"
 clean installed
+clean twice
 if want tsc node-typescript; then clean tsc -p page/tsconfig.json; fi
 if want eslint eslint; then
     clean eslint -f unix --ext .js,.mjs page/src page/build.mjs tests/page \
@@ -124,7 +134,7 @@ part node tests/page/exercises.mjs "$build/star.wasm" 1000
 if want chromium chromium; then
     # The calls of tests/backends that are made again in the browser.
     clean make -s BUILD="$build" target/backends/backends
-    part target/backends/backends 400 1 "$work/calls" "$build/libstar.so"
+    part target/backends/backends 500 1 "$work/calls" "$build/libstar.so"
     paper=0
     want pdftotext poppler-utils && paper=1
     CALLS=$work/calls part node tests/page/page.mjs chromium "$build/star" "$build/star.html" \
