@@ -55,7 +55,7 @@ class Page {
       digs: () => digsShow(app),
       print: () => window.print(),
       theme: () => this.theme(),
-      add: () => byId('add').showModal(),
+      add: () => this.addStart(),
       plans: () => this.plans(),
       outlets: () => plansOutlets(app),
       districts: () => plansDistricts(app),
@@ -198,6 +198,12 @@ class Page {
     if (swap) app.exchange(swap[0], swap[1]);
   }
 
+  addStart() {
+    byId('add-form').reset();
+    byId('add-wrong').textContent = '';
+    byId('add').showModal();
+  }
+
   /** A new trench from the dialog.
    * @param {any} e */
   add(e) {
@@ -206,7 +212,6 @@ class Page {
     const wrong = this.app.add([a, b], Number(price));
     byId('add-wrong').textContent = wrong;
     if (wrong) e.preventDefault();
-    else byId('add-form').reset();
   }
 
   find() {

@@ -171,10 +171,12 @@ export function buttonsGroups({ b, bytesOf, check, choose, example, folder, pres
       check(`the focus is seen; not so:${unseen}`, unseen === '');
       await b.value("document.querySelector('[data-act=add]').focus()");
       await b.key('Enter');
+      await b.frame();
       for (const words of ['2', '4', '1']) {
         await b.send('Input.insertText', { text: words });
         await b.key('Tab');
       }
+      await b.frame();
       await b.key('Enter');
       await b.frame();
       check('a trench by keys alone', (await saved()) === star('add', file, '2', '4', '1'));

@@ -35,8 +35,9 @@ export function kindsGroups({ b, check, choose, example, folder, press, saved, t
     async formats() {
       const csv = path.join(folder, 'street.csv');
       fs.mkdirSync(folder, { recursive: true });
-      fs.writeFileSync(csv, ['left;right;price;marked', 'Mill;L\u00e4nge 3;7;x',
-        '"L\u00e4nge 3";Quay;5;', ''].join('\r\n'));
+      const sheet = ['left;right;price;marked', 'Mill;L\u00e4nge 3;7;x',
+        '"L\u00e4nge 3";Quay;5;', ''].join('\r\n');
+      fs.writeFileSync(csv, sheet);
       await choose(csv);
       check('a CSV file', (await b.value('[...star.app.plan.price].join()')) === '7,5');
       check('its name', (await textOf('name')) === 'street.csv');
@@ -47,7 +48,7 @@ export function kindsGroups({ b, check, choose, example, folder, press, saved, t
       await b.frame();
       check('names of junctions', (await textOf('card')).includes('Mill \u2013 L\u00e4nge 3'));
       const text = Buffer.from(await saved(), 'latin1').toString();
-      check('names are saved', text === fs.readFileSync(csv, 'utf8'));
+      check('names are saved', text === sheet);
       await b.value(`(() => {
         const line = (from, to, price) => ({ type: 'Feature', properties: { price },
           geometry: { type: 'LineString', coordinates: [from, [0, 9], to] } });

@@ -23,9 +23,9 @@ async function run() {
   await open(b, 'yard-dear.txt');
   await b.value('star.app.select(3)');
   await b.picture(path.join(folder, 'yard.png'));
-  await b.size(390, 720, true);
+  await b.size(390, 844, true);
   await open(b, 'market.csv');
-  await b.value('star.app.select(0)');
+  await b.value('star.app.select(0); star.look()');
   await b.picture(path.join(folder, 'market.png'));
   await b.close();
 }
