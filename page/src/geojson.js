@@ -1,5 +1,6 @@
 // GeoJSON, as python/star/geojson.py reads it: a LineString a row, with its price among the
-// properties; end points that coincide are one junction; a Point with a name names the one there.
+// properties; end points that coincide are one junction; a Point with a name names the one there,
+// and one with a number as its property junction is a junction, whether lines end there or not.
 import { rowsFault, rowsNumbered, rowsQuote } from './rows.js';
 
 /** @typedef {Record<string, any>} Part */
@@ -35,28 +36,42 @@ function geojsonFeatures(text) {
 const isPoint = (point) => Array.isArray(point) && point.length >= 2 &&
   point.every((c) => typeof c === 'number' && Math.abs(c) < MOST_COORDINATE);
 
-/** The names that Points give to junctions, by their places.
+/** The names that Points give to junctions, by their places, and the places of those that say
+ * which junction they are, in the order of these numbers.
  * @param {Part[][]} features */
-function geojsonNames(features) {
+function geojsonPoints(features) {
   /** @type {Map<string, string | number | boolean>} */
   const names = new Map();
   /** @type {Map<string | number | boolean | undefined, string>} */
   const places = new Map();
-  for (const [geometry, { name }] of features) {
-    if (geometry.type !== 'Point' || name === undefined || name === null) continue;
-    if (typeof name === 'object') rowsFault(0, `${rowsQuote(name)} is no name of a junction`);
+  /** @type {[number, number[]][]} */
+  const numbered = [];
+  for (const [geometry, { name = null, junction }] of features) {
+    if (geometry.type !== 'Point' || (name === null && !Number.isInteger(junction))) continue;
+    if (name !== null && typeof name === 'object') {
+      rowsFault(0, `${rowsQuote(name)} is no name of a junction`);
+    }
     if (!isPoint(geometry.coordinates)) {
       rowsFault(0, `the coordinates of the junction ${rowsQuote(name)} are not numbers`);
     }
-    const place = geojsonPlace(geometry.coordinates).join();
-    if (places.has(name) && places.get(name) !== place) {
-      rowsFault(0, `two junctions are named ${rowsQuote(name)}`);
-    }
-    places.delete(names.get(place));
-    places.set(name, place);
-    names.set(place, name);
+    const place = geojsonPlace(geometry.coordinates);
+    if (Number.isInteger(junction)) numbered.push([junction, place]);
+    if (name !== null) geojsonNamed(names, places, place.join(), name);
   }
-  return names;
+  numbered.sort(([a, [x, y]], [b, [z, w]]) => a - b || x - z || y - w);
+  return { names, numbered: numbered.map(([, place]) => place) };
+}
+
+/** Names the junction at a place.
+ * @param {Map<string, any>} names @param {Map<any, string>} places @param {string} place
+ * @param {string | number | boolean} name */
+function geojsonNamed(names, places, place, name) {
+  if (places.has(name) && places.get(name) !== place) {
+    rowsFault(0, `two junctions are named ${rowsQuote(name)}`);
+  }
+  places.delete(names.get(place));
+  places.set(name, place);
+  names.set(place, name);
 }
 
 /** Where a point lies, without its height.
@@ -66,7 +81,12 @@ const geojsonPlace = (point) => point.slice(0, 2).map((c) => c + 0);
 /** @param {string} text */
 export function geojsonRead(text) {
   const features = geojsonFeatures(text);
-  const names = geojsonNames(features);
+  const { names, numbered } = geojsonPoints(features);
+  /** @param {number[]} place */
+  const nameAt = (place) => {
+    const name = names.get(place.join());
+    return name === undefined ? place : name;
+  };
   /** @type {number[][][]} */
   const ends = [];
   const given = features.filter(([{ type }]) => type !== 'Point').map((feature, k) => {
@@ -79,17 +99,15 @@ export function geojsonRead(text) {
       rowsFault(k + 1, "the feature has no 'price'");
     }
     ends.push([geojsonPlace(line[0]), geojsonPlace(line[line.length - 1])]);
-    const [left, right] = ends[k].map((place) => {
-      const name = names.get(place.join());
-      return name === undefined ? place : name;
-    });
+    const [left, right] = ends[k].map(nameAt);
     return { left, right, price: properties.price, mark: properties.marked };
   });
-  const numbered = rowsNumbered(given, false);
+  const read = rowsNumbered(given, numbered.map(nameAt));
   /** @type {number[][]} */
   const coordinates = [];
-  numbered.rows.forEach((row, k) => ends[k].forEach((place, e) => {
-    coordinates[row[e] - 1] = place;
-  }));
-  return { ...numbered, coordinates };
+  for (const place of [...numbered, ...ends.flat()]) {
+    const key = JSON.stringify(nameAt(place));
+    coordinates[read.names.findIndex((name) => JSON.stringify(name) === key)] = place;
+  }
+  return { ...read, coordinates };
 }

@@ -5,6 +5,7 @@ import { geojsonRead } from './geojson.js';
 import { layoutCoordinates } from './layout.js';
 import { planOfRows } from './plan.js';
 import { rowsFault, rowsNames } from './rows.js';
+import { trench } from './words.js';
 
 /** @typedef {import('./core.js').Core} Core */
 /** @typedef {import('./plan.js').Plan} Plan */
@@ -21,21 +22,26 @@ function openedUtf8(bytes) {
   }
 }
 
-/** A plan as a table file with the names of its junctions; without them where what is written with
- * them is not read as it was: then they are shown alone.
- * @param {Core} core @param {Plan} plan */
-function openedNamed(core, plan) {
+/** A plan as a table file with the names of its junctions, in the order in which its lines meet
+ * them; without them where what is written with them is not read as it was: then they are shown
+ * alone.
+ * @param {Core} core @param {Plan} plan @param {number[][]} coordinates @returns {Opened} */
+function openedNamed(core, plan, coordinates) {
   const utf8 = new TextEncoder();
   const names = plan.names.map((name) => fileText(utf8.encode(name)));
   try {
     const read = fileRead(core, fileOfPlan(plan, names));
-    const columns = [plan, read.plan].map((p) => [p.names, p.left, p.right, p.price]);
-    if (JSON.stringify(columns[0]) === JSON.stringify(columns[1])) return read;
+    const rows = [plan, read.plan].map((p) => [p.n, [...p.left].map((_, i) => trench(p, i))]);
+    const all = read.plan.names.length === plan.n;
+    if (all && JSON.stringify(rows[0]) === JSON.stringify(rows[1])) {
+      const at = read.plan.names.map((name) => coordinates[plan.names.indexOf(name)]);
+      return { ...read, coordinates: at };
+    }
   } catch (fault) {
     if (!(fault instanceof FileFault)) throw fault;
   }
   const { file } = fileRead(core, fileOfPlan(plan, []));
-  return { file, plan };
+  return { file, plan, coordinates };
 }
 
 /** @param {Core} core @param {Uint8Array} bytes @returns {Opened} */
@@ -44,7 +50,7 @@ function openedMap(core, bytes) {
   if (n > MAX_JUNCTIONS) throw new FileFault(` ${core.refused(1, 0)}`);
   if (rows.length > MAX_ROWS) throw new FileFault(` ${core.refused(TOO_MANY_ROWS, 0)}`);
   const plan = planOfRows(n, rows, rowsNames(names));
-  return { ...openedNamed(core, plan), coordinates };
+  return openedNamed(core, plan, coordinates);
 }
 
 /** @param {Core} core @param {string} body @returns {Opened} */

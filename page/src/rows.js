@@ -49,20 +49,20 @@ function rowsPrice(place, given) {
   return price;
 }
 
-/** Numbers the junctions as they come, or by their names where these are numbers.
- * @param {Given[]} given @param {boolean} numbered @returns {Numbered} */
-export function rowsNumbered(given, numbered) {
+/** Numbers the junctions as they come, after those that are known before.
+ * @param {Given[]} given @param {Name[]} known @returns {Numbered} */
+export function rowsNumbered(given, known) {
   /** @type {Map<string, number>} */
   const numbers = new Map();
   /** @type {Name[]} */
   const names = [];
   /** @param {Name} name */
   const number = (name) => {
-    if (numbered) return Number(name);
     const key = JSON.stringify(name);
     if (!numbers.has(key)) numbers.set(key, names.push(name));
     return numbers.get(key) || 0;
   };
+  known.forEach(number);
   /** @type {Map<string, number>} */
   const seen = new Map();
   const rows = given.map((row, k) => {
@@ -72,7 +72,7 @@ export function rowsNumbered(given, numbered) {
     }
     const ends = [number(row.left), number(row.right)];
     if (ends[0] === ends[1]) {
-      rowsFault(place, `it joins ${rowsName(numbered ? ends[0] : row.left)} to itself`);
+      rowsFault(place, `it joins ${rowsName(row.left)} to itself`);
     }
     const price = rowsPrice(place, row.price);
     const pair = [...ends].sort().join();
@@ -80,8 +80,7 @@ export function rowsNumbered(given, numbered) {
     seen.set(pair, place);
     return [...ends, price, Number(row.mark || 0)];
   });
-  const n = numbered ? rows.reduce((most, [a, b]) => Math.max(most, a, b), 0) : names.length;
-  return { n, names, rows };
+  return { n: names.length, names, rows };
 }
 
 /** Names as they are shown, nothing for a junction that has none.

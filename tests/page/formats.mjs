@@ -60,7 +60,9 @@ function anyGeojson() {
   for (let v = 0; v < 14; v++) {
     if (rnd(3)) continue;
     const name = rnd(8) ? NAMES[v] : pick([v, 'mill', NAMES[v]]);
-    features.push({ type: 'Feature', properties: pick([{ name }, { name }, {}]),
+    const junction = pick([v, 14 - v, 'x', 2.5]);
+    const named = pick([{ name }, { name }, {}, { junction }, { name, junction }]);
+    features.push({ type: 'Feature', properties: named,
       geometry: { type: 'Point', coordinates: point(v) } });
   }
   for (const [a, b] of pairs(14)) {
@@ -87,9 +89,10 @@ function savedAgain(core, app) {
   if (again.open(new Uint8Array(Buffer.from(app.text(), 'latin1')), 'again.txt')) return false;
   /** @param {App} of */
   const table = ({ plan: p }) => [p.n, p.left, p.right, p.price, p.mark].join(';');
-  const { names } = app.plan;
-  const apart = names.every((name) => /[A-Za-z\u0080-\uffff]/.test(name) && !/[";#]/.test(name) &&
-    name === name.trim());
+  const { names, left, right, n } = app.plan;
+  const met = new Set([...left, ...right]).size === n;
+  const apart = met && names.every((name) => name === name.trim() && !/[";#]/.test(name) &&
+    /[A-Za-z\u0080-\uffff]/.test(name));
   const kept = again.plan.names.join('\n') === names.join('\n');
   return table(app) === table(again) && (apart && names.length > 0 ? kept : true);
 }
@@ -130,12 +133,16 @@ function same(mine, theirs) {
   /** @param {any} name */
   const shown = (name) => String(name).replace(/[^ -\uffff]+/g, ' ');
   const keys = theirs.names.map((/** @type {any} */ name) => JSON.stringify(name));
+  // In a file with names junctions have their numbers in the order in which lines meet them.
+  const order = theirs.names.map((/** @type {any} */ name, /** @type {number} */ k) =>
+    (Array.isArray(name) || mine.names[k] === shown(name) ? k : mine.names.indexOf(shown(name))));
   const numbers = theirs.rows.map((/** @type {any[]} */ [a, b, ...rest]) =>
-    [...[a, b].map((end) => 1 + keys.indexOf(JSON.stringify(end))), ...rest]);
+    [...[a, b].map((end) => 1 + order[keys.indexOf(JSON.stringify(end))]), ...rest]);
   const named = theirs.names.every((/** @type {any} */ name, /** @type {number} */ k) =>
-    Array.isArray(name) ? mine.names[k] === String(k + 1) : mine.names[k] === shown(name));
-  if (!mine.saved) return false;
-  const placed = !mine.places || JSON.stringify(mine.places) === JSON.stringify(theirs.places);
+    (Array.isArray(name) ? mine.names[k] === String(k + 1) : order[k] >= 0));
+  if (!mine.saved || new Set(order).size !== order.length) return false;
+  const placed = !mine.places || order.every((/** @type {number} */ at, /** @type {number} */ k) =>
+    JSON.stringify(mine.places[at]) === JSON.stringify(theirs.places[k]));
   return named && placed && JSON.stringify(mine.rows) === JSON.stringify(numbers);
 }
 
