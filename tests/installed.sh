@@ -105,9 +105,11 @@ holds threads-build "$compiler" -std=c99 -O2 -I"$to/include" -o "$work/threads" 
     tests/threads_test.c -L"$to/lib" -lstar -pthread
 holds threads "$work/threads" 200
 race=("$compiler" -std=c99 -O1 -g -fsanitize=thread -Iinclude -pthread)
-race+=(tests/threads_test.c include/*.c console/{table,text,price}.c)
-if "${race[@]}" -o "$work/race" "$build"/lib*.a 2>"$work/said" &&
-    "$work/race" 1 >"$work/said" 2>&1; then
+race+=(tests/threads_test.c include/*.c)
+echo 'int main(void) { return 0; }' >"$work/nothing.c"
+if "$compiler" -fsanitize=thread -o "$work/nothing" "$work/nothing.c" 2>"$work/said" &&
+    "$work/nothing"; then
+    holds threads-detector-build "${race[@]}" -o "$work/race" "$build"/lib*.a
     holds threads-detector "$work/race" 10
     holds threads-control "${race[@]}" -DRACE -o "$work/raced" "$build"/lib*.a
     holds threads-control-found fails "$work/raced" 10

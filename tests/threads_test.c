@@ -41,9 +41,13 @@ static void fill(struct star_table *t, uint64_t *seed) {
 }
 
 static void ask(const struct star_table *t, uint64_t *found, unsigned row) {
+    uint8_t groups[JUNCTIONS], rings[STAR_MAX_ROWS];
     mix(found, star_table_check(t).total);
     mix(found, star_table_quote(t, row, 7).after);
     mix(found, star_table_breaking(t, row).amount);
+    mix(found, star_table_best(t).least);
+    mix(found, star_table_total(t).amount);
+    mix(found, star_table_groups(t, groups, rings).amount);
 }
 
 static void *work(void *with) {

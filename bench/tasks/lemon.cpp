@@ -77,9 +77,10 @@ static int64_t only() {
 
 /* task exchange */
 static int64_t exchange() {
+    int64_t most = 0;
     for (Graph::EdgeIt e(g); e != INVALID; ++e)
-        if (!plan[e] && dearest(plan, e) > price[e]) return 1;
-    return 0;
+        if (!plan[e]) most = std::max(most, dearest(plan, e) - (int64_t)price[e]);
+    return most;
 }
 
 /* task quote */

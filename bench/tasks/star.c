@@ -30,7 +30,7 @@ static int64_t only(void) {
 /* task exchange */
 static int64_t exchange(void) {
     memcpy(t.mark, plan, sizeof plan);
-    return star_table_check(&t).saving > 0;
+    return star_table_best(&t).saving;
 }
 
 /* task quote */

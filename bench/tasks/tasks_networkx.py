@@ -56,12 +56,8 @@ def only():
 # task exchange
 def exchange():
     tree = nx.Graph(plan)
-    for u, v, d in G.edges(data=True):
-        if not tree.has_edge(u, v):
-            price, edge = dearest(tree, u, v)
-            if price > d["price"]:
-                return price - d["price"] > 0
-    return False
+    return max(dearest(tree, u, v)[0] - d["price"] for u, v, d in G.edges(data=True)
+               if not tree.has_edge(u, v))
 
 
 # task quote

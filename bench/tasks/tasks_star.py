@@ -30,7 +30,7 @@ def only():
 # task exchange
 def exchange():
     t.plan = plan
-    return t.check().exchange.saving > 0
+    return t.best().exchange.saving
 
 
 # task quote

@@ -1,6 +1,6 @@
 """Numbers, marks and columns as the library takes them."""
 from operator import index
-from typing import Iterable, List
+from typing import Iterable, List, Tuple
 
 from . import _library as lib
 from .answers import Refused
@@ -65,11 +65,20 @@ def bits(words: bytes) -> List[int]:
 
 def marks_of(rows: Iterable[int], used: int = (1 << lib.MAX_ROWS) - 1) -> bytes:
     """A column of marks; the bits of used say which rows may be marked."""
-    marks = bytearray(lib.MAX_ROWS)
-    for row in rows:
+    marks, chosen = bytearray(lib.MAX_ROWS), tuple(rows)
+    if not used & used + 1 and _between(chosen, used.bit_length()):
+        for row in chosen:
+            marks[row - 1] = 1
+        return bytes(marks)
+    for row in chosen:
         if type(row) is not int:
             row = whole(row, "a row")
         if not (row > 0 and used >> row - 1 & 1):
             raise Refused(18, 0, "row %d is not in use" % row)
         marks[row - 1] = 1
     return bytes(marks)
+
+
+def _between(rows: Tuple[int, ...], last: int) -> bool:
+    """Whether all are numbers from 1 to the last, where each of these rows is in use."""
+    return set(map(type, rows)) == {int} and min(rows) > 0 and max(rows) <= last
