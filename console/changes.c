@@ -224,14 +224,22 @@ static uint32_t junctions_with(const struct table *t, const struct entered *new)
     return n;
 }
 
-/* A name that no line had: it may be mistyped. */
-static void note_names(const struct table *t, const struct entered *new, struct message *notes) {
-    int i;
-    for (i = 0; t->names > 0 && i < 2; i++)
-        if (table_named(t, new->end[i]) == 0) {
+/* A name that no line had, since it may be mistyped, and one that no line has any more. */
+static void note_names(const struct table *t, struct message *notes) {
+    uint8_t lost[STAR_MAX_NAMES];
+    size_t i;
+    for (i = 0; t->names > 0 && edit.added && i < 2; i++)
+        if (table_named(t, edit.added->end[i]) == 0) {
             say(notes, "%sJunction ", notes->len > 0 ? " " : "");
-            say_word(notes, new->end[i]);
+            say_word(notes, edit.added->end[i]);
             say(notes, " is new: no other line names it.");
+        }
+    if (edit_lost(t, &edit, lost) == 0) return;
+    for (i = 0; i < t->names; i++)
+        if (lost[i]) {
+            say(notes, "%sNo line names junction ", notes->len > 0 ? " " : "");
+            say_word(notes, t->name[i]);
+            say(notes, " any more.");
         }
 }
 
@@ -260,13 +268,13 @@ int command_add(struct table *t, const struct options *with, struct output *o) {
     }
     at = (size_t)a.amount;
     while (last > 0 && t->struck[last - 1]) last--;
-    edit.new = &new;
+    edit.added = &new;
     edit.merge = at <= last; /* the table was packed first */
     edit.instead = !edit.merge && at <= t->m ? at : 0;
     edit.n = junctions_with(t, &new);
     status = write_sound(o, t, &notes);
     if (status != 0) return status;
-    note_names(t, &new, &notes);
+    note_names(t, &notes);
     if (with->json) return add_json(t, with, at, &notes);
     if (edit.merge) tell_numbers(t);
     fprintf(stderr, "trench %zu is new\n", at);
@@ -274,16 +282,18 @@ int command_add(struct table *t, const struct options *with, struct output *o) {
     return EXIT_PASSED;
 }
 
-static int merge_json(const struct table *t, const struct options *with) {
+static int merge_json(const struct table *t, const struct options *with,
+                      const struct message *notes) {
     struct output own;
     struct json j;
     if (!json_beside(&j, &own, with, "written")) return EXIT_UNWRITTEN;
     json_renumbered(&j, t);
+    if (notes->len > 0) json_text(&j, "notes", notes->text);
     return json_beside_end(&j, &own);
 }
 
 int command_merge(struct table *t, const struct options *with, struct output *o) {
-    struct message words = {{0}, 0};
+    struct message words = {{0}, 0}, notes = {{0}, 0};
     struct star_answer a;
     int status;
     a = table_merge(t, numbers);
@@ -295,7 +305,9 @@ int command_merge(struct table *t, const struct options *with, struct output *o)
     edit.n = t->n;
     status = edit_write(o, t, &edit);
     if (status != 0) return status;
-    if (with->json) return merge_json(t, with);
+    note_names(t, &notes);
+    if (with->json) return merge_json(t, with, &notes);
     tell_numbers(t);
+    if (notes.len > 0) fprintf(stderr, "%s\n", notes.text);
     return EXIT_PASSED;
 }

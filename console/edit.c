@@ -81,20 +81,26 @@ static void new_line(FILE *to, const struct table *t, const struct entered *new)
     end_line(to, t);
 }
 
-/* Whether a line 'junctions N' is to be written: struck lines go, and none says it yet. Of a file
-   with names only where a name goes with them. */
-static int counts(const struct table *t, const struct edit *e) {
+size_t edit_lost(const struct table *t, const struct edit *e, uint8_t lost[STAR_MAX_NAMES]) {
     uint8_t named[STAR_MAX_JUNCTIONS + 1] = {0};
-    uint32_t v, left = 0;
-    size_t i;
-    if (!(e->merge || e->instead > 0) || t->strikes == 0 || t->told || e->n == 0) return 0;
-    if (t->names == 0) return 1;
+    size_t i, count = 0;
     for (i = 1; i <= t->m; i++)
         if (!(e->merge && t->struck[i - 1]) && i != e->instead)
             named[t->left[i - 1]] = named[t->right[i - 1]] = 1;
-    for (i = 0; e->new &&i < 2; i++) named[table_named(t, e->new->end[i])] = 1;
-    for (v = 1; v <= t->names; v++) left += named[v];
-    return left < t->names;
+    for (i = 0; e->added && i < 2; i++) named[table_named(t, e->added->end[i])] = 1;
+    for (i = 0; i < t->names; i++) {
+        lost[i] = !named[i + 1];
+        count += lost[i];
+    }
+    return count;
+}
+
+/* Whether a line 'junctions N' is to be written: struck lines go, and none says it yet. Of a file
+   with names only where a name goes with them. */
+static int counts(const struct table *t, const struct edit *e) {
+    uint8_t lost[STAR_MAX_NAMES];
+    if (!(e->merge || e->instead > 0) || t->strikes == 0 || t->told || e->n == 0) return 0;
+    return t->names == 0 || edit_lost(t, e, lost) > 0;
 }
 
 /* The line 'junctions N': N stands as it does in the file, unless a new trench names a larger
@@ -131,7 +137,7 @@ static void trench(FILE *to, const struct table *t, enum change change, size_t i
 static void line(FILE *to, const struct table *t, const struct edit *e, size_t i, const char *from,
                  const char *end) {
     if (i == 0) copy(to, from, end);
-    else if (i == e->instead) new_line(to, t, e->new);
+    else if (i == e->instead) new_line(to, t, e->added);
     else if (!e->merge || !t->struck[i - 1]) trench(to, t, e->change[i - 1], i, from, end);
 }
 
@@ -147,9 +153,9 @@ static void lines(FILE *to, const struct table *t, const struct edit *e) {
         if (trench) i++;
         last = rest.at[-1];
     }
-    if (!e->new || e->instead > 0) return;
+    if (!e->added || e->instead > 0) return;
     if (last != '\n' && last != '\r') end_line(to, t);
-    new_line(to, t, e->new);
+    new_line(to, t, e->added);
 }
 
 /* ---- The changed file, read before it is written ---- */
@@ -219,15 +225,15 @@ static int is_new(const struct table *after, size_t k, const struct entered *new
 /* Whether the changed file has the table that is meant: each trench in its order, with its names,
    price and mark, and no other. */
 static int as_meant(const struct table *after, const struct table *t, const struct edit *e) {
-    size_t i, k = 0, more = e->new && e->instead == 0;
+    size_t i, k = 0, more = e->added && e->instead == 0;
     for (i = 1; i <= t->m; i++) {
         int new = i == e->instead;
         if (!new && e->merge && t->struck[i - 1]) continue;
         if (++k > after->m) return 0;
-        if (new ? !is_new(after, k, e->new) : !same_trench(after, k, t, i, e->change[i - 1]))
+        if (new ? !is_new(after, k, e->added) : !same_trench(after, k, t, i, e->change[i - 1]))
             return 0;
     }
-    return after->m == k + more && after->n >= t->n && (!more || is_new(after, k + 1, e->new));
+    return after->m == k + more && after->n >= t->n && (!more || is_new(after, k + 1, e->added));
 }
 
 static struct changed after;

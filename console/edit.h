@@ -28,7 +28,7 @@ struct edit {
     int merge;                     /* whether the lines of struck trenches are left out */
     size_t instead;                /* the trench whose line is replaced by the new one; 0: it is
                                       added */
-    const struct entered *new;     /* the new trench, NULL for none */
+    const struct entered *added;   /* the new trench, NULL for none */
     uint32_t n; /* what a line 'junctions N' says, where lines go and none says it yet */
 };
 
@@ -39,6 +39,9 @@ int edit_write(struct output *o, const struct table *t, const struct edit *e);
 /* Writes the table with the marks that it has now: its file with these marks, or a new table where
    it was read from an STP file. */
 int edit_marks(struct output *o, const struct table *t);
+
+/* The names that no line has after the changes: marks each of them, and gives their number. */
+size_t edit_lost(const struct table *t, const struct edit *e, uint8_t lost[STAR_MAX_NAMES]);
 
 /* Whether the file after the changes would be refused, its plan apart; says so in words. What else
    is to be said of it is said to notes. */

@@ -464,7 +464,8 @@ const struct page PAGES[] = {
                   "1 struck trench is gone.\ntrench 4 is now trench 3\ntrench 5 is now trench 4\n",
         .statuses = "0 written\n2 the table was refused, and nothing was written",
         .keys = "gone: the struck trenches that are gone\n"
-                "numbers: the trenches that have new numbers, a list; each has old and new",
+                "numbers: the trenches that have new numbers, a list; each has old and new\n"
+                "notes: the names that no line has any more, where there are such, in words",
     },
     {
         .name = "districts",

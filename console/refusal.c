@@ -87,10 +87,18 @@ void refusal_of_asked(struct message *to, const struct table *t, size_t trench, 
 }
 
 void refusal_of_asked_junction(struct message *to, const struct table *t, const char *word) {
+    struct span asked = {word, strlen(word)};
+    size_t v;
     refusal_opens(to, STAR_BAD_SOURCE, t->file, 0);
     say(to, "there is no junction ");
     say_given(to, word);
-    say(to, "; the table has %" PRIu32 ".", t->n);
+    say(to, "; the table has %" PRIu32, t->n);
+    for (v = 0; v < t->names && !text_alike(t->name[v], asked);) v++;
+    if (v < t->names) {
+        say(to, ", one of them ");
+        say_word(to, t->name[v]);
+    }
+    say(to, ".");
 }
 
 int refusal_has_trench(const struct table *t, size_t trench) {

@@ -41,15 +41,18 @@ struct span text_nth(struct span line, int k) {
     return word;
 }
 
+static char capital(char c) { return c >= 'a' && c <= 'z' ? (char)(c - 'a' + 'A') : c; }
+
+int text_alike(struct span one, struct span other) {
+    size_t k = 0;
+    if (one.len != other.len) return 0;
+    while (k < one.len && capital(one.at[k]) == capital(other.at[k])) k++;
+    return k == one.len;
+}
+
 int text_is(struct span word, const char *name) {
-    size_t k;
-    if (word.len != strlen(name)) return 0;
-    for (k = 0; k < word.len; k++) {
-        char c = word.at[k];
-        if (c >= 'a' && c <= 'z') c = (char)(c - 'a' + 'A');
-        if (c != name[k]) return 0;
-    }
-    return 1;
+    struct span own = {name, strlen(name)};
+    return text_alike(word, own);
 }
 
 int text_number(struct span word, uint32_t *value) {

@@ -26,7 +26,8 @@ int text_word(struct span *rest, struct span *word);
 /* Word k of a line, counted from 0; an empty one if there are fewer. */
 struct span text_nth(struct span line, int k);
 
-/* Whether a word is a name, letters in either case; the name is given in capitals. */
+/* Whether two words are the same, letters in either case; and whether a word is a name. */
+int text_alike(struct span one, struct span other);
 int text_is(struct span word, const char *name);
 
 /* A decimal number, digits alone; 0 if the word is none. Above 4294967295 it is taken as that. */

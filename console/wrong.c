@@ -31,8 +31,8 @@ static struct span field_at(const struct fields *f, const char *at) {
 static int holds(struct span s, char c) { return s.len > 0 && memchr(s.at, c, s.len) != NULL; }
 
 /* A separator that was not meant as one hides the blanks of a line. */
-static void say_parted(struct message *to, struct span content, char by) {
-    if (by != ' ' && (holds(content, ' ') || by == '\t'))
+static void say_parted(struct message *to, char by) {
+    if (by != ' ')
         say(to, "; %s stands in the line, so that %s alone part its fields", fields_parted(by),
             fields_parts(by));
 }
@@ -40,24 +40,30 @@ static void say_parted(struct message *to, struct span content, char by) {
 static void say_trench_line(struct message *to, struct span content, char by) {
     say_quoted(to, content);
     say(to, " is not a trench, which has two junctions, a price and a mark");
-    say_parted(to, content, by);
+    if (text_nth(content, 2).len > 0) say_parted(to, by);
 }
 
-static void say_junction_field(struct message *to, struct span field, struct span content,
-                               char by) {
+/* Whether a field has numbers and blanks alone, and so more than one of them. */
+static int has_numbers(struct span field) {
+    size_t k = 0;
+    while (k < field.len && (field.at[k] == ' ' || (field.at[k] >= '0' && field.at[k] <= '9'))) k++;
+    return k == field.len && holds(field, ' ');
+}
+
+static void say_junction_field(struct message *to, struct span field, char by) {
     say_quoted(to, field);
     say(to, " is not a junction, a number from 1 to %d or a name with a letter in it",
         STAR_MAX_JUNCTIONS);
     if (holds(field, '"')) say(to, " and no quotation mark");
-    if (holds(field, ' ')) say_parted(to, content, by);
+    if (has_numbers(field)) say_parted(to, by);
 }
 
-static void say_price_field(struct message *to, struct span field, struct span content, char by) {
+static void say_price_field(struct message *to, struct span field, char by) {
     say_quoted(to, field);
     say(to, " is not a price, " PRICE_TEXT);
     if (holds(field, '.') || holds(field, ','))
         say(to, "; write it without a point or comma, and all prices in the same unit");
-    if (holds(field, ' ')) say_parted(to, content, by);
+    if (has_numbers(field)) say_parted(to, by);
 }
 
 static void say_mark_field(struct message *to, struct span field, char by) {
@@ -101,8 +107,8 @@ void wrong_words(struct message *to, struct span text, struct star_file refused)
     struct span field = field_at(&f, text.at + refused.place);
     switch (refused.number) {
     case STAR_NOT_TRENCH: say_trench_line(to, content, f.by); break;
-    case STAR_NOT_JUNCTION: say_junction_field(to, field, content, f.by); break;
-    case STAR_NOT_PRICE: say_price_field(to, field, content, f.by); break;
+    case STAR_NOT_JUNCTION: say_junction_field(to, field, f.by); break;
+    case STAR_NOT_PRICE: say_price_field(to, field, f.by); break;
     case STAR_NOT_MARK: say_mark_field(to, field, f.by); break;
     case STAR_NOT_COUNT: say_count_line(to, content); break;
     case STAR_MIXED_NAMES: say_mixed(to, text, line, field); break;

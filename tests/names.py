@@ -232,6 +232,16 @@ def which():
     check("which, numbers", star(first, "which", "FILE", path)[2] == 3)
 
 
+def lost():
+    """A name that goes with a struck line, and one that is nearly there."""
+    text = b"A;B;5;x\nstruck;B;C;4\n"
+    out, err, status = star(text, "merge", "FILE")
+    check("merge: a name", (out, status) == (b"junctions;3\nA;B;5;x\n", 0), out)
+    check("merge: told", b"No line names junction C any more." in err, err)
+    out = star(b"A;B;5;x\n", "outlets", "FILE", "b", "1")[0]
+    check("nearly", b"there is no junction b; the table has 2, one of them B." in out, out)
+
+
 def largest():
     """255 junctions with names and 1,024 trenches: the totals are those of the same table with
     numbers."""
@@ -274,7 +284,8 @@ def random_edits(count):
         words, row = edited(rows, command, i, pick)
         out, err, status = star(text, command, "FILE", *words)
         meant = rows[:i] + [row] + rows[i + 1:]
-        check("%s of a random file" % command, status == 0 and reading(out) == meant, (text, out, err))
+        told = (text, out, err)
+        check("%s of a random file" % command, status == 0 and reading(out) == meant, told)
         others = re.split(rb"\r\n|\r|\n", text)
         kept = [line for line in re.split(rb"\r\n|\r|\n", out) if line in others]
         check("%s: other lines" % command, len(kept) >= len(others) - 1, (text, out))
@@ -299,6 +310,7 @@ def main():
     random_edits(150)
     faults()
     which()
+    lost()
     largest()
     print("%d passed, %d failed" % (counts[True], counts[False]))
     return 1 if counts[False] else 0
