@@ -1,6 +1,6 @@
 # make help      this list
 # make run       compiles the console without proving it, says whether crates.sum has it, and checks the yard
-# make           the same library and console, the shared library, and the programs readstp and diglist
+# make           the same library and console, the shared library, and the programs readstp, diglist and verdict
 # make prove     proves every crate here, with how far it is, and builds all over the proved archives
 # make page      target/c/star.html, a page to try plans on (node, clang with WebAssembly)
 # make shared    the shared library
@@ -43,6 +43,9 @@ CONSOLE := $(sort $(wildcard console/*.c))
 READSTP := $(BUILD)/readstp
 DIGLIST := $(BUILD)/diglist
 RUNS := $(OBJECTS)/libprograms.a
+# The program that reads a table file there, and the archive of its function.
+VERDICT := $(BUILD)/verdict
+JUDGES := $(OBJECTS)/libverdict_program.a
 # The kit, for the C that its library os asks for: the words of an error.
 KIT = $(shell sh tools/kit.sh)
 VERSION := $(shell sed -n 's/^\#define STAR_VERSION "\(.*\)"/\1/p' include/star.h)
@@ -70,6 +73,8 @@ $(ARCHIVES): $(OBJECTS)/doors
 	@[ -e $@ ] || sh tools/compile.sh $(@:$(OBJECTS)/lib%.a=%) $@
 $(RUNS): $(SOURCES)
 	$(call COMPILE,programs)
+$(JUDGES): $(SOURCES)
+	$(call COMPILE,verdict_program)
 
 # One archive of all: each has one member, named after its crate, whose only global symbols are its functions for C.
 $(ARCHIVE): $(ARCHIVES) Makefile
@@ -92,14 +97,14 @@ prove:
 
 # The record anew: proves what has changed, then takes the sources and the code of the proved archives.
 sums:
-	$(PYTHON) tools/prove.py $(DOORS) programs
-	$(PYTHON) tools/record.py write target/staticlib crates.sum $(DOORS) programs
+	$(PYTHON) tools/prove.py $(DOORS) programs verdict_program
+	$(PYTHON) tools/record.py write target/staticlib crates.sum $(DOORS) programs verdict_program
 
 # The proofs of the gate, and the record held against the archives from the proved code.
 proofs:
-	$(PYTHON) tools/prove.py --gate $(DOORS) programs
+	$(PYTHON) tools/prove.py --gate $(DOORS) programs verdict_program
 recorded:
-	$(PYTHON) tools/record.py check target/staticlib $(DOORS) programs
+	$(PYTHON) tools/record.py check target/staticlib $(DOORS) programs verdict_program
 
 # The wrong programs and wrong definitions, each of which the prover has to refuse.
 edits:
@@ -110,12 +115,15 @@ console: $(BUILD)/star
 help:
 	@sed -n 's/^# make/make/p' $(firstword $(MAKEFILE_LIST))
 
-programs: $(READSTP) $(DIGLIST)
+programs: $(READSTP) $(DIGLIST) $(VERDICT)
 
 # The proved functions of the two programs, and a few lines of C that end with the status that they give.
 $(READSTP) $(DIGLIST): $(BUILD)/%: programs/run.c $(RUNS)
 	@mkdir -p $(BUILD)
 	$(CC) -std=c99 $(CFLAGS) -DPROGRAM=star_run_$* -o $@ $< $(RUNS) $(KIT)/lib/libos_c.a
+$(VERDICT): programs/verdict.c $(JUDGES)
+	@mkdir -p $(BUILD)
+	$(CC) -std=c99 $(CFLAGS) -o $@ $< $(JUDGES) $(KIT)/lib/libos_c.a
 
 # The part of the library that is written in C: one object, whose global names are those of the header. It is position-independent on purpose, as the
 # proved objects are: the static and the shared library have the same objects.
@@ -189,7 +197,7 @@ outside:
 	@$(MAKE) --no-print-directory -j $(JOBS) outside-built
 	bash tests/outside.sh $(BUILD) $(READSTP) $(DIGLIST)
 
-outside-built: $(BUILD)/star $(DOOR_TESTS:%=$(BUILD)/%_test) $(DOOR_TESTS:%=$(BUILD)/%_test_faulty) $(BUILD)/import_test $(BUILD)/read_tables $(READSTP) $(DIGLIST)
+outside-built: $(BUILD)/star $(DOOR_TESTS:%=$(BUILD)/%_test) $(DOOR_TESTS:%=$(BUILD)/%_test_faulty) $(BUILD)/import_test $(BUILD)/read_tables $(READSTP) $(DIGLIST) $(VERDICT)
 
 # What star_read_table says of the texts of its test.
 $(BUILD)/read_tables: tests/tablefile/door.c include/star.h $(LIBRARY)

@@ -12,7 +12,7 @@ trap '[ -z "$shown" ] || kill "$shown" 2>/dev/null; rm -rf "$work"' EXIT
 # The parts in their order, first the tests of the doors; the one that measures seconds is made
 # alone, after the others.
 read -ra doors < <(sed -n 's/^DOOR_TESTS := //p' Makefile)
-together=("${doors[@]}" table planner import memory memory_console random files python_docs
+together=("${doors[@]}" table planner import verdict memory memory_console random files python_docs
     backends record installed proving edits library packaged console objects changes asked plans
     certificates picture fuzz help codehash format)
 alone=(clicks)

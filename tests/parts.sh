@@ -61,6 +61,9 @@ part_import() {
     add python3 -B tests/tablefile/run.py "$build/read_tables" 20000 tests/console/*.txt console/examples/*.txt
 }
 
+# The program verdict, on table files whose verdict a plain reader and a plain check give.
+part_verdict() { add bash tests/verdict.sh "$build/verdict" "$star"; }
+
 # A sample under valgrind, where it is installed: nothing is read or written outside a lent column.
 checked_memory() { # PROGRAM WORDS..
     if valgrind -q --error-exitcode=9 "$@" >"$work/checked"; then

@@ -144,6 +144,16 @@ module _ (g h : Graph) (vertices : g .n ≡ h .n) (rows : (i : ℕ) → g .rows 
               subst (λ y. y ≤ℤ total (g .m) w T) (sym (total-same S (l .tree .inside))) (subst (λ y. total (h .m) x S ≤ℤ y) (sym (total-same T (u .inside))) (l .least T u));
         }
 
+-- ── A call whose trees and totals are those of the file's lines ──
+
+pub record Carried (text : List ℕ) (n : ℕ) (c : Call) : Type 0 where
+  pub lines : (i : ℕ) → graphOf c .rows i ≡ fileGraph text n .rows i
+  pub plan : claimed c ≡ filePlan text
+  pub plan-claim : SpanningTree (graphOf c) (claimed c) → ClaimTree c
+  pub tree-there : (S : ℕ → Bool) → SpanningTree (graphOf c) S → SpanningTree (fileGraph text n) S
+  pub tree-here : (S : ℕ → Bool) → SpanningTree (fileGraph text n) S → SpanningTree (graphOf c) S
+  pub total-there : (S : ℕ → Bool) → ((i : ℕ) → S i ≡ true → fileGraph text n .rows i ≡ true) → total (rowsOf c) (weightOf c) S ≡ fileTotal text S
+
 -- ── What was read, in columns that go on ──
 
 module _ (text : List ℕ) (r : Read) (e : readText text ≡ read r) (dl dr dw dm : List ℕ) where
@@ -442,6 +452,9 @@ module _ (text : List ℕ) (r : Read) (e : readText text ≡ read r) (dl dr dw d
           built = λ w q. built-least w q (built-accepts w q);
         }
 
+    carried : Carried text n c
+    carried = record { lines = used-is; plan = claimed-is; plan-claim = plan-tree; tree-there = to-file; tree-here = from-file; total-there = total-file }
+
 -- ── A file that was taken ──
 
 or-false : (x y : Bool) → (x || y) ≡ false → (x ≡ false) × (y ≡ false)
@@ -512,19 +525,36 @@ pub lent-after : (text : List ℕ) (l : Lent) (r : Read) → wrongLent l ≡ fal
 unfolding lentAfter filledIf filled
 lent-after text l r w e = rw (w, e)
 
-over-called : (text : List ℕ) (l : Lent) (r : Read) → SizedLent l → readText text ≡ read r → FileCall text (junctions r) (callAfter (junctions r) (lentOver r l))
-unfolding callAfter lentOver over
-over-called text l r s e =
-    let m = readings-mean text r e in
-    let few = m .few-rows in
-    called text r e (drop (length (r .left)) (l .left)) (drop (length (r .right)) (l .right)) (drop (length (r .weight)) (l .weight)) (drop (length (r .marks)) (l .mark))
-    (over-length (r .left) (l .left) 1024 (s .left-sized) (omega (arith, m .lefts))) (over-length (r .right) (l .right) 1024 (s .right-sized) (omega (arith, m .rights)))
-    (over-length (r .weight) (l .weight) 4096 (s .weight-sized) (omega (arith, m .weights))) (over-length (r .marks) (l .mark) 1024 (s .mark-sized) (omega (arith, m .marks)))
+module _ (text : List ℕ) (l : Lent) (r : Read) (s : SizedLent l) (e : readText text ≡ read r) where
+  -- what holds of the call over columns that go on holds of the call over what was left
+  over-said : (P : Call → Type 0)
+      → ((dl dr dw dm : List ℕ) → length (r .left ++ dl) ≡ 1024 → length (r .right ++ dr) ≡ 1024 → length (r .weight ++ dw) ≡ 4096 → length (r .marks ++ dm) ≡ 1024 → P (c text r e dl dr dw dm))
+      → P (callAfter (junctions r) (lentOver r l))
+  unfolding callAfter lentOver over
+  over-said P holds =
+      let m = readings-mean text r e in
+      let few = m .few-rows in
+      holds (drop (length (r .left)) (l .left)) (drop (length (r .right)) (l .right)) (drop (length (r .weight)) (l .weight)) (drop (length (r .marks)) (l .mark))
+      (over-length (r .left) (l .left) 1024 (s .left-sized) (omega (arith, m .lefts))) (over-length (r .right) (l .right) 1024 (s .right-sized) (omega (arith, m .rights)))
+      (over-length (r .weight) (l .weight) 4096 (s .weight-sized) (omega (arith, m .weights))) (over-length (r .marks) (l .mark) 1024 (s .mark-sized) (omega (arith, m .marks)))
+
+  over-called : FileCall text (junctions r) (callAfter (junctions r) (lentOver r l)) × Carried text (junctions r) (callAfter (junctions r) (lentOver r l))
+  over-called =
+      over-said (λ d. FileCall text (junctions r) d × Carried text (junctions r) d)
+      (λ dl dr dw dm hl hr hw hm. (called text r e dl dr dw dm hl hr hw hm, carried text r e dl dr dw dm hl hr hw hm))
+
+-- both of them, of the call over what a file left
+file-said : (text : List ℕ) (l : Lent) (n names rows : ℕ) → fileAnswer text l ≡ taken n names rows
+    → FileCall text n (callAfter n (lentAfter text l)) × Carried text n (callAfter n (lentAfter text l))
+unfolding fileAnswer
+file-said text l k names rows e =
+    let t = taken-file text l k names rows (wrongLent l) refl e in
+    subst (λ j. FileCall text j (callAfter j (lentAfter text l)) × Carried text j (callAfter j (lentAfter text l))) (t .counted)
+    (subst (λ x. FileCall text (junctions (t .r)) (callAfter (junctions (t .r)) x) × Carried text (junctions (t .r)) (callAfter (junctions (t .r)) x)) (sym (lent-after text l (t .r) (t .lent-well) (t .whole)))
+    (over-called text l (t .r) (sized l (t .lent-well)) (t .own)))
 
 pub file-calls : FileCalls
-unfolding fileAnswer
-file-calls text l k names rows e =
-    let t = taken-file text l k names rows (wrongLent l) refl e in
-    subst (λ j. FileCall text j (callAfter j (lentAfter text l))) (t .counted)
-    (subst (λ x. FileCall text (junctions (t .r)) (callAfter (junctions (t .r)) x)) (sym (lent-after text l (t .r) (t .lent-well) (t .whole)))
-    (over-called text l (t .r) (sized l (t .lent-well)) (t .own)))
+file-calls text l n names rows e = file-said text l n names rows e .0
+
+pub file-carried : (text : List ℕ) (l : Lent) (n names rows : ℕ) → fileAnswer text l ≡ taken n names rows → Carried text n (callAfter n (lentAfter text l))
+file-carried text l n names rows e = file-said text l n names rows e .1
