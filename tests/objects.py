@@ -18,7 +18,7 @@ import tempfile
 
 STAR = sys.argv[1:]
 ROOT = os.path.dirname(os.path.dirname(os.path.abspath(__file__)))
-COMMON = {"command", "file", "verdict", "status"}
+COMMON = {"command", "file", "verdict", "status", "names"}
 FAULT = {"refusal", "place", "line", "words"}
 counts = {True: 0, False: 0}
 seen = {}
@@ -314,7 +314,7 @@ def add(o, words):
 
 
 def merge(o, words):
-    return renumbered(o)
+    return renumbered(o) + (o["notes"] + "\n" if "notes" in o else "")
 
 
 def changed(o, words):
@@ -444,6 +444,7 @@ def large():
     full = ["struck 1 2 1 0"] + ring[1:]
     ask("full", "add", ["-", "45", "46", "3"], ("\n".join(full) + "\n").encode())
     ask("full", "merge", ["-"], ("\n".join(full) + "\n").encode())
+    ask("a name", "merge", ["-"], b"A;B;5;1\nstruck;B;C;4\n")
     ask("a gap", "add", ["-", "1", "9", "3"], b"1 2 3 1\n2 3 4 1\n")
     lone = ["junctions 255"] + ["%d %d 1 %d" % (v, v + 1, v % 3 == 0) for v in range(1, 255)]
     ask("groups", "check", ["-"], ("\n".join(lone) + "\n").encode())
