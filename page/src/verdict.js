@@ -29,7 +29,8 @@ function verdictPassed(app) {
   return { look: 'ok', head: '\u2713 Cheapest network', words, acts };
 }
 
-/** What can be saved in all is the plan's total less the least one, both of the core.
+/** What can be saved in all is the plan's total less the least one, both of the core: the
+ * subtraction is the page's.
  * @param {App} app @returns {Said} */
 function verdictLighter(app) {
   const { exchange, total, least } = app.judgement;
@@ -44,7 +45,7 @@ function verdictLighter(app) {
         bold(trench(app.plan, exchange.in), 'in'),
         `: this saves ${money(exchange.saves)}, and no exchange of two trenches saves more.`,
       ),
-      coreSays(verdictSavings(exchange.saves, all)),
+      pageSays(verdictSavings(exchange.saves, all)),
     ]
     : [];
   return { look: 'less', head: `\u21c4 ${money(all)} can be saved`, words, acts };
