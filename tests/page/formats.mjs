@@ -67,7 +67,7 @@ function anyGeojson() {
   }
   for (const [a, b] of pairs(14)) {
     const line = [point(a), ...(rnd(3) ? [] : [[0.5, 0.75]]), point(b)];
-    const price = pick([7, 7, 12, -3, 0, '4', 7.0, 1e3]);
+    const price = pick([7, 7, 12, -3, 0, '4', 7.0, 1e3, '1e3', '7.00', '0.7e1']);
     features.push({ type: 'Feature', properties: { price, ...pick([{}, { marked: true },
       { marked: false }, { marked: 1 }]) }, geometry: { type: 'LineString', coordinates: line } });
   }
