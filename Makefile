@@ -42,7 +42,7 @@ CONSOLE := $(sort $(wildcard console/*.c))
 # The programs that read an STP text on standard input, and the archive of their functions.
 READSTP := $(BUILD)/readstp
 DIGLIST := $(BUILD)/diglist
-RUNS := $(OBJECTS)/libprograms.a
+RUNS := $(OBJECTS)/libprograms_door.a
 # The program that reads a table file there, and the archive of its function.
 VERDICT := $(BUILD)/verdict
 JUDGES := $(OBJECTS)/libverdict_program.a
@@ -72,7 +72,7 @@ $(OBJECTS)/doors: $(SOURCES)
 $(ARCHIVES): $(OBJECTS)/doors
 	@[ -e $@ ] || sh tools/compile.sh $(@:$(OBJECTS)/lib%.a=%) $@
 $(RUNS): $(SOURCES)
-	$(call COMPILE,programs)
+	$(call COMPILE,programs_door)
 $(JUDGES): $(SOURCES)
 	$(call COMPILE,verdict_program)
 
@@ -97,14 +97,14 @@ prove:
 
 # The record anew: proves what has changed, then takes the sources and the code of the proved archives.
 sums:
-	$(PYTHON) tools/prove.py $(DOORS) programs verdict_program
-	$(PYTHON) tools/record.py write target/staticlib crates.sum $(DOORS) programs verdict_program
+	$(PYTHON) tools/prove.py $(DOORS) programs_door verdict_program
+	$(PYTHON) tools/record.py write target/staticlib crates.sum $(DOORS) programs_door verdict_program
 
 # The proofs of the gate, and the record held against the archives from the proved code.
 proofs:
-	$(PYTHON) tools/prove.py --gate $(DOORS) programs verdict_program
+	$(PYTHON) tools/prove.py --gate $(DOORS) programs_door verdict_program
 recorded:
-	$(PYTHON) tools/record.py check target/staticlib $(DOORS) programs verdict_program
+	$(PYTHON) tools/record.py check target/staticlib $(DOORS) programs_door verdict_program
 
 # The wrong programs and wrong definitions, each of which the prover has to refuse.
 edits:

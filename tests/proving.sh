@@ -72,7 +72,7 @@ prove
 holds 'prove again: nothing' [ ! -s "$at/asked" ]
 printf ' ' >>"$at/crates/stp_reader/src/lib.rt"
 prove
-holds 'prove one: those above it' [ "$(doors_asked)" = 'digs_door plan_digs_door stp_door' ]
+holds 'prove one: those above it' [ "$(doors_asked)" = 'digs_door plan_digs_door programs_door stp_door' ]
 
 # What is not proved is told, and is not installed.
 printf ' ' >>"$at/crates/slice/src/lib.rt"
@@ -93,6 +93,7 @@ proofs
 holds 'proofs: pass' [ $? = 0 ]
 holds 'proofs: what rt says' says '^rt: rowset proved (12 s)$'
 holds 'proofs: counted' [ "$(last)" = "$crates passed, 0 failed" ]
+holds 'proofs: none twice' [ -z "$(sort "$at/asked" | uniq -d)" ]
 touch "$at/fault"
 proofs
 holds 'proofs: fail' [ $? != 0 ]

@@ -5,14 +5,14 @@
 same='the same bytes as the one that the gate proved with this kit (crates.sum)'
 
 # As it is: of the record. Nothing is compiled, and rt is not asked.
-rm -f "$at/target/objects/libprograms.a"
+rm -f "$at/target/objects/libprograms_door.a"
 made run
 holds 'run: of the record' says "$same; make prove proves it here"
 holds 'run: the yard' says 'Total 12'
 made install "PREFIX=$work/installed"
 holds 'install: of the record' says "$same"
 holds 'install: the library' [ -s "$work/installed/lib/libstar.a" ]
-holds 'install: what it needs alone' [ ! -e "$at/target/objects/libprograms.a" ]
+holds 'install: what it needs alone' [ ! -e "$at/target/objects/libprograms_door.a" ]
 
 # make console builds the C over the archives that are there, whatever the sources are.
 before=$(stat -c %y "$at/target/objects/libcst_door.a")

@@ -1,4 +1,4 @@
 // Reads an STP text on standard input and prints its dig list, or the line of a refusal: the function of crate programs, whose exit status is not told here.
 fn main() {
-    programs::diglist::star_run_diglist();
+    programs::diglist::run();
 }

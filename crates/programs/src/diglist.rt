@@ -38,8 +38,7 @@ fn list(text: &[u8]) -> u32
 }
 
 // The program: its exit status is 0 for a list, 1 for a refusal, 2 where the text cannot be read or the list not be written.
-#[no_mangle]
-pub extern "C" fn star_run_diglist() -> u32
+pub fn run() -> u32
     ensures { λ r. ⌜ r ≤ 2 ⌝ }
 {
     let mut buffer = [0u8; TEXT_BYTES];

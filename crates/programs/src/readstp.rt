@@ -134,8 +134,7 @@ fn print(text: &[u8]) -> u32
 }
 
 // The program: its exit status is 0 for a table, 1 for a refusal, 2 where the text cannot be read or the answer not be written.
-#[no_mangle]
-pub extern "C" fn star_run_readstp() -> u32
+pub fn run() -> u32
     ensures { λ r. ⌜ r ≤ 2 ⌝ }
 {
     let mut buffer = [0u8; TEXT_BYTES];
