@@ -72,7 +72,8 @@ prove
 holds 'prove again: nothing' [ ! -s "$at/asked" ]
 printf ' ' >>"$at/crates/stp_reader/src/lib.rt"
 prove
-holds 'prove one: those above it' [ "$(doors_asked)" = 'digs_door plan_digs_door programs_door stp_door' ]
+above='digs_door plan_digs_door programs_door stp_door'
+holds 'prove one: those above it' [ "$(doors_asked)" = "$above" ]
 
 # What is not proved is told, and is not installed.
 printf ' ' >>"$at/crates/slice/src/lib.rt"
