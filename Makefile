@@ -32,7 +32,7 @@ PYTHON ?= python3 -B
 JOBS ?= $(shell nproc 2>/dev/null || echo 2)
 BUILD := target/c
 # The crates whose functions for C the library is made of.
-DOORS := cst_door mst1_door path_door change_door stp_door digs_door plan_digs_door quote_door breaking_door which_door districts_door mend_door outlets_door restore_door total_door detour_door groups_door file_door best_door
+DOORS := cst_door mst1_door path_door change_door stp_door digs_door plan_digs_door quote_door breaking_door which_door districts_door mend_door outlets_door restore_door total_door detour_door groups_door file_door file_write_door best_door
 # The archives over which the C is built: compiled without a proof, until make prove puts the proved ones there.
 OBJECTS := target/objects
 ARCHIVES := $(DOORS:%=$(OBJECTS)/lib%.a)
@@ -197,11 +197,15 @@ outside:
 	@$(MAKE) --no-print-directory -j $(JOBS) outside-built
 	bash tests/outside.sh $(BUILD) $(READSTP) $(DIGLIST)
 
-outside-built: $(BUILD)/star $(DOOR_TESTS:%=$(BUILD)/%_test) $(DOOR_TESTS:%=$(BUILD)/%_test_faulty) $(BUILD)/import_test $(BUILD)/read_tables $(READSTP) $(DIGLIST) $(VERDICT)
+outside-built: $(BUILD)/star $(DOOR_TESTS:%=$(BUILD)/%_test) $(DOOR_TESTS:%=$(BUILD)/%_test_faulty) $(BUILD)/import_test $(BUILD)/read_tables $(BUILD)/write_tables $(READSTP) $(DIGLIST) $(VERDICT)
 
 # What star_read_table says of the texts of its test.
 $(BUILD)/read_tables: tests/tablefile/door.c include/star.h $(LIBRARY)
 	$(CC) $(CFLAGS) -Iinclude -o $@ tests/tablefile/door.c $(LIBRARY) -lpthread
+
+# What star_write_table says of the tables of its test.
+$(BUILD)/write_tables: tests/tablefile/write_door.c include/star.h $(LIBRARY)
+	$(CC) $(CFLAGS) -Iinclude -o $@ tests/tablefile/write_door.c $(LIBRARY) -lpthread
 
 bench: $(BUILD)/bench
 	$(BUILD)/bench $(BUILD)/bench.svg

@@ -4,7 +4,7 @@
 BACKENDS := target/backends
 CALLS ?= 500
 SECONDS ?= 60
-CALLS_SOURCES := tests/backends/calls.c tests/backends/table.c tests/shared.c $(BACKENDS)/doors.c
+CALLS_SOURCES := tests/backends/calls.c tests/backends/sheet.c tests/backends/table.c tests/shared.c $(BACKENDS)/doors.c
 CALLS_NEEDS := $(CALLS_SOURCES) $(wildcard tests/backends/*.h) tests/shared.h include/star.h
 
 $(BACKENDS)/doors.c: tests/backends/doors.py include/star.h

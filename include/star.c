@@ -36,6 +36,9 @@ static const char *const TEXTS[] = {
     [STAR_MIXED_NAMES] = "a name stands among numbers of junctions, or a number among names",
     [STAR_TOO_MANY_NAMES] = "there are more than 255 names of junctions",
     [STAR_NOT_STRUCK] = "the row to put back is in use, or is none of the table",
+    [STAR_BAD_SEPARATOR] = "fields are parted by a blank, a semicolon, a comma or a tab",
+    [STAR_BAD_NAME_PLACES] = "the places of a junction's name do not lie in the text",
+    [STAR_SHORT_TEXT] = "the text that is lent may be too short",
 };
 
 const char *star_refusal_text(unsigned number) {

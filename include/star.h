@@ -1,6 +1,6 @@
 /* The doors to the verified core: the tree checker and the tree builder, paths, quotes, breaking
  * prices, which of two plans stands, districts, mending, outlets, groups and rings, dig lists,
- * working tables, and the reader of STP texts.
+ * working tables, the reader of STP texts, and table files read and written.
  *
  * A table has n junctions, numbered 1 to n, and m rows, counted from 1. A row joins two junctions
  * at a price:
@@ -26,6 +26,7 @@
  * star_total  adds up the prices of the marked rows, whether they are a tree or not.
  * star_import reads a SteinLib STP text into columns of 1,024 rows; it has no marks.
  * star_read_table  reads a planner's table file into a working table, with marks and names.
+ * star_write_table writes a table, with names taken from a text, as a table file.
  * star_districts  finds the least rows of each run of the rows, and a least network from them.
  * star_mend       turns any claim into a least network, and lists each step.
  * star_outlets    builds a network, least of those with an exact number of rows at a junction.
@@ -52,9 +53,9 @@
  * star_which returns 1 for the first claim, 2 for the second, and 0 on a refusal too. Every other
  * input is taken, whatever its bytes and lengths: a fault is told as a refusal with its number and
  * place, and a refused call leaves the marks, the matrix, the columns lent to star_import and
- * star_read_table, the dig list's text, the forests, the records, the rows lent to star_detours,
- * the groups and the rings, and the working table and the numbers lent to star_strike,
- * star_restore, star_add and star_merge, as they were.
+ * star_read_table, the dig list's text, the text that star_write_table writes, the forests, the
+ * records, the rows lent to star_detours, the groups and the rings, and the working table and the
+ * numbers lent to star_strike, star_restore, star_add and star_merge, as they were.
  *
  * The caller owes that each pointer has as many readable bytes behind it as its length says
  * (writable ones behind answer, and behind every other pointer that is not to const), and that a
@@ -62,7 +63,8 @@
  * words of eight bytes, that of a list of numbers or ends the numbers, that of a list of records
  * the records. An empty column may be lent as a null pointer with length 0. The calling thread has
  * stack left, 1,280 KiB for star_import and star_digs_text, 384 KiB for star_mend and
- * star_work_mend, and 160 KiB for each of the others, whatever is lent. Nothing else is asked.
+ * star_work_mend, 32 KiB for star_read_table and star_write_table, and 160 KiB for each of the
+ * others, whatever is lent. Nothing else is asked.
  *
  * Planners and definitions have a word each for the same thing:
  *   junction      vertex
@@ -85,9 +87,9 @@ extern "C" {
 
 /* The version of this header. star_version gives that of the library that is linked. */
 #define STAR_VERSION_MAJOR 0
-#define STAR_VERSION_MINOR 11
+#define STAR_VERSION_MINOR 12
 #define STAR_VERSION_PATCH 0
-#define STAR_VERSION "0.11.0"
+#define STAR_VERSION "0.12.0"
 
 const char *star_version(void);
 
@@ -125,7 +127,8 @@ enum star_kind {
                         star_quote: both totals are found;
                         star_breaking: there is such a price; star_which: both claims are trees;
                         star_digs, star_plan_digs: the list is written; star_import,
-                        star_read_table: the text is read; star_total: the prices are added up;
+                        star_read_table: the text is read; star_write_table: it is written;
+                        star_total: the prices are added up;
                         star_strike, star_restore, star_add, star_merge, star_carry, star_districts,
                         star_mend, star_outlets, star_detours, star_groups: done */
     STAR_LIGHTER = 2 /* star_cst, star_other, star_best: a cheaper set exists: the exchange of two
@@ -148,12 +151,14 @@ enum star_refusal {
                                     or groups (star_groups) not n bytes; star_import,
                                     star_read_table and working tables: not 1,024 rows; working
                                     tables: the rows in use are not sixteen words, or the numbers
-                                    not 1,024; star_read_table: or the names' places not 255 */
+                                    not 1,024; star_read_table: or the names' places not 255;
+                                    star_write_table: or the names' ends not as many as their
+                                    beginnings; place: a row in use past the last, or 0 */
     STAR_BAD_END = 4,            /* place: the uppermost row with an end that is 0 or above n, or
-                                    with equal ends */
+                                    with equal ends; star_write_table: 0, or without a name */
     STAR_BAD_MARK = 6,           /* place: the uppermost row marked with another byte than 0 and 1
                                     (star_cst, star_other, star_paths, star_which, star_mend,
-                                    star_plan_digs, star_total, star_groups) */
+                                    star_plan_digs, star_total, star_groups, star_write_table) */
     STAR_BAD_SOURCE = 7,         /* s (star_paths) or r (star_outlets) is 0 or above n; the row
                                     asked about is 0, above m or not in use (star_quote,
                                     star_breaking) */
@@ -169,7 +174,8 @@ enum star_refusal {
     STAR_BAD_TEXT = 12,          /* place: the first byte, counted from 0, of the first word that
                                     cannot stand; the text's length if it ends too early; 65,536 if
                                     it is longer (star_import, star_digs_text); star_read_table: the
-                                    text is longer than 16,777,216 bytes, which is the place */
+                                    text is longer than 16,777,216 bytes, which is the place;
+                                    star_write_table: it could be */
     STAR_BAD_EDGE_COUNT = 13,    /* the E lines are not as many as the line Edges says (star_import,
                                     star_digs_text) */
     STAR_BAD_RUNS = 14,          /* the ends are more than eight, one is not above the one before it
@@ -186,15 +192,21 @@ enum star_refusal {
                                     (star_outlets); told after 11 */
     STAR_NOT_TRENCH = 20,        /* 20 to 26: star_read_table, with the byte of the field, counted
                                     from 0. Place: the first field of a line that has not two
-                                    junctions, a price, and a mark or none */
-    STAR_NOT_JUNCTION = 21,      /* neither a number from 1 to 255 nor a name */
+                                    junctions, a price, and a mark or none; star_write_table: a row
+                                    in use whose left end is called struck or junctions */
+    STAR_NOT_JUNCTION = 21,      /* neither a number from 1 to 255 nor a name; star_write_table:
+                                    place: the first junction whose bytes are no name that the file
+                                    can have */
     STAR_NOT_PRICE = 22,         /* not a whole number in the range */
     STAR_NOT_MARK = 23,          /* neither 1, x, yes, true nor 0, no, false */
     STAR_NOT_COUNT = 24,         /* not a line junctions N, or a second one */
     STAR_MIXED_NAMES = 25,       /* a name among numbers or a number among names */
     STAR_TOO_MANY_NAMES = 26,    /* a 256th name */
-    STAR_NOT_STRUCK = 27         /* the row is in use, or none from 1 to 1,024 (star_restore); told
+    STAR_NOT_STRUCK = 27,        /* the row is in use, or none from 1 to 1,024 (star_restore); told
                                     before 3 */
+    STAR_BAD_SEPARATOR = 28,     /* the byte parts no fields (28 to 30: star_write_table) */
+    STAR_BAD_NAME_PLACES = 29,   /* place: the first junction whose name is not in the text */
+    STAR_SHORT_TEXT = 30         /* out may be too short; place: the bytes that are enough */
 };
 
 /* A refusal in words, such as "no set of rows joins every junction"; never a null pointer, whatever
@@ -580,6 +592,33 @@ uint32_t star_read_table(const uint8_t *text, size_t text_len, uint64_t *in_use,
                          uint32_t *name_to, size_t name_to_count, uint32_t *row_at,
                          size_t row_at_count, uint8_t *answer, size_t answer_len);
 
+/* The room that star_write_table asks for: of tables without names, and of those whose longest name
+ * has so many bytes, 3 or more. */
+enum { STAR_MAX_FILE_TEXT = 29739 };
+#define STAR_FILE_ROOM(longest) (43 + 1024 * (23 + 2 * (size_t)(longest)))
+
+/* Writes a table as a table file that star_read_table reads back as the same: a line junctions N,
+ * and a line for each of the m rows, m the length of left; a row that is not in use opens with
+ * struck, and its mark is not looked at. right and mark have m bytes, weight 4 m, in_use sixteen
+ * words. separator parts the fields: ' ', as planners write them down, or ';', ',' or a tab, as
+ * spreadsheets do; then a header stands above. Where name_from and name_to are empty, junctions are
+ * numbers; else junction k + 1 is written as the bytes of text from name_from[k] up to name_to[k],
+ * as star_read_table leaves them. They are read back with their numbers where the rows meet them in
+ * their order. out gets the text from its start on, keeps its content behind it, and has to have
+ * room for STAR_FILE_ROOM of the longest name. star_read_written reads the answer. A refusal is
+ * 2, 3, 26, 28, 29, 21, 4, 6, 20 or 30: the lengths, 26 and 28; the first name that cannot be
+ * written, for 29 or 21; the first row, for 4, 6 or 20; 30, and before it 12, where the text could
+ * have more than 16,777,216 bytes. ';' takes every name that star_read_table gives; with another
+ * separator no name holds it, nor one that parts fields before it (docs/TABLE-FILES.md). What else
+ * is wrong with the table, such as two equal ends, is not looked at. */
+uint32_t star_write_table(uint32_t n, const uint64_t *in_use, size_t in_use_words,
+                          const uint8_t *left, size_t left_len, const uint8_t *right,
+                          size_t right_len, const uint8_t *weight, size_t weight_len,
+                          const uint8_t *mark, size_t mark_len, const uint8_t *text,
+                          size_t text_len, const uint32_t *name_from, size_t name_from_count,
+                          const uint32_t *name_to, size_t name_to_count, uint8_t separator,
+                          uint8_t *out, size_t out_len, uint8_t *answer, size_t answer_len);
+
 /* The line of a place in a text, counted from 1: LF, CR or CR with LF after it end a line. A place
  * past the text's end is in its last line. */
 uint64_t star_line_of(const uint8_t *text, size_t text_len, uint32_t place);
@@ -598,8 +637,9 @@ STAR_INLINE int32_t star_get_price(const uint8_t *weight, size_t index) {
     return bits <= INT32_MAX ? (int32_t)bits : -1 - (int32_t)~bits;
 }
 
-/* The sixteen bytes of every door but star_import, star_read_table and a refused star_digs_text,
- * and the first sixteen of star_quote and star_best, as fields; those that a kind lacks are 0. */
+/* The sixteen bytes of every door but star_import, star_read_table, star_write_table and a refused
+ * star_digs_text, and the first sixteen of star_quote and star_best, as fields; those that a kind
+ * lacks are 0. */
 struct star_answer {
     unsigned kind;   /* byte 0: enum star_kind */
     unsigned number; /* byte 1: enum star_refusal, 0 unless refused */
@@ -692,6 +732,24 @@ STAR_INLINE struct star_file star_read_file(const uint8_t bytes[16]) {
     f.n = a.kind == STAR_PASSED ? (uint32_t)a.amount : 0;
     f.place = a.kind == STAR_PASSED ? 0 : (uint32_t)a.amount;
     return f;
+}
+
+/* The sixteen bytes of star_write_table as fields; those that a kind lacks are 0. */
+struct star_written {
+    unsigned kind;   /* byte 0: STAR_PASSED or STAR_REFUSED */
+    unsigned number; /* byte 1: enum star_refusal, 0 unless refused */
+    uint32_t length; /* bytes 8 to 15: the bytes of the text */
+    uint32_t place;  /* bytes 8 to 15 of a refusal: the place */
+};
+
+STAR_INLINE struct star_written star_read_written(const uint8_t bytes[16]) {
+    struct star_answer a = star_read_answer(bytes);
+    struct star_written w;
+    w.kind = a.kind;
+    w.number = a.number;
+    w.length = a.kind == STAR_PASSED ? (uint32_t)a.amount : 0;
+    w.place = a.kind == STAR_PASSED ? 0 : (uint32_t)a.amount;
+    return w;
 }
 
 /* A table with all that belongs to it: a working table, its marks and its number of junctions. The

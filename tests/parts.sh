@@ -51,14 +51,16 @@ door_test() { # NAME
 part_table() { door_test table; }
 
 # The import, on texts whose answers a plain reader gives: the door, in a thread of 1,280 KiB, and
-# the program; the reader of table files, held to one of its own, in a thread of 64 KiB. The dig list, on the same texts and on tables with a tree, and what happens where it
-# cannot be read or written.
+# the program; the reader of table files and their writer, each held to one of its own, in a thread of
+# 64 KiB. The dig list, on the same texts and on tables with a tree, and what happens where it cannot
+# be read or written.
 part_import() {
     python3 -B tests/stp/generate.py "$work/texts"
     add "$build/import_test" "$work/texts"
     add python3 -B tests/stp/run.py "$readstp"
     add bash tests/diglist.sh "$diglist" "$readstp"
-    add python3 -B tests/tablefile/run.py "$build/read_tables" 20000 tests/console/*.txt console/examples/*.txt
+    add python3 -B tests/tablefile/run.py "$build/read_tables" 20000 tests/console/*.txt console/examples/*.txt tests/tablefile/libreoffice/*.csv
+    add python3 -B tests/tablefile/write_run.py "$build/write_tables" "$build/read_tables" 3000
 }
 
 # The program verdict, on table files whose verdict a plain reader and a plain check give.

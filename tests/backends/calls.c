@@ -5,6 +5,7 @@
 #include <string.h>
 
 #include "shared.h"
+#include "sheet.h"
 #include "star.h"
 #include "table.h"
 
@@ -16,6 +17,9 @@ int call_parameter(const struct door *door, const char *name) {
         if (strcmp(door->p[k].name, name) == 0) return (int)k;
     return -1;
 }
+
+/* What is lent to star_write_table. */
+static struct sheet sheet;
 
 static int is(const char *name, const char *other) { return strcmp(name, other) == 0; }
 
@@ -53,6 +57,7 @@ static uint32_t call_degree(const struct table *t, uint32_t junction) {
 static int64_t call_number(const struct call *c, const struct table *t, const char *name,
                            unsigned aim) {
     if (is(name, "n")) return t->n;
+    if (is(name, "separator")) return sheet.separator;
     if (is(name, "row")) return call_row(c->door, t, aim);
     if (is(name, "price")) return any(2) ? limit_price() : (int32_t)any(20);
     if (is(name, "a") || is(name, "b")) return any(256);
@@ -164,8 +169,12 @@ static void call_bytes(struct call *c, unsigned k, const struct table *t, unsign
     const char *name = c->door->p[k].name;
     unsigned size = c->door->p[k].size, is_const = c->door->p[k].is_const;
     int reads_text = is(c->door->name, "star_import");
+    size_t length;
     if (is(name, "in_use")) call_lend(c, k, t->in_use, sizeof t->in_use);
-    else if (reads_text && is(name, "weight")) call_lend(c, k, NULL, 4 * TABLE_ROWS);
+    else if (is(c->door->name, "star_write_table") && !is(name, "answer")) {
+        const void *lent = sheet_lent(&sheet, name, &length);
+        call_lend(c, k, lent, length);
+    } else if (reads_text && is(name, "weight")) call_lend(c, k, NULL, 4 * TABLE_ROWS);
     else if (reads_text && strstr("left right", name)) call_lend(c, k, NULL, TABLE_ROWS);
     else if (is(name, "left")) call_lend(c, k, t->left, t->rows);
     else if (is(name, "right")) call_lend(c, k, t->right, t->rows);
@@ -197,6 +206,7 @@ void call_make(struct call *c, const struct door *door) {
     /* Marks are carried over 1,024 rows. */
     table_make(&t, call_parameter(door, "in_use") >= 0 || is(door->name, "star_carry"));
     table_damage(&t, aim);
+    if (is(door->name, "star_write_table")) sheet_make(&sheet, &t, aim);
     for (k = 0; k < door->count; k++) {
         c->v[k].number = 0;
         c->v[k].bytes = NULL;

@@ -18,80 +18,80 @@ use Rattle.file_spec.specs.Line.{Line, Trench, End, nothing, counting, trench, 
 use Rattle.file_spec.specs.Names.{equal}
 use Rattle.file_spec.specs.Pieces.{Piece, endsLine, pieces, lines}
 use Rattle.file_spec.specs.Reader.{Read, Reading, broken, read, nothingRead, kindOf, metEnd, numberIn, withTold, withRow, namesAfter, namesAtAfter, otherKind, laid, recount, next, follow, readLines, opensMarked, bodyAt, readText, toldOr, junctions}
-use Rattle.file_spec.specs.Writer.{fieldsText, linesText, countFields, endBytes, trenchFields, trenchesFields, fileText}
+use Rattle.file_spec.specs.Writer.{countFields, endBytes, trenchFields, trenchesFields}
 use Rattle.file_writer.proofs.Cuts.{Free, pieceOf, pieces-first}
-use Rattle.file_writer.proofs.Fields.{Plain, AllPlain, line-free}
+use Rattle.file_writer.proofs.Fields.{Separator, separator-is, no-line-end, Plain, AllPlain, line-free}
 use Rattle.file_writer.proofs.Plain.{natural-plain, junctions-plain}
-use Rattle.file_writer.proofs.Said.{count-line, empty-line, placedTrench, trench-plain, trench-line}
+use Rattle.file_writer.proofs.Said.{count-line, header-plain, header-line, empty-line, placedTrench, trench-plain, trench-line}
+use Rattle.file_writer.specs.Forms.{isSeparator, lineBy, linesBy, headerFields, textBy}
 use Rattle.file_writer.specs.RoundTrip.{GoodTrench, Writable, TableRead, ReadsBack}
 
-abbrev AllGood : List Trench → Type 0
-AllGood [] = Unit {0}
-AllGood (t ∷ ts) = GoodTrench t × AllGood ts
+abbrev pub AllGood : ℕ → List Trench → Type 0
+AllGood s [] = Unit {0}
+AllGood s (t ∷ ts) = GoodTrench s t × AllGood s ts
 
-all-good : (ts : List Trench) → ((k : ℕ) (t : Trench) → getElem? ts k ≡ some t → GoodTrench t) → AllGood ts
-all-good [] g = tt
-all-good (t ∷ ts) g = (g 0 t refl, all-good ts (λ k u e. g (suc k) u e))
+pub all-good : (s : ℕ) (ts : List Trench) → ((k : ℕ) (t : Trench) → getElem? ts k ≡ some t → GoodTrench s t) → AllGood s ts
+all-good s [] g = tt
+all-good s (t ∷ ts) g = (g 0 t refl, all-good s ts (λ k u e. g (suc k) u e))
 
 -- ── The lines of the text ──
-
-semicolon-in-line : endsLine 59 ≡ false
-unfolding endsLine
-semicolon-in-line = refl
 
 ends : endsLine 10 ≡ true
 unfolding endsLine
 ends = refl
 
-one-line : (at : ℕ) (fs : List (List ℕ)) (rest : List ℕ) → AllPlain fs
-    → pieces endsLine at (fieldsText fs ++ (10 ∷ rest)) ≡ pieceOf at (fieldsText fs) ∷ pieces endsLine (suc (at + length (fieldsText fs))) rest
-one-line at fs rest h = pieces-first endsLine at (fieldsText fs) 10 rest (line-free endsLine semicolon-in-line (λ f p. p .one-line) fs h) ends
+module _ (s : ℕ) (p : Separator s) where
+  one-line : (at : ℕ) (fs : List (List ℕ)) (rest : List ℕ) → AllPlain s fs
+      → pieces endsLine at (lineBy s fs ++ (10 ∷ rest)) ≡ pieceOf at (lineBy s fs) ∷ pieces endsLine (suc (at + length (lineBy s fs))) rest
+  one-line at fs rest h = pieces-first endsLine at (lineBy s fs) 10 rest (line-free s endsLine (no-line-end s p) (λ f q. q .one-line) fs h) ends
 
 -- the lines of trenches from a place on
-abbrev linesAt : ℕ → List Trench → List Piece
-linesAt at ts = pieces endsLine at (linesText (trenchesFields ts))
+abbrev linesAt : ℕ → ℕ → List Trench → List Piece
+linesAt s at ts = pieces endsLine at (linesBy s (trenchesFields ts))
 
-abbrev after : ℕ → Trench → ℕ
-after at t = suc (at + length (fieldsText (trenchFields t)))
+abbrev after : ℕ → ℕ → Trench → ℕ
+after s at t = suc (at + length (lineBy s (trenchFields t)))
 
-lines-more : (at : ℕ) (t : Trench) (ts : List Trench) → GoodTrench t → linesAt at (t ∷ ts) ≡ pieceOf at (fieldsText (trenchFields t)) ∷ linesAt (after at t) ts
-unfolding linesText trenchesFields
-lines-more at t ts g = one-line at (trenchFields t) (linesText (trenchesFields ts)) (trench-plain t g)
+placedTrenches : ℕ → ℕ → List Trench → List Trench
+placedTrenches s at [] = []
+placedTrenches s at (t ∷ ts) = placedTrench at t ∷ placedTrenches s (after s at t) ts
 
-lines-none : (at : ℕ) → linesAt at [] ≡ pieceOf at [] ∷ []
-unfolding linesText trenchesFields pieces
-lines-none at = refl
+lines-none : (s at : ℕ) → linesAt s at [] ≡ pieceOf at [] ∷ []
+unfolding linesBy trenchesFields pieces
+lines-none s at = refl
 
-placedTrenches : ℕ → List Trench → List Trench
-placedTrenches at [] = []
-placedTrenches at (t ∷ ts) = placedTrench at t ∷ placedTrenches (after at t) ts
+module _ (s : ℕ) (p : Separator s) where
+  lines-more : (at : ℕ) (t : Trench) (ts : List Trench) → GoodTrench s t → linesAt s at (t ∷ ts) ≡ pieceOf at (lineBy s (trenchFields t)) ∷ linesAt s (after s at t) ts
+  unfolding linesBy trenchesFields
+  lines-more at t ts g = one-line s p at (trenchFields t) (linesBy s (trenchesFields ts)) (trench-plain s p t g)
 
-trenches-are : (at : ℕ) (ts : List Trench) → AllGood ts → trenchesIn (linesAt at ts) ≡ placedTrenches at ts
-unfolding trenchesIn trenchIn placedTrenches
-trenches-are at [] g = rw (lines-none at, empty-line at)
-trenches-are at (t ∷ ts) g = rw (lines-more at t ts (g .0), trench-line at t (g .0), trenches-are (after at t) ts (g .1))
+  trenches-are : (at : ℕ) (ts : List Trench) → AllGood s ts → trenchesIn (linesAt s at ts) ≡ placedTrenches s at ts
+  unfolding trenchesIn trenchIn placedTrenches
+  trenches-are at [] g = rw (lines-none s at, empty-line at)
+  trenches-are at (t ∷ ts) g = rw (lines-more at t ts (g .0), trench-line s p at t (g .0), trenches-are (after s at t) ts (g .1))
 
-counts-are : (at : ℕ) (ts : List Trench) → AllGood ts → countsIn (linesAt at ts) ≡ []
-unfolding countsIn countIn
-counts-are at [] g = rw (lines-none at, empty-line at)
-counts-are at (t ∷ ts) g = rw (lines-more at t ts (g .0), trench-line at t (g .0), counts-are (after at t) ts (g .1))
+  counts-are : (at : ℕ) (ts : List Trench) → AllGood s ts → countsIn (linesAt s at ts) ≡ []
+  unfolding countsIn countIn
+  counts-are at [] g = rw (lines-none s at, empty-line at)
+  counts-are at (t ∷ ts) g = rw (lines-more at t ts (g .0), trench-line s p at t (g .0), counts-are (after s at t) ts (g .1))
 
 -- ── Places do not matter to the columns ──
 
-names-placed : (at : ℕ) (ts : List Trench) (ns : List (List ℕ)) → namesOver ns (placedTrenches at ts) ≡ namesOver ns ts
-unfolding namesOver placedTrenches placedTrench
-names-placed at [] ns = refl
-names-placed at (t ∷ ts) ns = names-placed (after at t) ts (metEnd (t .right) (metEnd (t .left) ns))
+module _ (s : ℕ) where
+  names-placed : (at : ℕ) (ts : List Trench) (ns : List (List ℕ)) → namesOver ns (placedTrenches s at ts) ≡ namesOver ns ts
+  unfolding namesOver placedTrenches placedTrench
+  names-placed at [] ns = refl
+  names-placed at (t ∷ ts) ns = names-placed (after s at t) ts (metEnd (t .right) (metEnd (t .left) ns))
 
-weights-placed : (at : ℕ) (ts : List Trench) → weightsOf (placedTrenches at ts) ≡ weightsOf ts
-unfolding weightsOf placedTrenches placedTrench
-weights-placed at [] = refl
-weights-placed at (t ∷ ts) = rw (weights-placed (after at t) ts)
+  weights-placed : (at : ℕ) (ts : List Trench) → weightsOf (placedTrenches s at ts) ≡ weightsOf ts
+  unfolding weightsOf placedTrenches placedTrench
+  weights-placed at [] = refl
+  weights-placed at (t ∷ ts) = rw (weights-placed (after s at t) ts)
 
-map-placed : {A : Type 0} (f : Trench → A) → ((at : ℕ) (t : Trench) → f (placedTrench at t) ≡ f t) → (at : ℕ) (ts : List Trench) → map f (placedTrenches at ts) ≡ map f ts
-unfolding placedTrenches
-map-placed f e at [] = refl
-map-placed f e at (t ∷ ts) = rw (e at t, map-placed f e (after at t) ts)
+  map-placed : {A : Type 0} (f : Trench → A) → ((at : ℕ) (t : Trench) → f (placedTrench at t) ≡ f t) → (at : ℕ) (ts : List Trench) → map f (placedTrenches s at ts) ≡ map f ts
+  unfolding placedTrenches
+  map-placed f e at [] = refl
+  map-placed f e at (t ∷ ts) = rw (e at t, map-placed f e (after s at t) ts)
 
 -- ── Every trench is laid ──
 
@@ -133,45 +133,43 @@ names-laid : (r : Read) (at : ℕ) (t : Trench) (ts : List Trench) → length (n
 unfolding withRow placedTrench namesAfter
 names-laid r at t ts h = h
 
-lay : (ts : List Trench) (r : Read) (at k : ℕ) → AllGood ts → ((e : End) → EndOf ts e → kindOf e ≡ k) → (r .kind ≡ 0) ⊎ (r .kind ≡ k) → length (r .left) + length ts ≤ 1024
-    → length (namesOver (r .names) ts) ≤ 255 → (q : Read) × (readLines r (linesAt at ts) ≡ read q)
+lay : (s : ℕ) (p : Separator s) (ts : List Trench) (r : Read) (at k : ℕ) → AllGood s ts → ((e : End) → EndOf ts e → kindOf e ≡ k) → (r .kind ≡ 0) ⊎ (r .kind ≡ k)
+    → length (r .left) + length ts ≤ 1024 → length (namesOver (r .names) ts) ≤ 255 → (q : Read) × (readLines r (linesAt s at ts) ≡ read q)
 unfolding readLines next follow namesOver
-lay [] r at k g f h room few = (r, rw (lines-none at, empty-line at))
-lay (t ∷ ts) r at k g f h room few =
+lay s p [] r at k g f h room few = (r, rw (lines-none s at, empty-line at))
+lay s p (t ∷ ts) r at k g f h room few =
     let ns = metEnd (t .right) (metEnd (t .left) (r .names)) in
     let l = lays r at t k h (f (t .left) here-left) (f (t .right) here-right) (omega arith) (omega (arith, longer-over ts ns)) in
-    let (q, e) = lay ts (laidOn r at t) (after at t) k (g .1) (λ d m. f d (later m)) (kind-laid r at t k (f (t .left) here-left)) (rows-laid r at t (length ts) room) (names-laid r at t ts few) in
-    (q, rw (lines-more at t ts (g .0), trench-line at t (g .0), l) e)
+    let (q, e) = lay s p ts (laidOn r at t) (after s at t) k (g .1) (λ d m. f d (later m)) (kind-laid r at t k (f (t .left) here-left)) (rows-laid r at t (length ts) room) (names-laid r at t ts few) in
+    (q, rw (lines-more s p at t ts (g .0), trench-line s p at t (g .0), l) e)
 
 -- ── The whole text ──
 
 cons-nil : (n : ℕ) → _≡_ {A = List ℕ} (n ∷ []) [] → ⊥
 cons-nil n e = let z : _≡_ {A = ℕ} 0 1 = cc in omega arith
 
-module _ (n : ℕ) (ts : List Trench) (w : Writable n ts) where
-  good : AllGood ts
-  good = all-good ts (w .good)
+-- the line of junctions and those of the trenches, from a place on
+module _ (s n : ℕ) (ts : List Trench) (w : Writable s n ts) (at : ℕ) where
+  sep : Separator s
+  sep = separator-is s (w .separates)
+
+  good : AllGood s ts
+  good = all-good s ts (w .good)
+
+  abbrev lineList : List Piece
+  lineList = pieces endsLine at (linesBy s (countFields n ∷ trenchesFields ts))
 
   -- where the first trench's line begins
   abbrev start : ℕ
-  start = suc (0 + length (fieldsText (countFields n)))
+  start = suc (at + length (lineBy s (countFields n)))
 
-  count-plain : AllPlain (countFields n)
+  count-plain : AllPlain s (countFields n)
   unfolding countFields
-  count-plain = (junctions-plain, (natural-plain n, tt))
+  count-plain = (junctions-plain s sep, (natural-plain s sep n, tt))
 
-  lines-are : pieces endsLine 0 (fileText n ts) ≡ pieceOf 0 (fieldsText (countFields n)) ∷ linesAt start ts
-  unfolding fileText linesText
-  lines-are = one-line 0 (countFields n) (linesText (trenchesFields ts)) count-plain
-
-  -- the text does not open with a byte order mark
-  unmarked : bodyAt (fileText n ts) ≡ 0
-  unfolding bodyAt opensMarked equal fileText linesText fieldsText countFields bytes
-  unmarked = refl
-
-  body : readText (fileText n ts) ≡ readLines nothingRead (pieces endsLine 0 (fileText n ts))
-  unfolding readText lines
-  body = rw unmarked
+  lines-are : lineList ≡ pieceOf at (lineBy s (countFields n)) ∷ linesAt s start ts
+  unfolding linesBy
+  lines-are = one-line s sep at (countFields n) (linesBy s (trenchesFields ts)) count-plain
 
   kinds : (us : List Trench) → ((d e : End) → EndOf us d → EndOf us e → kindOf d ≡ kindOf e) → (k : ℕ) × ((e : End) → EndOf us e → kindOf e ≡ k)
   kinds [] f = (1, λ e h. elim h [ ])
@@ -180,34 +178,34 @@ module _ (n : ℕ) (ts : List Trench) (w : Writable n ts) where
   told : Read
   told = withTold nothingRead n
 
-  first : next nothingRead (counting n 0) ≡ read told
+  first : next nothingRead (counting n at) ≡ read told
   unfolding next recount nothingRead told
   first = refl
 
-  laid-all : (q : Read) × (readLines told (linesAt start ts) ≡ read q)
+  laid-all : (q : Read) × (readLines told (linesAt s start ts) ≡ read q)
   unfolding told withTold nothingRead
   laid-all =
       let (k, f) = kinds ts (w .one-kind) in
-      lay ts told start k good f (inl refl) (omega (arith, w .few-rows)) (w .few-names)
+      lay s sep ts told start k good f (inl refl) (omega (arith, w .few-rows)) (w .few-names)
 
-  read-all : readLines nothingRead (pieces endsLine 0 (fileText n ts)) ≡ read (laid-all .0)
+  read-all : readLines nothingRead lineList ≡ read (laid-all .0)
   unfolding readLines follow
-  read-all = rw (lines-are, count-line 0 n (w .few-junctions), first) (laid-all .1)
+  read-all = rw (lines-are, count-line s sep at n (w .few-junctions), first) (laid-all .1)
 
-  trenches-all : trenchesIn (pieces endsLine 0 (fileText n ts)) ≡ placedTrenches start ts
+  trenches-all : trenchesIn lineList ≡ placedTrenches s start ts
   unfolding trenchesIn trenchIn
-  trenches-all = rw (lines-are, count-line 0 n (w .few-junctions)) (trenches-are start ts good)
+  trenches-all = rw (lines-are, count-line s sep at n (w .few-junctions)) (trenches-are s sep start ts good)
 
-  counts-all : countsIn (pieces endsLine 0 (fileText n ts)) ≡ n ∷ []
+  counts-all : countsIn lineList ≡ n ∷ []
   unfolding countsIn countIn
-  counts-all = rw (lines-are, count-line 0 n (w .few-junctions), counts-are start ts good)
+  counts-all = rw (lines-are, count-line s sep at n (w .few-junctions), counts-are s sep start ts good)
 
-  extended : Extended nothingRead (placedTrenches start ts) (n ∷ []) (laid-all .0)
-  extended = rw (trenches-all, counts-all) at (reads (pieces endsLine 0 (fileText n ts)) nothingRead (laid-all .0) read-all)
+  extended : Extended nothingRead (placedTrenches s start ts) (n ∷ []) (laid-all .0)
+  extended = rw (trenches-all, counts-all) at (reads lineList nothingRead (laid-all .0) read-all)
 
   names-back : laid-all .0 .names ≡ namesOver [] ts
   unfolding nothingRead
-  names-back = extended .names ∙ names-placed start ts []
+  names-back = extended .names ∙ names-placed s start ts []
 
   n-back : junctions (laid-all .0) ≡ n
   unfolding junctions toldOr nothingRead
@@ -224,12 +222,39 @@ module _ (n : ℕ) (ts : List Trench) (w : Writable n ts) where
       record {
         n-read = n-back;
         names-read = ns;
-        left-read = x .lefts ∙ ap (λ l. map (λ t. numberIn l (t .left)) (placedTrenches start ts)) ns ∙ map-placed (λ t. numberIn (namesOver [] ts) (t .left)) (λ at t. refl) start ts;
-        right-read = x .rights ∙ ap (λ l. map (λ t. numberIn l (t .right)) (placedTrenches start ts)) ns ∙ map-placed (λ t. numberIn (namesOver [] ts) (t .right)) (λ at t. refl) start ts;
-        weight-read = x .weights ∙ weights-placed start ts;
-        marks-read = x .marks ∙ map-placed (λ t. t .mark) (λ at t. refl) start ts;
-        struck-read = x .strucks ∙ map-placed (λ t. t .struck) (λ at t. refl) start ts;
+        left-read = x .lefts ∙ ap (λ l. map (λ t. numberIn l (t .left)) (placedTrenches s start ts)) ns ∙ map-placed s (λ t. numberIn (namesOver [] ts) (t .left)) (λ at t. refl) start ts;
+        right-read = x .rights ∙ ap (λ l. map (λ t. numberIn l (t .right)) (placedTrenches s start ts)) ns ∙ map-placed s (λ t. numberIn (namesOver [] ts) (t .right)) (λ at t. refl) start ts;
+        weight-read = x .weights ∙ weights-placed s start ts;
+        marks-read = x .marks ∙ map-placed s (λ t. t .mark) (λ at t. refl) start ts;
+        struck-read = x .strucks ∙ map-placed s (λ t. t .struck) (λ at t. refl) start ts;
       }
 
+-- the text does not open with a byte order mark, with a header or without
+unmarked : (header : Bool) (s n : ℕ) (ts : List Trench) → bodyAt (textBy header s n ts) ≡ 0
+unfolding bodyAt opensMarked equal textBy linesBy lineBy countFields headerFields bytes
+unmarked true s n ts = refl
+unmarked false s n ts = refl
+
+body : (header : Bool) (s n : ℕ) (ts : List Trench) → readText (textBy header s n ts) ≡ readLines nothingRead (pieces endsLine 0 (textBy header s n ts))
+unfolding readText lines
+body header s n ts = rw (unmarked header s n ts)
+
+module _ (s n : ℕ) (ts : List Trench) (w : Writable s n ts) where
+  -- where the lines begin, and what is read of them
+  abbrev below : Bool → ℕ
+  below true = suc (0 + length (lineBy s headerFields))
+  below false = 0
+
+  header-read : (header : Bool) → readLines nothingRead (pieces endsLine 0 (textBy header s n ts)) ≡ readLines nothingRead (lineList s n ts w (below header))
+  unfolding textBy readLines follow next linesBy
+  header-read true =
+      let p = separator-is s (w .separates) in
+      rw (one-line s p 0 headerFields (linesBy s (countFields n ∷ trenchesFields ts)) (header-plain s p), header-line s p 0)
+  header-read false = refl
+
 pub reads-back : ReadsBack
-reads-back n ts w = (laid-all n ts w .0, body n ts w ∙ read-all n ts w, columns n ts w)
+reads-back header s n ts w = (
+  laid-all s n ts w (below s n ts w header) .0,
+  body header s n ts ∙ header-read s n ts w header ∙ read-all s n ts w (below s n ts w header),
+  columns s n ts w (below s n ts w header),
+)

@@ -23,8 +23,9 @@ use Rattle.file_spec.specs.Names.{isLetter, ofNames, anyLetter, allOfNames, isN
 use Rattle.file_spec.specs.Pieces.{Piece, endsLine, isBlank, isByte, holds}
 use Rattle.file_spec.specs.Writer.{endBytes}
 use Rattle.file_writer.proofs.Cuts.{Free, Some, pieceOf}
-use Rattle.file_writer.proofs.Fields.{Plain}
-use Rattle.file_writer.specs.RoundTrip.{opens, closes, NameBytes, GoodEnd, good-number, good-name}
+use Rattle.file_writer.proofs.Fields.{Separator, semicolon, tab, comma, blank, Plain, or-left, or-right}
+use Rattle.file_writer.specs.Forms.{goesBefore, parts}
+use Rattle.file_writer.specs.RoundTrip.{opens, closes, hasAny, NameBytes, GoodEnd, good-number, good-name}
 
 and-left : (x y : Bool) → (x && y) ≡ true → x ≡ true
 and-left true y e = refl
@@ -37,7 +38,7 @@ and-right false y e = absurd (false≢true e)
 -- ── Bytes that stand anywhere in a field ──
 
 solid : ℕ → Bool
-solid b = not (endsLine b) && (not (isByte 35 b) && (not (isByte 59 b) && (not (isBlank b) && not (isByte 34 b))))
+solid b = not (endsLine b) && (not (isByte 35 b) && (not (isByte 59 b) && (not (isBlank b) && (not (isByte 44 b) && not (isByte 34 b)))))
 
 allSolid : List ℕ → Bool
 allSolid [] = true
@@ -48,21 +49,41 @@ record Solid (b : ℕ) : Type 0 where
   no-comment : isByte 35 b ≡ false
   no-semicolon : isByte 59 b ≡ false
   no-blank : isBlank b ≡ false
+  no-comma : isByte 44 b ≡ false
   no-quote : isByte 34 b ≡ false
 
 is-solid : (b : ℕ) → solid b ≡ true → Solid b
 unfolding solid
 is-solid b e =
-    let e1 = and-right (not (endsLine b)) (not (isByte 35 b) && (not (isByte 59 b) && (not (isBlank b) && not (isByte 34 b)))) e in
-    let e2 = and-right (not (isByte 35 b)) (not (isByte 59 b) && (not (isBlank b) && not (isByte 34 b))) e1 in
-    let e3 = and-right (not (isByte 59 b)) (not (isBlank b) && not (isByte 34 b)) e2 in
+    let last : Bool = not (isByte 44 b) && not (isByte 34 b) in
+    let e1 = and-right (not (endsLine b)) (not (isByte 35 b) && (not (isByte 59 b) && (not (isBlank b) && last))) e in
+    let e2 = and-right (not (isByte 35 b)) (not (isByte 59 b) && (not (isBlank b) && last)) e1 in
+    let e3 = and-right (not (isByte 59 b)) (not (isBlank b) && last) e2 in
+    let e4 = and-right (not (isBlank b)) last e3 in
     record {
-      one-line = not-true (endsLine b) (and-left (not (endsLine b)) (not (isByte 35 b) && (not (isByte 59 b) && (not (isBlank b) && not (isByte 34 b)))) e);
-      no-comment = not-true (isByte 35 b) (and-left (not (isByte 35 b)) (not (isByte 59 b) && (not (isBlank b) && not (isByte 34 b))) e1);
-      no-semicolon = not-true (isByte 59 b) (and-left (not (isByte 59 b)) (not (isBlank b) && not (isByte 34 b)) e2);
-      no-blank = not-true (isBlank b) (and-left (not (isBlank b)) (not (isByte 34 b)) e3);
-      no-quote = not-true (isByte 34 b) (and-right (not (isBlank b)) (not (isByte 34 b)) e3);
+      one-line = not-true (endsLine b) (and-left (not (endsLine b)) (not (isByte 35 b) && (not (isByte 59 b) && (not (isBlank b) && last))) e);
+      no-comment = not-true (isByte 35 b) (and-left (not (isByte 35 b)) (not (isByte 59 b) && (not (isBlank b) && last)) e1);
+      no-semicolon = not-true (isByte 59 b) (and-left (not (isByte 59 b)) (not (isBlank b) && last) e2);
+      no-blank = not-true (isBlank b) (and-left (not (isBlank b)) last e3);
+      no-comma = not-true (isByte 44 b) (and-left (not (isByte 44 b)) (not (isByte 34 b)) e4);
+      no-quote = not-true (isByte 34 b) (and-right (not (isByte 44 b)) (not (isByte 34 b)) e4);
     }
+
+-- none of the bytes that part fields
+no-tab : (b : ℕ) → Solid b → isByte 9 b ≡ false
+unfolding isBlank isByte
+no-tab b h = or-right (eqb b 32) (eqb b 9) (h .no-blank)
+
+no-space : (b : ℕ) → Solid b → isByte 32 b ≡ false
+unfolding isBlank isByte
+no-space b h = or-left (eqb b 32) (eqb b 9) (h .no-blank)
+
+solid-parts : (s : ℕ) → Separator s → (b : ℕ) → Solid b → parts s b ≡ false
+unfolding parts goesBefore
+solid-parts s semicolon b h = rw (h .no-semicolon)
+solid-parts s tab b h = rw (no-tab b h, h .no-semicolon)
+solid-parts s comma b h = rw (h .no-comma, h .no-semicolon, no-tab b h)
+solid-parts s blank b h = rw (no-space b h, h .no-semicolon, no-tab b h, h .no-comma)
 
 module _ (p : ℕ → Bool) (no-p : (b : ℕ) → Solid b → p b ≡ false) where
   solid-free : (l : List ℕ) → allSolid l ≡ true → Free p l
@@ -81,13 +102,13 @@ module _ (p : ℕ → Bool) (no-p : (b : ℕ) → Solid b → p b ≡ false) whe
   solid-closes (b ∷ []) e = no-p b (is-solid b (and-left (solid b) true e))
   solid-closes (b ∷ c ∷ t) e = solid-closes (c ∷ t) (and-right (solid b) (solid c && allSolid t) e)
 
-solid-plain : (l : List ℕ) → Some l → allSolid l ≡ true → Plain l
-solid-plain l s e =
+solid-plain : (s : ℕ) → Separator s → (l : List ℕ) → Some l → allSolid l ≡ true → Plain s l
+solid-plain s p l n e =
     record {
-      some = s;
+      some = n;
       one-line = solid-free endsLine (λ b h. h .one-line) l e;
       no-comment = solid-free (isByte 35) (λ b h. h .no-comment) l e;
-      no-semicolon = solid-free (isByte 59) (λ b h. h .no-semicolon) l e;
+      no-separator = solid-free (parts s) (solid-parts s p) l e;
       opens-full = solid-opens isBlank (λ b h. h .no-blank) l e;
       closes-full = solid-closes isBlank (λ b h. h .no-blank) l e;
       unquoted = solid-opens (isByte 34) (λ b h. h .no-quote) l e;
@@ -110,6 +131,7 @@ digit-solid b e =
       ne-eqb b 59 (λ q. omega arith),
       ne-eqb b 32 (λ q. omega arith),
       ne-eqb b 9 (λ q. omega arith),
+      ne-eqb b 44 (λ q. omega arith),
       ne-eqb b 34 (λ q. omega arith),
     )
 
@@ -123,21 +145,38 @@ unfolding isEmpty
 full-some [] e = absurd (false≢true (sym e))
 full-some (b ∷ t) e = tt
 
-pub natural-plain : (n : ℕ) → Plain (natural n)
-natural-plain n = solid-plain (natural n) (full-some (natural n) (natural-some n)) (digits-solid (natural n) (natural-digits n))
+pub natural-plain : (s : ℕ) → Separator s → (n : ℕ) → Plain s (natural n)
+natural-plain s p n = solid-plain s p (natural n) (full-some (natural n) (natural-some n)) (digits-solid (natural n) (natural-digits n))
 
-pub integer-plain : (z : ℤ) → Plain (integer z)
+pub integer-plain : (s : ℕ) → Separator s → (z : ℤ) → Plain s (integer z)
 unfolding integer allSolid solid endsLine isByte isBlank
-integer-plain (pos n) = natural-plain n
-integer-plain (negsuc n) = solid-plain (45 ∷ natural (suc n)) tt (digits-solid (natural (suc n)) (natural-digits (suc n)))
+integer-plain s p (pos n) = natural-plain s p n
+integer-plain s p (negsuc n) = solid-plain s p (45 ∷ natural (suc n)) tt (digits-solid (natural (suc n)) (natural-digits (suc n)))
 
-pub struck-plain : Plain (bytes "struck")
-unfolding bytes allSolid solid endsLine isByte isBlank
-struck-plain = solid-plain (bytes "struck") tt refl
+module _ (s : ℕ) (p : Separator s) where
+  pub struck-plain : Plain s (bytes "struck")
+  unfolding bytes allSolid solid endsLine isByte isBlank
+  struck-plain = solid-plain s p (bytes "struck") tt refl
 
-pub junctions-plain : Plain (bytes "junctions")
-unfolding bytes allSolid solid endsLine isByte isBlank
-junctions-plain = solid-plain (bytes "junctions") tt refl
+  pub junctions-plain : Plain s (bytes "junctions")
+  unfolding bytes allSolid solid endsLine isByte isBlank
+  junctions-plain = solid-plain s p (bytes "junctions") tt refl
+
+  pub left-plain : Plain s (bytes "left")
+  unfolding bytes allSolid solid endsLine isByte isBlank
+  left-plain = solid-plain s p (bytes "left") tt refl
+
+  pub right-plain : Plain s (bytes "right")
+  unfolding bytes allSolid solid endsLine isByte isBlank
+  right-plain = solid-plain s p (bytes "right") tt refl
+
+  pub price-plain : Plain s (bytes "price")
+  unfolding bytes allSolid solid endsLine isByte isBlank
+  price-plain = solid-plain s p (bytes "price") tt refl
+
+  pub mark-plain : Plain s (bytes "mark")
+  unfolding bytes allSolid solid endsLine isByte isBlank
+  mark-plain = solid-plain s p (bytes "mark") tt refl
 
 -- what a number reads as
 value : (n : ℕ) → decimal 0 (natural n) ≡ n
@@ -262,16 +301,21 @@ holds-free c (b ∷ t) e = go (eqb b c) refl e (holds-free c t)
     go true h e f = absurd (false≢true (sym e))
     go false h e f = (h, f e)
 
-pub name-plain : (w : List ℕ) → NameBytes w → Plain w
+pub any-free : (p : ℕ → Bool) (w : List ℕ) → hasAny p w ≡ false → Free p w
+unfolding hasAny
+any-free p [] e = tt
+any-free p (b ∷ t) e = (or-left (p b) (hasAny p t) e, any-free p t (or-right (p b) (hasAny p t) e))
+
+pub name-plain : (s : ℕ) (w : List ℕ) → NameBytes s w → Plain s w
 unfolding isName
-name-plain w h =
+name-plain s w h =
     let letters = and-left (anyLetter w) (allOfNames w) (h .named) in
     let others = and-right (anyLetter w) (allOfNames w) (h .named) in
     record {
       some = name-some w letters;
       one-line = name-line w others;
       no-comment = holds-free 35 w (h .no-comment);
-      no-semicolon = holds-free 59 w (h .no-semicolon);
+      no-separator = any-free (parts s) w (h .no-separator);
       opens-full = h .no-blank-before;
       closes-full = h .no-blank-behind;
       unquoted = name-quote w others;
@@ -279,12 +323,12 @@ name-plain w h =
 
 -- ── Ends ──
 
-pub end-plain : (e : End) → GoodEnd e → Plain (endBytes e)
+pub end-plain : (s : ℕ) → Separator s → (e : End) → GoodEnd s e → Plain s (endBytes e)
 unfolding endBytes
-end-plain e (good-number {v = v} h g) = natural-plain v
-end-plain e (good-name {w = w} h) = name-plain w h
+end-plain s p e (good-number {v = v} h g) = natural-plain s p v
+end-plain s p e (good-name {w = w} h) = name-plain s w h
 
-pub end-back : (e : End) → GoodEnd e → endOf (endBytes e) ≡ some e
+pub end-back : (s : ℕ) (e : End) → GoodEnd s e → endOf (endBytes e) ≡ some e
 unfolding endBytes endOf numbered
-end-back e (good-number {v = v} h g) = rw (number-back v (omega arith), le-leb 1 v h, le-leb v 255 g)
-end-back e (good-name {w = w} h) = rw (name-no-number w (h .named), h .named)
+end-back s e (good-number {v = v} h g) = rw (number-back v (omega arith), le-leb 1 v h, le-leb v 255 g)
+end-back s e (good-name {w = w} h) = rw (name-no-number w (h .named), h .named)

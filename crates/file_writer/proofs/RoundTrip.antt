@@ -27,27 +27,33 @@ use Rattle.file_meaning.specs.Means.{linesOf, trenchesIn, trenches, countIn, co
 use Rattle.file_spec.specs.Line.{Line, Trench, End, number, name, nothing, counting, trench, wrong, lineOf, says, marked}
 use Rattle.file_spec.specs.Pieces.{Piece, isByte, holds, fields}
 use Rattle.file_spec.specs.Reader.{Read, Reading, read, kindOf, numberIn, readText, junctions}
-use Rattle.file_spec.specs.Writer.{fieldsText, linesText, countFields, struckFields, endBytes, trenchFields, trenchesFields, fileText, nameAt, endText, rowFields, rowsFields, tableText}
+use Rattle.file_spec.specs.Writer.{fieldsText, linesText, countFields, struckFields, endBytes, trenchFields, trenchesFields, nameAt, endText, rowFields, rowsFields, tableText}
 use Rattle.file_writer.proofs.Back.{reads-back}
 use Rattle.file_writer.proofs.Clean.{Each, Clean, fields-clean, each-append}
 use Rattle.file_writer.proofs.Cuts.{Free}
 use Rattle.file_writer.proofs.Plain.{natural-no-struck, natural-no-junctions}
-use Rattle.file_writer.specs.RoundTrip.{NameBytes, GoodEnd, good-number, good-name, GoodTrench, Writable, TableRead, SameTable, RoundTrip}
+use Rattle.file_writer.proofs.Fields.{free-holds, free-weaker}
+use Rattle.file_writer.specs.Forms.{isSeparator, goesBefore, parts, lineBy, linesBy, textBy}
+use Rattle.file_writer.specs.RoundTrip.{hasAny, NameBytes, GoodEnd, good-number, good-name, GoodTrench, Writable, TableRead, SameTable, RoundTrip}
 
 -- ── A trench that was read can be written ──
 
-free-holds : (c : ℕ) (w : List ℕ) → Free (isByte c) w → holds c w ≡ false
-unfolding holds isByte
-free-holds c [] f = refl
-free-holds c (b ∷ t) f = rw (f .0) (free-holds c t (f .1))
+free-any : (p : ℕ → Bool) (w : List ℕ) → Free p w → hasAny p w ≡ false
+unfolding hasAny
+free-any p [] f = refl
+free-any p (b ∷ t) f = rw (f .0) (free-any p t (f .1))
 
-clean-end : (f : Piece) (e : End) → Clean f → EndSaid (f .letters) e → GoodEnd e
+semicolon-alone : (b : ℕ) → isByte 59 b ≡ false → parts 59 b ≡ false
+unfolding parts goesBefore
+semicolon-alone b e = rw e
+
+clean-end : (f : Piece) (e : End) → Clean f → EndSaid (f .letters) e → GoodEnd 59 e
 clean-end f e c (a-number v q l h) = good-number l h
 clean-end f e c (a-name q n) =
     good-name
     (record {
       named = n;
-      no-semicolon = free-holds 59 (f .letters) (c .no-semicolon);
+      no-separator = free-any (parts 59) (f .letters) (free-weaker (isByte 59) (parts 59) semicolon-alone (f .letters) (c .no-semicolon));
       no-comment = free-holds 35 (f .letters) (c .no-comment);
       no-blank-before = c .opens-full;
       no-blank-behind = c .closes-full;
@@ -88,7 +94,7 @@ clean-fields p t s = each-append Clean (s .word) (s .a ∷ s .b ∷ s .c ∷ s .
 no-word : (p : Piece) (t : Trench) (s : TrenchSaid p t) → t .struck ≡ false → (says "struck" (s .a) ≡ false) × (says "junctions" (s .a) ≡ false)
 no-word p t s e = ⊎-elim (λ h. absurd (false≢true (sym e ∙ h .0))) (λ h. (h .3, h .4)) (s .struck-said)
 
-pub said-good : (p : Piece) (t : Trench) → TrenchSaid p t → GoodTrench t
+pub said-good : (p : Piece) (t : Trench) → TrenchSaid p t → GoodTrench 59 t
 unfolding says
 said-good p t s =
     let c = clean-fields p t s in
@@ -138,6 +144,21 @@ count-of (p ∷ ps) v m = go (lineOf p) refl m (count-of ps v)
     go (trench t) e m f = more (f m)
     go (wrong reason at) e m f = more (f m)
 
+semicolon-parts : isSeparator 59 ≡ true
+unfolding isSeparator
+semicolon-parts = refl
+
+line-same : (fs : List (List ℕ)) → fieldsText fs ≡ lineBy 59 fs
+unfolding fieldsText lineBy
+line-same [] = refl
+line-same (f ∷ []) = refl
+line-same (f ∷ g ∷ fs) = rw (line-same (g ∷ fs))
+
+lines-same : (ls : List (List (List ℕ))) → linesText ls ≡ linesBy 59 ls
+unfolding linesText linesBy
+lines-same [] = refl
+lines-same (l ∷ ls) = rw (line-same l, lines-same ls)
+
 module _ (text : List ℕ) (r : Read) (e : readText text ≡ read r) where
   abbrev ts : List Trench
   ts = trenches text
@@ -169,9 +190,10 @@ module _ (text : List ℕ) (r : Read) (e : readText text ≡ read r) where
           two : suc (suc (length vs)) ≤ 1 → ⊥
           two h = omega arith
 
-  writable : Writable (junctions r) ts
+  writable : Writable 59 (junctions r) ts
   writable =
       record {
+        separates = semicolon-parts;
         few-junctions = n-most;
         few-rows = means .few-rows;
         few-names = subst (λ ns. length ns ≤ 255) (means .names-order) (means .few-names);
@@ -210,15 +232,16 @@ module _ (text : List ℕ) (r : Read) (e : readText text ≡ read r) where
         rows-text us (suc k) (λ j v h. let s : suc k + j ≡ k + suc j = omega arith in rw s (f (suc j) v h)),
       )
 
-  text-same : tableText r ≡ fileText (junctions r) ts
-  unfolding tableText fileText
+  text-same : tableText r ≡ textBy false 59 (junctions r) ts
+  unfolding tableText textBy
   text-same =
       ap (λ l. linesText (countFields (junctions r) ∷ l))
       (ap (rowsFields r 0) (means .lefts) ∙ rows-text ts 0 (λ j u h. let z : 0 + j ≡ j = omega arith in rw z h))
+      ∙ lines-same (countFields (junctions r) ∷ trenchesFields ts)
 
   trip : (q : Read) × (readText (tableText r) ≡ read q) × SameTable r q
   trip =
-      let (q, h, x) = reads-back (junctions r) ts writable in
+      let (q, h, x) = reads-back false 59 (junctions r) ts writable in
       let ns = means .names-order in (
         q,
         ap readText text-same ∙ h,

@@ -1,7 +1,7 @@
--- Laws of what is put: names among parts of a text, a row's line from its pieces, and the lines one after another.
+-- Laws of what is put: parts of a text, a trench's line from its pieces, and the lines one after another.
 -- Assumes nothing.
 use Prim.Native.Nat.{ℕ, zero, suc, _+_, _-_, _*_, _≤_, _<_, min}
-use borrow.Author.Tests.{leb-true, leb-false}
+use borrow.Author.Tests.{leb-true, leb-false, eq-eqb, ne-eqb}
 use lib.Dec.{eqb, leb}
 use lib.IntN.{ℤ}
 use lib.ListN.{length, take, drop, getD, length-take, length-drop, List·getD-eq-default}
@@ -14,22 +14,23 @@ use native.Mathlib.Omega.{arith}
 use Rattle.decimal.proofs.Laws.{puts-append}
 use Rattle.decimal.specs.Decimal.{natural, integer}
 use Rattle.decimal.specs.Puts.{Puts}
-use Rattle.file_spec.specs.Reader.{Read, toldOr, junctions}
-use Rattle.file_spec.specs.Writer.{fieldsText, linesText, countFields, struckFields, nameAt, endText, rowFields, rowsFields}
-use Rattle.file_text.specs.steps.Spans.{part, namesFrom, namesOf}
+use Rattle.file_spec.specs.Line.{Trench, End, number, name, marked}
+use Rattle.file_spec.specs.Writer.{countFields, struckFields, endBytes, trenchFields, trenchesFields}
+use Rattle.file_text.specs.steps.Spans.{part}
 use Rattle.rowset.specs.Bytes.{inRow}
 use Rattle.rowset.specs.Integers.{signed}
-use Rattle.star_spec.proofs.Claims.{inRow-byte}
+use Rattle.rowset.specs.Words.{inWords}
 use Rattle.stp_words.specs.Bytes.{bytes}
-use Rattle.file_writer.specs.Columns.{struckFrom, lentRead, columnsText}
-use Rattle.file_writer.specs.steps.Rows.{entryAt, endPut, struckPut, rowPut, linePut, countPut, rowsPut}
+use Rattle.file_writer.specs.Columns.{Sheet, sheetOf, nameOf, endIn, trenchOf, trenchesFrom, trenchesOf}
+use Rattle.file_writer.specs.Forms.{lineBy, linesBy, headerFields, textBy, headed, formText}
+use Rattle.file_writer.specs.steps.Rows.{entryAt, wordPut, headerPut, countPut, struckPut, endsPut, restPut, linePut, rowsPut}
 
 -- ── Nothing ──
 
 pub puts-none : (l : List ℕ) (at : ℕ) → at ≤ length l → Puts l at [] l at
 puts-none l at h = record { column = refl; place = omega arith }
 
--- ── Parts and names ──
+-- ── Parts ──
 
 -- nothing is left where a part ends before it begins, or begins past the text
 pub part-none : (text : List ℕ) (from to : ℕ) → min to (length text) ≤ from → part text from to ≡ []
@@ -41,7 +42,7 @@ part-none text from to h = short (take (to - from) (drop from text)) (omega (ari
     short (b ∷ l) h = absurd (omega arith)
 
 -- a part that ends past the text ends with it
-part-high : (text : List ℕ) (from to high : ℕ) → high ≡ min to (length text) → take (high - from) (drop from text) ≡ part text from to
+pub part-high : (text : List ℕ) (from to high : ℕ) → high ≡ min to (length text) → take (high - from) (drop from text) ≡ part text from to
 unfolding part
 part-high text from to high e = go (leb to (length text)) refl
   where
@@ -53,120 +54,100 @@ part-high text from to high e = go (leb to (length text)) refl
         let g = leb-false to (length text) h in
         take-all (high - from) (drop from text) (omega (arith, length-drop from text)) ∙ sym (take-all (to - from) (drop from text) (omega (arith, length-drop from text)))
 
-module _ (text starts ends : List ℕ) where
-  name-in : (k n i : ℕ) → i < n → getD (namesFrom text starts ends k n) i [] ≡ part text (getD starts (k + i) 0) (getD ends (k + i) 0)
-  unfolding namesFrom
-  name-in k zero i h = absurd (omega arith)
-  name-in k (suc n) zero h = let z : k + 0 ≡ k = omega arith in rw z
-  name-in k (suc n) (suc i) h = let z : k + suc i ≡ suc k + i = omega arith in rw z (name-in (suc k) n i (omega arith))
-
-  name-out : (k n i : ℕ) → n ≤ i → getD (namesFrom text starts ends k n) i [] ≡ []
-  unfolding namesFrom
-  name-out k zero i h = refl
-  name-out k (suc n) zero h = absurd (omega arith)
-  name-out k (suc n) (suc i) h = name-out (suc k) n i (omega arith)
-
-  pub name-part : (n v k : ℕ) → k ≡ v - 1 → k < n → nameAt (namesOf text starts ends n) v ≡ part text (getD starts k 0) (getD ends k 0)
-  unfolding nameAt namesOf
-  name-part n v k e h = let z : 0 + k ≡ k = omega arith in rw (← e, name-in 0 n k h, z)
-
-  pub name-none : (n v k : ℕ) → k ≡ v - 1 → n ≤ k → nameAt (namesOf text starts ends n) v ≡ []
-  unfolding nameAt namesOf
-  name-none n v k e h = rw (← e) (name-out 0 n k h)
+-- past the end of a column
+pub past-end : (l : List ℕ) (k : ℕ) → length l ≤ k → 0 ≡ entryAt l k
+unfolding entryAt
+past-end l k h = sym (List·getD-eq-default l 0 h)
 
 -- ── A line from its pieces ──
 
-four : (a b c d rest : List ℕ) → fieldsText (a ∷ b ∷ c ∷ d ∷ []) ++ rest ≡ a ++ (59 ∷ (b ++ (59 ∷ (c ++ (59 ∷ (d ++ rest))))))
-unfolding fieldsText
-four a b c d rest = simp append-assoc
+trench-line : (s : ℕ) (t : Trench) (rest : List ℕ) → lineBy s (trenchFields t) ++ (10 ∷ rest) ≡ linePut s t ++ rest
+unfolding trenchFields linePut struckFields struckPut endsPut restPut wordPut lineBy bytes
+trench-line s t rest = go (t .struck)
+  where
+    go : (x : Bool) → lineBy s (struckFields x ++ (endBytes (t .left) ∷ endBytes (t .right) ∷ integer (t .price) ∷ natural (t .mark) ∷ [])) ++ (10 ∷ rest)
+        ≡ (struckPut x s ++ (endsPut s (t .left) (t .right) ++ restPut s (t .price) (t .mark))) ++ rest
+    go true = simp append-assoc
+    go false = simp append-assoc
 
-row-line : (named : Bool) (names : List (List ℕ)) (s : Bool) (v w : ℕ) (p : ℤ) (m : ℕ)
-    → linesText ((struckFields s ++ (cond named (nameAt names v) (natural v) ∷ cond named (nameAt names w) (natural w) ∷ integer p ∷ natural m ∷ [])) ∷ []) ≡ rowPut named names s v w p m
-unfolding linesText rowPut struckFields struckPut endPut fieldsText bytes
-row-line named names true v w p m = simp append-assoc
-row-line named names false v w p m = simp append-assoc
+count-line : (s n : ℕ) (rest : List ℕ) → lineBy s (countFields n) ++ (10 ∷ rest) ≡ countPut s n ++ rest
+unfolding countPut countFields lineBy wordPut bytes
+count-line s n rest = simp append-assoc
 
-lines-append : (a b : List (List (List ℕ))) → linesText (a ++ b) ≡ linesText a ++ linesText b
-unfolding linesText
-lines-append [] b = refl
-lines-append (x ∷ a) b = rw (lines-append a b, append-assoc (fieldsText x) (10 ∷ linesText a) (linesText b))
+header-line : (s : ℕ) (rest : List ℕ) → lineBy s headerFields ++ (10 ∷ rest) ≡ headerPut true s ++ rest
+unfolding headerPut headerFields lineBy wordPut bytes
+header-line s rest = refl
 
-count-line : (n : ℕ) (rest : List ℕ) → countPut n ++ rest ≡ fieldsText (countFields n) ++ (10 ∷ rest)
-unfolding countPut countFields fieldsText bytes
-count-line n rest = simp append-assoc
+no-header : (s : ℕ) (rest : List ℕ) → rest ≡ headerPut false s ++ rest
+unfolding headerPut
+no-header s rest = refl
 
 -- ── The lines one after another ──
 
-rows-snoc : (r : Read) (k n : ℕ) → rowsFields r k (suc n) ≡ rowsFields r k n ++ (rowFields r (k + n) ∷ [])
-unfolding rowsFields
-rows-snoc r k zero = let z : k + 0 ≡ k = omega arith in rw z
-rows-snoc r k (suc n) = let z : k + suc n ≡ suc k + n = omega arith in rw z (ap {B = List (List (List ℕ))} (λ l. rowFields r k ∷ l) (rows-snoc r (suc k) n))
+-- those of n rows from position k on
+linesFrom : (ℕ → List ℕ) → ℕ → ℕ → List ℕ
+linesFrom f k zero = []
+linesFrom f k (suc n) = f (suc k) ++ linesFrom f (suc k) n
 
-nothing-put : (r : Read) (line : ℕ → List ℕ) → linesText (rowsFields r 0 0) ≡ rowsPut line 0
-unfolding linesText rowsFields rowsPut
-nothing-put r line = refl
+lines-snoc : (f : ℕ → List ℕ) (k n : ℕ) → linesFrom f k (suc n) ≡ linesFrom f k n ++ f (suc (k + n))
+unfolding linesFrom
+lines-snoc f k zero = let z : k + 0 ≡ k = omega arith in rw (z, append-nil (f (suc k)))
+lines-snoc f k (suc n) =
+    let z : k + suc n ≡ suc k + n = omega arith in
+    ap (λ l. f (suc k) ++ l) (lines-snoc f (suc k) n) ∙ sym (append-assoc (f (suc k)) (linesFrom f (suc k) n) (f (suc (suc k + n)))) ∙ ap (λ j. (f (suc k) ++ linesFrom f (suc k) n) ++ f (suc j)) (sym z)
 
-struck-at : (rows : ℕ → Bool) (k n i : ℕ) → i < n → getD (struckFrom rows k n) i false ≡ not (rows (suc (k + i)))
-unfolding struckFrom
-struck-at rows k zero i h = absurd (omega arith)
-struck-at rows k (suc n) zero h = let z : k + 0 ≡ k = omega arith in rw z
-struck-at rows k (suc n) (suc i) h = let z : k + suc i ≡ suc k + i = omega arith in rw z (struck-at rows (suc k) n i (omega arith))
+rows-from : (f : ℕ → List ℕ) (m : ℕ) → rowsPut f m ≡ linesFrom f 0 m
+unfolding rowsPut linesFrom
+rows-from f zero = refl
+rows-from f (suc m) = let z : 0 + m ≡ m = omega arith in ap (λ l. l ++ f (suc m)) (rows-from f m) ∙ sym (lines-snoc f 0 m ∙ ap (λ j. linesFrom f 0 m ++ f (suc j)) z)
 
-kind-named : (named : Bool) (a b : List ℕ) → cond (eqb (cond named 2 1) 2) a b ≡ cond named a b
-kind-named true a b = refl
-kind-named false a b = refl
+trenches-put : (s : ℕ) (f : ℕ → Trench) (k n : ℕ) → linesBy s (trenchesFields (trenchesFrom f k n)) ≡ linesFrom (λ i. linePut s (f i)) k n
+unfolding linesBy trenchesFields trenchesFrom linesFrom
+trenches-put s f k zero = refl
+trenches-put s f k (suc n) =
+    trench-line s (f (suc k)) (linesBy s (trenchesFields (trenchesFrom f (suc k) n))) ∙ ap (λ l. linePut s (f (suc k)) ++ l) (trenches-put s f (suc k) n)
 
-module _ (named : Bool) (names : List (List ℕ)) (n m : ℕ) (rows : ℕ → Bool) (left right weight mark : List ℕ) where
-  abbrev table : Read
-  table = lentRead named names n m rows left right weight mark
+module _ (s n m : ℕ) (f : ℕ → Trench) where
+  abbrev ts : List Trench
+  ts = trenchesFrom f 0 m
 
-  -- the line of row i
-  abbrev line : ℕ → List ℕ
-  line = linePut named names rows left right weight mark
+  below : linesBy s (countFields n ∷ trenchesFields ts) ≡ countPut s n ++ rowsPut (λ i. linePut s (f i)) m
+  unfolding linesBy
+  below = count-line s n (linesBy s (trenchesFields ts)) ∙ ap (λ l. countPut s n ++ l) (trenches-put s f 0 m ∙ sym (rows-from (λ i. linePut s (f i)) m))
 
-  one-line : (k : ℕ) → k < m → linesText (rowFields table k ∷ []) ≡ line (suc k)
-  unfolding rowFields lentRead endText linePut
-  one-line k h =
-      let z : 0 + k ≡ k = omega arith in
-      let s : getD (struckFrom rows 0 m) k false ≡ not (rows (suc k)) = rw z at (struck-at rows 0 m k h) in
-      rw (s, kind-named named (nameAt names (getD left k 0)) (natural (getD left k 0)), kind-named named (nameAt names (getD right k 0)) (natural (getD right k 0)), ← (inRow-byte left k), ← (inRow-byte right k), ← (inRow-byte mark k))
-      (row-line named names (not (rows (suc k))) (inRow 1 left (suc k)) (inRow 1 right (suc k)) (signed (inRow 4 weight (suc k))) (inRow 1 mark (suc k)))
+  all-put : (header : Bool) → textBy header s n ts ≡ headerPut header s ++ (countPut s n ++ rowsPut (λ i. linePut s (f i)) m)
+  unfolding textBy linesBy
+  all-put true = header-line s (linesBy s (countFields n ∷ trenchesFields ts)) ∙ ap (λ l. headerPut true s ++ l) below
+  all-put false = below ∙ no-header s (countPut s n ++ rowsPut (λ i. linePut s (f i)) m)
 
-  rows-are : (k : ℕ) → k ≤ m → linesText (rowsFields table 0 k) ≡ rowsPut line k
-  unfolding rowsPut
-  rows-are zero h = nothing-put table line
-  rows-are (suc k) h =
-      let z : 0 + k ≡ k = omega arith in
-      rw (rows-snoc table 0 k, lines-append (rowsFields table 0 k) (rowFields table (0 + k) ∷ []), z, rows-are k (omega arith), one-line k h)
-
-  n-told : junctions table ≡ n
-  unfolding junctions toldOr lentRead
-  n-told = refl
-
-  pub all-put : countPut n ++ rowsPut line m ≡ columnsText table m
-  unfolding columnsText linesText
-  all-put =
-      ap (λ x. countPut n ++ x) (sym (rows-are m (omega arith))) ∙ count-line n (linesText (rowsFields table 0 m))
-      ∙ ap (λ k. fieldsText (countFields k) ++ (10 ∷ linesText (rowsFields table 0 m))) (sym n-told)
-
-  -- the line of junctions, and those of all rows
-  pub puts-all : {l l' l'' : List ℕ} {k k' : ℕ} → Puts l 0 (countPut n) l' k → Puts l' k (rowsPut line m) l'' k' → Puts l 0 (columnsText table m) l'' k'
-  puts-all p q = rw (← all-put) (puts-append p q)
+  -- the header, the line of junctions, and those of all rows
+  pub puts-all : {l l' l'' l''' : List ℕ} {k k' k'' : ℕ} (header : Bool) → header ≡ headed s → Puts l 0 (headerPut header s) l' k → Puts l' k (countPut s n) l'' k'
+      → Puts l'' k' (rowsPut (λ i. linePut s (f i)) m) l''' k'' → Puts l 0 (formText s n ts) l''' k''
+  unfolding formText
+  puts-all header e p q r = rw (← e, all-put header) (puts-append p (puts-append q r))
 
 -- ── One call after another ──
 
 module _ {l l' : List ℕ} {at k : ℕ} where
-  pub puts-struck : (s : Bool) → s ≡ true → Puts l at (115 ∷ 116 ∷ 114 ∷ 117 ∷ 99 ∷ 107 ∷ 59 ∷ []) l' k → Puts l at (struckPut s) l' k
-  unfolding struckPut bytes
-  puts-struck s e p = rw e p
-
   pub puts-part : (text : List ℕ) (from to high : ℕ) → high ≡ min to (length text) → Puts l at (take (high - from) (drop from text)) l' k → Puts l at (part text from to) l' k
   puts-part text from to high e p = rw (part-high text from to high e) at p
 
-  pub puts-name : (text starts ends : List ℕ) (names v s e : ℕ) → v - 1 < names → s ≡ entryAt starts (v - 1) → e ≡ entryAt ends (v - 1) → Puts l at (part text s e) l' k
-      → Puts l at (nameAt (namesOf text starts ends names) v) l' k
-  unfolding entryAt
-  puts-name text starts ends names v s e h a b p = rw (name-part text starts ends names v (v - 1) refl h, ← a, ← b) p
+  pub puts-name : (text starts ends : List ℕ) (v from to : ℕ) → from ≡ entryAt starts (v - 1) → to ≡ entryAt ends (v - 1) → Puts l at (part text from to) l' k
+      → Puts l at (nameOf text starts ends v) l' k
+  unfolding entryAt nameOf
+  puts-name text starts ends v from to a b p = rw (← a, ← b) p
+
+  pub puts-number : (text starts ends : List ℕ) (v : ℕ) → length starts ≡ 0 → Puts l at (natural v) l' k → Puts l at (endBytes (endIn text starts ends v)) l' k
+  unfolding endIn endBytes
+  puts-number text starts ends v e p = rw (eq-eqb (length starts) 0 e) p
+
+  pub puts-named : (text starts ends : List ℕ) (v : ℕ) → (length starts ≡ 0 → ⊥) → Puts l at (nameOf text starts ends v) l' k → Puts l at (endBytes (endIn text starts ends v)) l' k
+  unfolding endIn endBytes
+  puts-named text starts ends v e p = rw (ne-eqb (length starts) 0 e) p
+
+  pub puts-struck : (x : Bool) (s : ℕ) → x ≡ true → Puts l at (wordPut (115 ∷ 116 ∷ 114 ∷ 117 ∷ 99 ∷ 107 ∷ []) s) l' k → Puts l at (struckPut x s) l' k
+  unfolding struckPut bytes
+  puts-struck x s e p = rw e p
 
   pub puts-done : (f : ℕ → List ℕ) (i m : ℕ) → Puts l at (rowsPut f i) l' k → i ≤ m → m ≤ i → Puts l at (rowsPut f m) l' k
   puts-done f i m p h g =
@@ -174,13 +155,9 @@ module _ {l l' : List ℕ} {at k : ℕ} where
       rw e at p
 
   module _ {l'' : List ℕ} {k' : ℕ} where
-    pub puts-named : (named : Bool) (names : List (List ℕ)) (v : ℕ) → named ≡ true → Puts l at (nameAt names v) l' k → Puts l' k (59 ∷ []) l'' k' → Puts l at (endPut named names v) l'' k'
-    unfolding endPut
-    puts-named named names v e p q = rw e (puts-append p q)
-
-    pub puts-number : (named : Bool) (names : List (List ℕ)) (v : ℕ) → named ≡ false → Puts l at (natural v) l' k → Puts l' k (59 ∷ []) l'' k' → Puts l at (endPut named names v) l'' k'
-    unfolding endPut
-    puts-number named names v e p q = rw e (puts-append p q)
+    pub puts-word : (w : List ℕ) (s : ℕ) → Puts l at w l' k → Puts l' k (s ∷ []) l'' k' → Puts l at (wordPut w s) l'' k'
+    unfolding wordPut
+    puts-word w s p q = puts-append p q
 
     pub puts-more : (f : ℕ → List ℕ) (i : ℕ) → Puts l at (rowsPut f i) l' k → Puts l' k (f (i + 1)) l'' k' → Puts l at (rowsPut f (i + 1)) l'' k'
     unfolding rowsPut
@@ -188,31 +165,52 @@ module _ {l l' : List ℕ} {at k : ℕ} where
         let e = add-one i in
         rw e (puts-append p (rw e at q))
 
+    pub puts-count : (s n : ℕ) → Puts l at (wordPut (bytes "junctions") s) l' k → Puts l' k (wordPut (natural n) 10) l'' k' → Puts l at (countPut s n) l'' k'
+    unfolding countPut
+    puts-count s n p q = puts-append p q
+
+pub puts-ends : {l₀ l₁ l₂ l₃ l₄ : List ℕ} {k₀ k₁ k₂ k₃ k₄ : ℕ} (s : ℕ) (text starts ends : List ℕ) (a b u v : ℕ) → a ≡ u → b ≡ v
+    → Puts l₀ k₀ (endBytes (endIn text starts ends a)) l₁ k₁ → Puts l₁ k₁ (s ∷ []) l₂ k₂ → Puts l₂ k₂ (endBytes (endIn text starts ends b)) l₃ k₃ → Puts l₃ k₃ (s ∷ []) l₄ k₄
+    → Puts l₀ k₀ (endsPut s (endIn text starts ends u) (endIn text starts ends v)) l₄ k₄
+unfolding endsPut wordPut
+puts-ends s text starts ends a b u v e f p q r t = rw (← e, ← f) (puts-append (puts-append p q) (puts-append r t))
+
+pub puts-rest : {l₀ l₁ l₂ l₃ l₄ : List ℕ} {k₀ k₁ k₂ k₃ k₄ : ℕ} (s w u : ℕ) (struck : Bool) (b m v : ℕ) → w ≡ u → b ≡ v → m ≡ marked struck b
+    → Puts l₀ k₀ (integer (signed w)) l₁ k₁ → Puts l₁ k₁ (s ∷ []) l₂ k₂ → Puts l₂ k₂ (natural m) l₃ k₃ → Puts l₃ k₃ (10 ∷ []) l₄ k₄
+    → Puts l₀ k₀ (restPut s (signed u) (marked struck v)) l₄ k₄
+unfolding restPut wordPut
+puts-rest s w u struck b m v e f g p q r t = rw (← e, ← f, ← g) (puts-append (puts-append p q) (puts-append r t))
+
+pub junctions-word : {l l' : List ℕ} {at k : ℕ} (s : ℕ) → Puts l at (wordPut (106 ∷ 117 ∷ 110 ∷ 99 ∷ 116 ∷ 105 ∷ 111 ∷ 110 ∷ 115 ∷ []) s) l' k → Puts l at (wordPut (bytes "junctions") s) l' k
+unfolding bytes
+junctions-word s p = p
+
+pub puts-header : {l l₁ l₂ l₃ l₄ : List ℕ} {k₁ k₂ k₃ k₄ : ℕ} (header : Bool) (s : ℕ) → header ≡ true → Puts l 0 (wordPut (108 ∷ 101 ∷ 102 ∷ 116 ∷ []) s) l₁ k₁
+    → Puts l₁ k₁ (wordPut (114 ∷ 105 ∷ 103 ∷ 104 ∷ 116 ∷ []) s) l₂ k₂ → Puts l₂ k₂ (wordPut (112 ∷ 114 ∷ 105 ∷ 99 ∷ 101 ∷ []) s) l₃ k₃ → Puts l₃ k₃ (wordPut (109 ∷ 97 ∷ 114 ∷ 107 ∷ []) 10) l₄ k₄
+    → Puts l 0 (headerPut header s) l₄ k₄
+unfolding headerPut bytes
+puts-header header s e p q r t = rw e (puts-append p (puts-append q (puts-append r t)))
+
+pub none-header : (l : List ℕ) (header : Bool) (s : ℕ) → header ≡ false → Puts l 0 (headerPut header s) l 0
+unfolding headerPut
+none-header l header s e = rw e (puts-none l 0 (omega arith))
+
 module _ {l : List ℕ} {at : ℕ} (h : at ≤ length l) where
   pub none-rows : (f : ℕ → List ℕ) → Puts l at (rowsPut f 0) l at
   unfolding rowsPut
   none-rows f = puts-none l at h
 
-  pub none-struck : (s : Bool) → s ≡ false → Puts l at (struckPut s) l at
+  pub none-struck : (x : Bool) (s : ℕ) → x ≡ false → Puts l at (struckPut x s) l at
   unfolding struckPut
-  none-struck s e = rw e (puts-none l at h)
+  none-struck x s e = rw e (puts-none l at h)
 
   pub none-part : (text : List ℕ) (from to : ℕ) → min to (length text) ≤ from → Puts l at (part text from to) l at
   none-part text from to g = rw (part-none text from to g) (puts-none l at h)
 
-  pub none-name : (text starts ends : List ℕ) (names v : ℕ) → names ≤ v - 1 → Puts l at (nameAt (namesOf text starts ends names) v) l at
-  none-name text starts ends names v g = rw (name-none text starts ends names v (v - 1) refl g) (puts-none l at h)
-
-pub puts-row : {l₀ l₁ l₂ l₃ l₄ l₅ l₆ l₇ : List ℕ} {k₀ k₁ k₂ k₃ k₄ k₅ k₆ k₇ : ℕ} (named : Bool) (names : List (List ℕ)) (rows : ℕ → Bool) (left right weight mark : List ℕ) (i : ℕ)
-    (s : Bool) (a b w m : ℕ) → s ≡ not (rows i) → a ≡ inRow 1 left i → b ≡ inRow 1 right i → w ≡ inRow 4 weight i → m ≡ inRow 1 mark i
-    → Puts l₀ k₀ (struckPut s) l₁ k₁ → Puts l₁ k₁ (endPut named names a) l₂ k₂ → Puts l₂ k₂ (endPut named names b) l₃ k₃ → Puts l₃ k₃ (integer (signed w)) l₄ k₄
-    → Puts l₄ k₄ (59 ∷ []) l₅ k₅ → Puts l₅ k₅ (natural m) l₆ k₆ → Puts l₆ k₆ (10 ∷ []) l₇ k₇
-    → Puts l₀ k₀ (linePut named names rows left right weight mark i) l₇ k₇
-unfolding rowPut linePut
-puts-row named names rows left right weight mark i s a b w m es ea eb ew em p q r t u v x =
-    rw (← es, ← ea, ← eb, ← ew, ← em) (puts-append (puts-append (puts-append (puts-append (puts-append (puts-append p q) r) t) u) v) x)
-
--- past the end of a column
-pub past-end : (l : List ℕ) (k : ℕ) → length l ≤ k → 0 ≡ entryAt l k
-unfolding entryAt
-past-end l k h = sym (List·getD-eq-default l 0 h)
+-- a row's line: the word, the ends, the price and the mark
+pub puts-row : {l₀ l₁ l₂ l₃ : List ℕ} {k₀ k₁ k₂ k₃ : ℕ} (s : ℕ) (x : Sheet) (i : ℕ) (b : Bool) → b ≡ not (inWords (x .words) i) → Puts l₀ k₀ (struckPut b s) l₁ k₁
+    → Puts l₁ k₁ (endsPut s (endIn (x .text) (x .starts) (x .ends) (inRow 1 (x .left) i)) (endIn (x .text) (x .starts) (x .ends) (inRow 1 (x .right) i))) l₂ k₂
+    → Puts l₂ k₂ (restPut s (signed (inRow 4 (x .weight) i)) (marked b (inRow 1 (x .mark) i))) l₃ k₃
+    → Puts l₀ k₀ (linePut s (trenchOf x i)) l₃ k₃
+unfolding linePut trenchOf
+puts-row s x i b e p q r = rw (← e) (puts-append p (puts-append q r))

@@ -1,43 +1,71 @@
--- A table in lent columns as it is written: n, the names, which rows are in use, and the first m rows of the columns.
+-- A table in lent columns as it is written: a trench a row, whose ends are numbers, or names that are parts of a text.
 -- Assumes nothing.
-use Prim.Native.Nat.{ℕ, zero, suc, _+_, _*_, _≤_, _<_}
+use Prim.Native.Nat.{ℕ, zero, suc, _+_, _*_, _-_, _≤_}
+use lib.Dec.{eqb}
 use lib.ListN.{length, getD}
 use mathlib.Core.Bool.{Bool, not, cond}
 use mathlib.Core.List.{List, [], _∷_}
-use mathlib.Core.Option.{some}
-use Rattle.file_spec.specs.Reader.{Read, junctions}
-use Rattle.file_spec.specs.Writer.{linesText, countFields, rowsFields}
+use Rattle.file_meaning.specs.Means.{EndOf}
+use Rattle.file_spec.specs.Line.{Trench, End, number, name, marked}
+use Rattle.file_spec.specs.Writer.{endBytes}
+use Rattle.file_text.specs.steps.Spans.{part}
+use Rattle.rowset.specs.Bytes.{inRow}
+use Rattle.rowset.specs.Integers.{signed}
+use Rattle.rowset.specs.Words.{inWords}
+use Rattle.file_writer.specs.Forms.{textBy}
+use Rattle.file_writer.specs.RoundTrip.{Writable}
 
--- whether each of n rows from position k on, counted from 0, is struck: it is not in use
-unfoldable pub struckFrom : (ℕ → Bool) → ℕ → ℕ → List Bool
-struckFrom rows k zero = []
-struckFrom rows k (suc n) = not (rows (suc k)) ∷ struckFrom rows (suc k) n
+-- what is lent: a text, where each name begins and ends in it, the words of the rows in use, and the columns of the rows
+pub record Sheet : Type 0 where
+  pub text : List ℕ
+  pub starts : List ℕ
+  pub ends : List ℕ
+  pub words : List ℕ
+  pub left : List ℕ
+  pub right : List ℕ
+  pub weight : List ℕ
+  pub mark : List ℕ
 
--- the table as if it had been read: where junctions have names, 2, else 1
-unfoldable pub lentRead : Bool → List (List ℕ) → (n m : ℕ) → (rows : ℕ → Bool) → (left right weight mark : List ℕ) → Read
-lentRead named names n m rows left right weight mark =
+abbrev pub sheetOf : (text starts ends words left right weight mark : List ℕ) → Sheet
+sheetOf text starts ends words left right weight mark =
+    record { text = text; starts = starts; ends = ends; words = words; left = left; right = right; weight = weight; mark = mark }
+
+-- the name of a junction, counted from 1
+unfoldable pub nameOf : (text starts ends : List ℕ) → ℕ → List ℕ
+nameOf text starts ends v = part text (getD starts (v - 1) 0) (getD ends (v - 1) 0)
+
+-- a junction: its number, or its name where names are lent
+unfoldable pub endIn : (text starts ends : List ℕ) → ℕ → End
+endIn text starts ends v = cond (eqb (length starts) 0) (number v) (name (nameOf text starts ends v))
+
+-- row i as a trench; one that is not in use is struck, and has no mark
+unfoldable pub trenchOf : Sheet → ℕ → Trench
+trenchOf x i =
     record {
-      kind = cond named 2 1;
-      names = names;
-      namesAt = [];
-      told = some n;
-      left = left;
-      right = right;
-      weight = weight;
-      marks = mark;
-      struck = struckFrom rows 0 m;
-      rowsAt = [];
+      struck = not (inWords (x .words) i);
+      at = 0;
+      leftAt = 0;
+      left = endIn (x .text) (x .starts) (x .ends) (inRow 1 (x .left) i);
+      rightAt = 0;
+      right = endIn (x .text) (x .starts) (x .ends) (inRow 1 (x .right) i);
+      price = signed (inRow 4 (x .weight) i);
+      mark = marked (not (inWords (x .words) i)) (inRow 1 (x .mark) i);
     }
 
--- the text of its first m rows
-unfoldable pub columnsText : Read → ℕ → List ℕ
-columnsText r m = linesText (countFields (junctions r) ∷ rowsFields r 0 m)
+-- n rows from position k on, counted from 0
+unfoldable pub trenchesFrom : (ℕ → Trench) → ℕ → ℕ → List Trench
+trenchesFrom f k zero = []
+trenchesFrom f k (suc n) = f (suc k) ∷ trenchesFrom f (suc k) n
 
--- how long it can be: 31 bytes a row where junctions are numbers, and in general 25 and twice as many as the longest name has, but for the line of junctions.
--- Ends and marks are bytes, and n is a number that is read
+-- the first m rows
+abbrev pub trenchesOf : Sheet → ℕ → List Trench
+trenchesOf x m = trenchesFrom (trenchOf x) 0 m
+
+-- how long a text can be: 23 bytes a row and its ends, 21 for the line of junctions, and 22 for a header
+unfoldable pub room : ℕ → ℕ → ℕ
+room m longest = 43 + m * (23 + 2 * longest)
+
 abbrev pub LongestText : Type 0
 LongestText =
-    (named : Bool) (names : List (List ℕ)) (n m longest : ℕ) (rows : ℕ → Bool) (left right weight mark : List ℕ) → n ≤ 4294967295
-    → ((k : ℕ) → getD left k 0 < 256) → ((k : ℕ) → getD right k 0 < 256) → ((k : ℕ) → getD mark k 0 < 256)
-    → 3 ≤ longest → ((k : ℕ) → length (getD names k []) ≤ longest)
-    → length (columnsText (lentRead named names n m rows left right weight mark) m) ≤ 21 + m * (25 + 2 * longest)
+    (header : Bool) (s n longest : ℕ) (ts : List Trench) → Writable s n ts → 3 ≤ longest → ((e : End) → EndOf ts e → length (endBytes e) ≤ longest)
+    → length (textBy header s n ts) ≤ room (length ts) longest

@@ -1,3 +1,4 @@
+pub mod Forms
 pub mod RoundTrip
 pub mod Columns
 pub mod Trials

@@ -2,22 +2,20 @@
 use borrow.Author.Needs.{needs}
 use native.Mathlib.Omega.{arith}
 use Prim.Native.Nat.{ℕ, _-_, _≤_}
-use mathlib.Core.List.{List}
 use Rattle.decimal.proofs.Laws.{puts-length}
 use Rattle.decimal.specs.Puts.{Puts}
-use Rattle.file_text.specs.steps.Spans.{namesOf}
-use Rattle.slice.specs.Slices.{component}
 use Rattle.file_writer.proofs.Writes.{none-rows, puts-more, puts-done}
+use Rattle.file_writer.specs.Columns.{sheetOf, trenchOf}
 use Rattle.file_writer.specs.steps.Rows.{linePut, rowsPut}
 use Rattle.file_writer.proofs.put_rows.Statement.{statement}
 use Rattle.file_writer.proofs.put_rows.Tie as tie
 
 abbrev Inv-loop : tie.InvT-loop
-Inv-loop out₀ at m named text starts ends names rows left right weight mark next₀ i₀ out next i =
-    (i ≤ m) × Puts out₀ at (rowsPut (linePut named (namesOf text starts ends names) (component rows) left right weight mark) i) out next
+Inv-loop out₀ at s m text starts ends words left right weight mark next₀ i₀ out next i =
+    (i ≤ m) × Puts out₀ at (rowsPut (λ k. linePut s (trenchOf (sheetOf text starts ends words left right weight mark) k)) i) out next
 
 abbrev μ-loop : tie.MeasureT-loop
-μ-loop out₀ at m named text starts ends names rows left right weight mark next₀ i₀ out next i = m - i
+μ-loop out₀ at s m text starts ends words left right weight mark next₀ i₀ out next i = m - i
 
 loop-holds : tie.Need-loop-holds Inv-loop μ-loop
 loop-holds c = (omega arith, none-rows (omega arith) _)

@@ -1,39 +1,43 @@
--- A line of a table file as it is put, piece by piece. Used by proofs only.
+-- A table file as it is put, piece by piece. Used by proofs only.
 -- Assumes nothing.
 use Prim.Native.Nat.{ℕ, zero, suc}
-use mathlib.Core.Bool.{Bool, true, false, not, cond}
+use mathlib.Core.Bool.{Bool, true, false}
 use mathlib.Core.List.{List, [], _∷_, _++_}
 use lib.IntN.{ℤ}
 use lib.ListN.{getD}
 use Rattle.decimal.specs.Decimal.{natural, integer}
-use Rattle.file_spec.specs.Writer.{nameAt}
-use Rattle.rowset.specs.Bytes.{inRow}
-use Rattle.rowset.specs.Integers.{signed}
+use Rattle.file_spec.specs.Line.{Trench, End, marked}
+use Rattle.file_spec.specs.Writer.{endBytes}
 use Rattle.stp_words.specs.Bytes.{bytes}
 
 -- the number at position k of a column, 0 past its end
 unfoldable pub entryAt : List ℕ → ℕ → ℕ
 entryAt l k = getD l k 0
 
--- an end, and a semicolon
-unfoldable pub endPut : Bool → List (List ℕ) → ℕ → List ℕ
-endPut named names v = cond named (nameAt names v) (natural v) ++ (59 ∷ [])
+-- a word, and the byte after it
+unfoldable pub wordPut : List ℕ → ℕ → List ℕ
+wordPut w s = w ++ (s ∷ [])
 
-unfoldable pub struckPut : Bool → List ℕ
-struckPut true = bytes "struck;"
-struckPut false = []
+unfoldable pub headerPut : Bool → ℕ → List ℕ
+headerPut true s = wordPut (bytes "left") s ++ (wordPut (bytes "right") s ++ (wordPut (bytes "price") s ++ wordPut (bytes "mark") 10))
+headerPut false s = []
 
-unfoldable pub rowPut : Bool → List (List ℕ) → Bool → ℕ → ℕ → ℤ → ℕ → List ℕ
-rowPut named names struck a b p m =
-    struckPut struck ++ endPut named names a ++ endPut named names b ++ integer p ++ (59 ∷ []) ++ natural m ++ (10 ∷ [])
+unfoldable pub countPut : ℕ → ℕ → List ℕ
+countPut s n = wordPut (bytes "junctions") s ++ wordPut (natural n) 10
 
-unfoldable pub countPut : ℕ → List ℕ
-countPut n = bytes "junctions;" ++ natural n ++ (10 ∷ [])
+unfoldable pub struckPut : Bool → ℕ → List ℕ
+struckPut true s = wordPut (bytes "struck") s
+struckPut false s = []
 
--- the line of row i of columns
-unfoldable pub linePut : Bool → List (List ℕ) → (rows : ℕ → Bool) → (left right weight mark : List ℕ) → ℕ → List ℕ
-linePut named names rows left right weight mark i =
-    rowPut named names (not (rows i)) (inRow 1 left i) (inRow 1 right i) (signed (inRow 4 weight i)) (inRow 1 mark i)
+unfoldable pub endsPut : ℕ → End → End → List ℕ
+endsPut s a b = wordPut (endBytes a) s ++ wordPut (endBytes b) s
+
+unfoldable pub restPut : ℕ → ℤ → ℕ → List ℕ
+restPut s p m = wordPut (integer p) s ++ wordPut (natural m) 10
+
+-- a trench's line
+unfoldable pub linePut : ℕ → Trench → List ℕ
+linePut s t = struckPut (t .struck) s ++ (endsPut s (t .left) (t .right) ++ restPut s (t .price) (t .mark))
 
 -- the lines of the first k rows
 unfoldable pub rowsPut : (ℕ → List ℕ) → ℕ → List ℕ

@@ -1,0 +1,4 @@
+pub mod Checked
+pub mod Bytes
+pub mod Told
+pub mod Trials
