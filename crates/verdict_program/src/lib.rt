@@ -9,7 +9,7 @@ ghost use Rattle.verdict_spec.specs.VerdictText.{verdictText, verdictStatus};
 use libc::STDIN_FILENO;
 use libc::STDOUT_FILENO;
 use streams::first;
-use verdict::LINE_BYTES;
+use verdict_lines::LINE_BYTES;
 
 // One byte more than the longest text that is read, so that a longer one is noticed.
 const TEXT_BYTES: usize = 16777217;

@@ -1,8 +1,8 @@
--- `verdict::put_verdict` meets its contract: what is told of each of its cases. Assumes nothing.
+-- `verdict_lines::put_verdict` meets its contract: what is told of each of its cases. Assumes nothing.
 use borrow.Author.Needs.{needs}
-use Rattle.verdict.proofs.Laws.{verdict-passed, verdict-cheaper, verdict-refused}
-use Rattle.verdict.proofs.put_verdict.Statement.{statement}
-use Rattle.verdict.proofs.put_verdict.Tie as tie
+use Rattle.verdict_lines.proofs.Laws.{verdict-passed, verdict-cheaper, verdict-refused}
+use Rattle.verdict_lines.proofs.put_verdict.Statement.{statement}
+use Rattle.verdict_lines.proofs.put_verdict.Tie as tie
 
 returns : tie.Need-returns
 returns c = verdict-passed (c .before .before .before .before .before .v .given .1) (c .before .before .put-passed .ensures)

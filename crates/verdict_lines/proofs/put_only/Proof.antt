@@ -1,8 +1,8 @@
--- `verdict::put_only` meets its contract. Assumes nothing.
+-- `verdict_lines::put_only` meets its contract. Assumes nothing.
 use borrow.Author.Needs.{needs}
-use Rattle.verdict.proofs.Laws.{only-put, none-put}
-use Rattle.verdict.proofs.put_only.Statement.{statement}
-use Rattle.verdict.proofs.put_only.Tie as tie
+use Rattle.verdict_lines.proofs.Laws.{only-put, none-put}
+use Rattle.verdict_lines.proofs.put_only.Statement.{statement}
+use Rattle.verdict_lines.proofs.put_only.Tie as tie
 
 returns : tie.Need-returns
 returns c = only-put (c .before .before .before .before .before .if1 .taken) (c .before .before .put-text .ensures)

@@ -1,11 +1,11 @@
--- `verdict::put_cheaper` meets its contract. Assumes nothing.
+-- `verdict_lines::put_cheaper` meets its contract. Assumes nothing.
 use borrow.Author.Needs.{needs}
 use Rattle.decimal.proofs.Laws.{puts-append}
 use Rattle.stp_words.specs.Bytes.{bytes}
 use Rattle.verdict_spec.specs.VerdictText.{verdictLine}
-use Rattle.verdict.proofs.Laws.{cheaper-told}
-use Rattle.verdict.proofs.put_cheaper.Statement.{statement}
-use Rattle.verdict.proofs.put_cheaper.Tie as tie
+use Rattle.verdict_lines.proofs.Laws.{cheaper-told}
+use Rattle.verdict_lines.proofs.put_cheaper.Statement.{statement}
+use Rattle.verdict_lines.proofs.put_cheaper.Tie as tie
 use native.Mathlib.Omega.{arith}
 
 returns : tie.Need-returns

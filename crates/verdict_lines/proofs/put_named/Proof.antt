@@ -1,8 +1,8 @@
--- `verdict::put_named` meets its contract. Assumes nothing.
+-- `verdict_lines::put_named` meets its contract. Assumes nothing.
 use borrow.Author.Needs.{needs}
 use Rattle.decimal.proofs.Laws.{puts-append}
-use Rattle.verdict.proofs.put_named.Statement.{statement}
-use Rattle.verdict.proofs.put_named.Tie as tie
+use Rattle.verdict_lines.proofs.put_named.Statement.{statement}
+use Rattle.verdict_lines.proofs.put_named.Tie as tie
 
 returns : tie.Need-returns
 returns c = puts-append (c .before .before .before .before .before .before .put-text .ensures) (c .before .before .put-natural .ensures)
