@@ -183,14 +183,14 @@ cat >"$work/texts.c" <<'TEXT'
 #include "star.h"
 int main(void) {
     unsigned i, k;
-    for (i = 0; i <= 27; i++)
+    for (i = 0; i <= 30; i++)
         for (k = 0; k < i; k++)
             if (strlen(star_refusal_text(i)) < 10 || strcmp(star_refusal_text(i), star_refusal_text(k)) == 0) return 1;
     if (strcmp(star_refusal_text(STAR_NO_NETWORK), "no set of rows joins every junction") != 0) return 2;
     if (strcmp(star_refusal_text(STAR_NOT_JOINED), "the marked rows do not join all junctions") != 0) return 4;
-    for (i = 0; i < STAR_NOT_STRUCK; i++)
-        if (strcmp(star_refusal_text(STAR_NOT_STRUCK), star_refusal_text(i)) == 0) return 5;
-    if (strcmp(star_refusal_text(5), star_refusal_text(1000000)) != 0 || strcmp(star_refusal_text(28), star_refusal_text(5)) != 0) return 3;
+    for (i = 0; i < STAR_SHORT_TEXT; i++)
+        if (strcmp(star_refusal_text(STAR_SHORT_TEXT), star_refusal_text(i)) == 0) return 5;
+    if (strcmp(star_refusal_text(5), star_refusal_text(1000000)) != 0 || strcmp(star_refusal_text(31), star_refusal_text(5)) != 0) return 3;
     return strcmp(star_refusal_text(1000000), star_refusal_text((unsigned)-1)) != 0;
 }
 TEXT
