@@ -12,6 +12,7 @@ edits from nothing. The copies lie in memory where there is room for them.
 It ends in one line 'N passed, M failed'; the logs are in target/edits.
 """
 import concurrent.futures
+import contextlib
 import glob
 import hashlib
 import os
@@ -218,7 +219,8 @@ def chosen(names, work):
 
 
 def main(names):
-    run = chosen(names, work_folder())
+    work = work_folder()
+    run = chosen(names, work)
     parts = {edit: told.edit_seconds(crate.name) for crate in run for edit in crate.edits}
     progress, tried = told.Progress(parts, told.processors()), 0
 
@@ -234,6 +236,8 @@ def main(names):
 
     with concurrent.futures.ThreadPoolExecutor(told.processors()) as pool:
         results = list(pool.map(lambda crate: crate.run(say), run))
+    with contextlib.suppress(OSError):
+        os.rmdir(work)
     refused, failed = (sum(column) for column in zip((0, 0), *results))
     print(f'{refused} passed, {failed} failed')
     return failed != 0
