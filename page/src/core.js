@@ -12,6 +12,7 @@ export const MAX_JUNCTIONS = 255;
 export const MAX_ROWS = 1024;
 export const MAX_TEXT = 65536;
 export const MAX_FILE = 16777216;
+export const MAX_WRITTEN = 1 << 20; // of a table file, for names of up to 500 bytes
 export const MIN_PRICE = -2147483648;
 export const MAX_PRICE = 2147483647;
 export const REFUSED = 0;
@@ -68,6 +69,7 @@ export class Core {
     this.bend = room(8 * MAX_ROWS);
     this.nameFrom = room(4 * MAX_JUNCTIONS);
     this.nameTo = room(4 * MAX_JUNCTIONS);
+    this.written = room(MAX_WRITTEN);
     this.text = room(MAX_FILE + 1);
   }
 

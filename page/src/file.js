@@ -1,7 +1,8 @@
 // Table files: read by the core, in whose words lines that cannot stand are told, and written as
 // the console does (console/edit.c): a line that says the same stays byte for byte. A text here has
 // a character for each byte of the file.
-import { BAD_TEXT, MAX_FILE, PASSED, TOO_MANY_NAMES, TOO_MANY_ROWS } from './core.js';
+import { BAD_TEXT, MAX_FILE, MAX_WRITTEN, PASSED, TOO_MANY_NAMES } from './core.js';
+import { TOO_MANY_ROWS } from './core.js';
 import { fieldsChanged, fieldsOf, fieldsPart, fieldsWord } from './fields.js';
 
 /** @typedef {import('./core.js').Core} Core */
@@ -13,7 +14,7 @@ import { fieldsChanged, fieldsOf, fieldsPart, fieldsWord } from './fields.js';
 
 const TOLD = 20; // the most lines that are told
 const QUOTED = 40;
-const [LINE_FEED, RETURN, BLANK] = [10, 13, 32];
+const [LINE_FEED, RETURN, BLANK, SEMICOLON] = [10, 13, 32, 59];
 const ORDER_MARK = '\xef\xbb\xbf';
 
 /** What is wrong with a file, a sentence a line that cannot stand. */
@@ -216,15 +217,22 @@ export function fileAdd(file, p, at, ends, price, n) {
   return file.mark + [...first, ...lines, ...(instead < 0 ? last : [])].join('');
 }
 
-/** A plan as a table file: fields are parted by blanks, and where there are names, by semicolons,
- * which no name holds.
- * @param {Plan} p @param {string[]} names */
-export function fileOfPlan(p, names) {
-  const by = names.length > 0 ? ';' : ' ';
-  /** @param {number} v */
-  const end = (v) => (names.length > 0 ? names[v - 1] : v);
-  const rows = Array.from(p.left, (left, i) => {
-    return `${[end(left), end(p.right[i]), p.price[i], p.mark[i]].join(by)}\n`;
-  });
-  return `junctions${by}${p.n}\n${rows.join('')}`;
+/** A plan as a table file, which the core writes: fields are parted by blanks, and where there are
+ * names, by semicolons below a header. Nothing where the core refuses to.
+ * @param {Core} core @param {Plan} p @param {string[]} names */
+export function fileOfPlan(core, p, names) {
+  const length = core.putText(names.join(''), MAX_FILE);
+  names.reduce((at, name, k) => {
+    core.view.setUint32(core.nameFrom + 4 * k, at, true);
+    core.view.setUint32(core.nameTo + 4 * k, at + name.length, true);
+    return at + name.length;
+  }, 0);
+  core.put(p);
+  const { use, left, right, weight, mark, written } = core;
+  const [m, count] = [p.m, names.length].map(BigInt);
+  const table = [use, 16n, left, m, right, m, weight, 4n * m, mark, m];
+  const places = [core.text, BigInt(length), core.nameFrom, count, core.nameTo, count];
+  const out = [names.length > 0 ? SEMICOLON : BLANK, written, BigInt(MAX_WRITTEN)];
+  const { kind, amount } = core.ask('star_write_table', p.n, ...table, ...places, ...out);
+  return kind === PASSED ? fileText(core.memory.subarray(written, written + amount)) : '';
 }

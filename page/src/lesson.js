@@ -47,7 +47,7 @@ export class Lesson {
     app.saved = true;
     const name = `Exercise ${seed}`;
     const { plan } = this.exercise;
-    const { file } = fileRead(app.core, fileOfPlan(plan, []));
+    const { file } = fileRead(app.core, fileOfPlan(app.core, plan, []));
     const state = { file, plan, name, coordinates: null };
     app.show(new History(state));
   }

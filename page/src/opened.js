@@ -5,7 +5,6 @@ import { geojsonRead } from './geojson.js';
 import { layoutCoordinates } from './layout.js';
 import { planOfRows } from './plan.js';
 import { rowsFault, rowsNames } from './rows.js';
-import { trench } from './words.js';
 
 /** @typedef {import('./core.js').Core} Core */
 /** @typedef {import('./plan.js').Plan} Plan */
@@ -22,26 +21,21 @@ function openedUtf8(bytes) {
   }
 }
 
-/** A plan as a table file with the names of its junctions, in the order in which its lines meet
- * them; without them where what is written with them is not read as it was: then they are shown
- * alone.
+/** A plan as a table file with the names of its junctions, which have their numbers in the order in
+ * which its lines meet them then; without them where the core does not write them so that each is
+ * read back: then they are shown alone.
  * @param {Core} core @param {Plan} plan @param {number[][]} coordinates @returns {Opened} */
 function openedNamed(core, plan, coordinates) {
   const utf8 = new TextEncoder();
   const names = plan.names.map((name) => fileText(utf8.encode(name)));
-  try {
-    const read = fileRead(core, fileOfPlan(plan, names));
-    const rows = [plan, read.plan].map((p) => [p.n, [...p.left].map((_, i) => trench(p, i))]);
-    const all = read.plan.names.length === plan.n;
-    if (all && JSON.stringify(rows[0]) === JSON.stringify(rows[1])) {
-      const at = read.plan.names.map((name) => coordinates[plan.names.indexOf(name)]);
-      return { ...read, coordinates: at };
-    }
-  } catch (fault) {
-    if (!(fault instanceof FileFault)) throw fault;
+  const text = fileOfPlan(core, plan, names);
+  const read = text === '' ? null : fileRead(core, text);
+  if (!read || read.plan.names.length !== plan.n) {
+    const { file } = fileRead(core, fileOfPlan(core, plan, []));
+    return { file, plan, coordinates };
   }
-  const { file } = fileRead(core, fileOfPlan(plan, []));
-  return { file, plan, coordinates };
+  const at = read.plan.names.map((name) => coordinates[plan.names.indexOf(name)]);
+  return { ...read, coordinates: at };
 }
 
 /** @param {Core} core @param {Uint8Array} bytes @returns {Opened} */
@@ -59,7 +53,7 @@ function openedStp(core, body) {
   const { kind, number, amount, plan } = core.stp(length);
   if (kind !== PASSED || !plan) throw new FileFault(` ${core.refused(number, amount)}`);
   const coordinates = layoutCoordinates(core, length, plan.n);
-  return { ...fileRead(core, fileOfPlan(plan, [])), coordinates };
+  return { ...fileRead(core, fileOfPlan(core, plan, [])), coordinates };
 }
 
 /** @param {Core} core @param {Uint8Array} bytes @param {string} name @returns {Opened} */
