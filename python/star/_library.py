@@ -5,7 +5,7 @@ from ctypes import POINTER, Structure, c_char_p, c_int, c_int32, c_int64, c_size
 from ctypes import c_uint, c_uint8, c_uint32, c_uint64, c_void_p
 from typing import Any
 
-MAX_JUNCTIONS, MAX_ROWS, MAX_LIST, MAX_TEXT = 255, 1024, 6370, 32768
+MAX_JUNCTIONS, MAX_ROWS, MAX_LIST = 255, 1024, 6370
 MAX_READ, MAX_FILE, MAX_STEPS, COLUMN_WORDS = 65536, 1 << 24, 2 * MAX_ROWS, 16
 MIN_PRICE, MAX_PRICE = -2**31, 2**31 - 1
 REFUSED, PASSED, LIGHTER = 0, 1, 2
@@ -53,6 +53,11 @@ class CFile(Structure):
     """struct star_file"""
     _fields_ = [("kind", c_uint), ("number", c_uint), ("names", c_uint), ("m", c_uint),
                 ("n", c_uint32), ("place", c_uint32)]
+
+
+class CWritten(Structure):
+    """struct star_written"""
+    _fields_ = [("kind", c_uint), ("number", c_uint), ("length", c_uint32), ("place", c_uint32)]
 
 
 class CRecord(Structure):
@@ -117,8 +122,12 @@ detours = _function("table_detours", CAnswer, _table, c_void_p)
 groups = _function("table_groups", CAnswer, _table, c_void_p, c_void_p)
 paths = _function("table_paths", CAnswer, _table, c_uint32, c_void_p)
 read = _function("table_read", CImported, _table, c_char_p, c_size_t)
-write = _function("table_write", c_size_t, _table, c_void_p, c_size_t)
 # The reader of table files: the text, then each column with its length, then the answer.
 read_table = _function("read_table", c_uint32, c_char_p, c_size_t, *9 * (c_void_p, c_size_t))
 read_file = _function("read_file", CFile, c_void_p)
 line_of = _function("line_of", c_uint64, c_char_p, c_size_t, c_uint32)
+# The writer: how many junctions, the columns, a text and where names stand in it, the byte between
+# fields, the room, the answer.
+write_table = _function("write_table", c_uint32, c_uint32, *5 * (c_void_p, c_size_t), c_char_p,
+                        c_size_t, *2 * (c_void_p, c_size_t), c_uint8, *2 * (c_void_p, c_size_t))
+read_written = _function("read_written", CWritten, c_void_p)

@@ -107,6 +107,11 @@ class Content:
     def _used(self) -> List[int]:
         return bits(bytes(self._t.in_use))
 
+    def _entered(self) -> int:
+        """The last row that is in use or was struck."""
+        last = number_of(bytes(self._t.in_use)).bit_length()
+        return max(last, len(bytes(self._t.left).rstrip(b"\0")))
+
     @property
     def rows(self) -> Tuple[Row, ...]:
         """The rows in use, from the top."""

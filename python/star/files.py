@@ -3,7 +3,7 @@ GeoJSON."""
 import ctypes
 import os
 import re
-from typing import Any, Callable, Dict, Union
+from typing import Any, Callable, Dict, List, Union
 
 from . import _library as lib
 from .answers import Refused, Unfit
@@ -100,17 +100,56 @@ def is_stp(data: bytes) -> bool:
 
 
 def to_text(table: Content) -> str:
-    """The planner's table, as the console reads it: junctions by their numbers.
+    """The planner's table, as the console reads it, written by the core: junctions by their names
+    where the table has names that such a file can have, else by their numbers. Fields are parted by
+    blanks, or by semicolons where a name holds what parts fields.
 
     >>> print(Table(3, [(1, 2, 5, 1), (2, 3, 4)]).to_text(), end="")
     junctions 3
     1 2 5 1
     2 3 4 0
+    >>> print(Table(["mill", "old lock"], [("mill", "old lock", 5)]).to_text(), end="")
+    left;right;price;mark
+    junctions;2
+    mill;old lock;5;0
     """
-    text = ctypes.create_string_buffer(lib.MAX_TEXT)
+    names = _names(table)
     with table._lock:
-        lib.write(table._at, text, lib.MAX_TEXT)
-    return text.value.decode()
+        for separator in b" ;" if names else b"":
+            written = _written(table, names, separator)
+            if not isinstance(written, Refused):
+                return written.decode("utf-8", "surrogateescape")
+        written = _written(table, [], ord(" "))
+    if isinstance(written, Refused):
+        raise written
+    return written.decode()
+
+
+def _names(table: Content) -> List[bytes]:
+    """The names of the first junctions; none where one is no text, or where one behind them has a
+    name that is not its number."""
+    given = table._names or ()
+    count = next((k for k, name in enumerate(given) if not isinstance(name, str)), len(given))
+    if any(name != k for k, name in enumerate(given[count:], count + 1)):
+        return []
+    return [bytes_of(str(name)) for name in given[:count]]
+
+
+def _written(table: Content, names: List[bytes], separator: int) -> Union[bytes, Refused]:
+    """The text of a table, or its refusal: the rows down to the last that is in use or struck."""
+    t, m, at = table._t, table._entered(), 0
+    begun, ended, answer = lib.Names(), lib.Names(), lib.Answer()
+    for k, name in enumerate(names):
+        begun[k], ended[k] = at, at + len(name)
+        at = ended[k]
+    room = ctypes.create_string_buffer(43 + lib.MAX_ROWS * (23 + 2 * max(3, *map(len, names), 3)))
+    lib.write_table(t.n, t.in_use, len(t.in_use), t.left, m, t.right, m, t.weight, 4 * m, t.mark, m,
+                    b"".join(names), at, begun, len(names), ended, len(names), separator, room,
+                    len(room), answer, len(answer))
+    told = lib.read_written(answer)
+    if told.kind == lib.REFUSED:
+        return Refused(told.number, told.place)
+    return ctypes.string_at(room, told.length)
 
 
 def content(path: Path) -> bytes:

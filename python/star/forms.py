@@ -75,7 +75,7 @@ class Forms(Content):
         return from_text(text)
 
     def to_text(self) -> str:
-        """The planner's table, as the console reads it: junctions by their numbers."""
+        """The planner's table, as the console reads it: see star.files.to_text."""
         from .files import to_text
         return to_text(self)
 

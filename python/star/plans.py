@@ -87,7 +87,5 @@ class Plans(Content):
         if not ends:
             return ends
         last = number_of(bytes(self._t.in_use)).bit_length()
-        entered = last
-        if ends[-1] > last:
-            entered = max(last, len(bytes(self._t.left).rstrip(b"\0")))
+        entered = self._entered() if ends[-1] > last else last
         return ends[:-1] + [lib.MAX_ROWS] if last <= ends[-1] <= entered else ends

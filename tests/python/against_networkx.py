@@ -316,8 +316,11 @@ class AgainstNetworkx(unittest.TestCase):
         back = star.Table.from_networkx(t.to_networkx())
         self.assertEqual(sorted(back.junctions, key=str), sorted(t.junctions, key=str))
         self.assertEqual(self.edges(back), self.edges(t))
-        if not named:
-            self.assertEqual(star.Table.from_text(t.to_text()), t)
+        text = star.Table.from_text(t.to_text())
+        if named:
+            self.assertEqual((text.n, self.edges(text)), (t.n, self.edges(t)))
+        else:
+            self.assertEqual(text, t)
         if table:
             self.assertEqual(self.edges(star.Table.from_csv(t.to_csv())), self.edges(t))
 

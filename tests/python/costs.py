@@ -25,6 +25,14 @@ def yard():
     return t
 
 
+def written(t):
+    """The library's writer over the table."""
+    c, answer = t._t, lib.Answer()
+    room = ctypes.create_string_buffer(29739)
+    lib.write_table(4, c.in_use, 16, c.left, 5, c.right, 5, c.weight, 20, c.mark, 5, b"", 0, None, 0,
+                    None, 0, 32, room, len(room), answer, 16)
+
+
 def methods():
     """Each method, and the function of the library that it calls, with its words."""
     t = yard()
@@ -33,7 +41,6 @@ def methods():
     matrix, records, forests = (ctypes.c_uint64 * 64)(), lib.Records(), lib.Column()
     numbers, first, rings = lib.Numbers(), lib.Junctions(), lib.Column()
     text = ctypes.create_string_buffer(lib.MAX_LIST)
-    table = ctypes.create_string_buffer(lib.MAX_TEXT)
     return {
         "check": (t.check, lambda: lib.check(at)),
         "other": (t.other, lambda: lib.other(at)),
@@ -61,7 +68,7 @@ def methods():
         "plan = ..": (lambda: setattr(t, "plan", (1, 2, 4)), None),
         "rows": (lambda: t.rows, None),
         "len": (lambda: len(t), None),
-        "to_text": (t.to_text, lambda: lib.write(at, table, lib.MAX_TEXT)),
+        "to_text": (t.to_text, lambda: written(t)),
     }
 
 

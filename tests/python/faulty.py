@@ -168,6 +168,8 @@ FAULTS = {
                           NETWORKX + "test_total_and_digs"),
     "restored-marked": (changes.Changes, "restore", restored_marked, NETWORKX + "test_changes"),
     "names-lost": (content.Content, "_take_names", names_lost, PACKAGE + "Forms.test_named_tables"),
+    "written-by-numbers": (files, "_names", lambda table: [],
+                           PACKAGE + "Forms.test_named_tables"),
     "rows-without-names": (main, "trench", rows_without_names, PACKAGE + "Forms.test_command"),
     "csv-by-python": (formats, "_by_the_core", csv_by_python, PACKAGE + "Forms.test_csv"),
     "merge-forgets": (changes.Changes, "merge", lambda self: {}, NETWORKX + "test_changes"),

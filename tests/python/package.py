@@ -292,10 +292,21 @@ class Forms(unittest.TestCase):
         self.assertEqual(t.junctions, ("mill", "lock gate", "quay", 4, 5))
         self.assertEqual([tuple(row) for row in t.rows],
                          [(1, "mill", "lock gate", 5, True), (2, "lock gate", "quay", 3, False)])
+        self.assertEqual(t.to_text(), "left;right;price;mark\njunctions;5\nmill;lock gate;5;1\n"
+                         "lock gate;quay;3;0\nstruck;quay;mill;9;0\n")
+        self.assertEqual(star.Table.from_text(t.to_text()), t)
         t.restore(3)
         self.assertEqual((t.rows[2].right, t.add("quay", 4, 2), t.n), ("mill", 4, 5))
         self.assertEqual(t.groups().groups, (("mill", "lock gate"), ("quay",), (4,), (5,)))
         raw = star.Table.from_text(b"a\xff b 5\n")
+        self.assertEqual((star.Table.from_text(raw.to_text()), raw.to_text().split("\n")[1]),
+                         (raw, "a\udcff b 5 0"))
+        for names in (["1", "2"], ["a", 'b"'], ["a", ("b", 1)], ["a", 7], ["#a", "b"]):
+            odd = star.Table(names, [(names[0], names[1], 5)])
+            self.assertEqual(odd.to_text(), "junctions 2\n1 2 5 0\n")
+        with self.assertRaises(star.Refused) as caught:
+            star.Table(2, [(1, 2, 5), (1, 300, 5)]).to_text()
+        self.assertEqual((caught.exception.number, caught.exception.place), (4, 2))
         self.assertEqual(raw.junctions, ("a\udcff", "b"))
         few = star.Table.from_text("a b 5\nb c 5\njunctions 2\n")
         self.assertEqual(few.junctions, ("a", "b"))

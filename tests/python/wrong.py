@@ -253,7 +253,8 @@ class Threads(unittest.TestCase):
         "restore": lambda t: t.restore(6), "total": lambda t: t.total(),
         "best": lambda t: t.best(), "detours": lambda t: t.detours(),
         "groups": lambda t: t.groups(),
-        "merge": lambda t: t.merge(), "mark": lambda t: t.mark(1), "write": lambda t: t.to_text()}
+        "merge": lambda t: t.merge(), "mark": lambda t: t.mark(1),
+        "write_table": lambda t: t.to_text()}
 
     def test_every_call_holds_the_lock(self):
         """A call of the library is made by the one thread that holds the table's lock."""
@@ -274,7 +275,8 @@ class Threads(unittest.TestCase):
         self.assertEqual(seen, dict.fromkeys(self.CALLS, True))
         functions = {name for name, value in vars(lib).items() if hasattr(value, "argtypes")}
         self.assertEqual(functions - set(self.CALLS), {"version", "refusal_text", "init", "read",
-                                                       "read_table", "read_file", "line_of"})
+                                                       "read_table", "read_file", "line_of",
+                                                       "read_written"})
 
     def test_one_table_from_several_threads(self):
         """Each answer is a whole one, whatever the others do."""
