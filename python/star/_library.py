@@ -55,11 +55,6 @@ class CFile(Structure):
                 ("n", c_uint32), ("place", c_uint32)]
 
 
-class CWritten(Structure):
-    """struct star_written"""
-    _fields_ = [("kind", c_uint), ("number", c_uint), ("length", c_uint32), ("place", c_uint32)]
-
-
 class CRecord(Structure):
     """struct star_record"""
     _fields_ = [("kind", c_uint32), ("out", c_uint32), ("into", c_uint32)]
@@ -130,4 +125,3 @@ line_of = _function("line_of", c_uint64, c_char_p, c_size_t, c_uint32)
 # fields, the room, the answer.
 write_table = _function("write_table", c_uint32, c_uint32, *5 * (c_void_p, c_size_t), c_char_p,
                         c_size_t, *2 * (c_void_p, c_size_t), c_uint8, *2 * (c_void_p, c_size_t))
-read_written = _function("read_written", CWritten, c_void_p)

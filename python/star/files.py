@@ -3,6 +3,8 @@ GeoJSON."""
 import ctypes
 import os
 import re
+import struct
+from itertools import accumulate
 from typing import Any, Callable, Dict, List, Union
 
 from . import _library as lib
@@ -115,20 +117,22 @@ def to_text(table: Content) -> str:
     """
     names = _names(table)
     with table._lock:
-        for separator in b" ;" if names else b"":
-            written = _written(table, names, separator)
-            if not isinstance(written, Refused):
-                return written.decode("utf-8", "surrogateescape")
-        written = _written(table, [], ord(" "))
+        written = _written(table, names, 32)
+        if names and isinstance(written, Refused):
+            written = _written(table, names, 59)
+        if names and isinstance(written, Refused):
+            written = _written(table, [], 32)
     if isinstance(written, Refused):
         raise written
-    return written.decode()
+    return written.decode("utf-8", "surrogateescape")
 
 
 def _names(table: Content) -> List[bytes]:
     """The names of the first junctions; none where one is no text, or where one behind them has a
     name that is not its number."""
-    given = table._names or ()
+    given = table._names
+    if given is None:
+        return []
     count = next((k for k, name in enumerate(given) if not isinstance(name, str)), len(given))
     if any(name != k for k, name in enumerate(given[count:], count + 1)):
         return []
@@ -136,20 +140,21 @@ def _names(table: Content) -> List[bytes]:
 
 
 def _written(table: Content, names: List[bytes], separator: int) -> Union[bytes, Refused]:
-    """The text of a table, or its refusal: the rows down to the last that is in use or struck."""
-    t, m, at = table._t, table._entered(), 0
-    begun, ended, answer = lib.Names(), lib.Names(), lib.Answer()
-    for k, name in enumerate(names):
-        begun[k], ended[k] = at, at + len(name)
-        at = ended[k]
-    room = ctypes.create_string_buffer(43 + lib.MAX_ROWS * (23 + 2 * max(3, *map(len, names), 3)))
-    lib.write_table(t.n, t.in_use, len(t.in_use), t.left, m, t.right, m, t.weight, 4 * m, t.mark, m,
-                    b"".join(names), at, begun, len(names), ended, len(names), separator, room,
-                    len(room), answer, len(answer))
-    told = lib.read_written(answer)
-    if told.kind == lib.REFUSED:
-        return Refused(told.number, told.place)
-    return ctypes.string_at(room, told.length)
+    """The text of a table with a byte between fields, or its refusal: the rows down to the last that
+    is in use or struck."""
+    t, m, answer, longest = table._t, table._entered(), lib.Answer(), 3
+    begun = ended = None
+    if names:
+        places = [0, *accumulate(map(len, names))]
+        begun, ended = lib.Names(*places[:-1]), lib.Names(*places[1:])
+        longest = max(3, max(map(len, names)))
+    text, count = b"".join(names), len(names)
+    room = ctypes.create_string_buffer(43 + lib.MAX_ROWS * (23 + 2 * longest))
+    lib.write_table(t.n, t.in_use, lib.COLUMN_WORDS, t.left, m, t.right, m, t.weight, 4 * m, t.mark,
+                    m, text, len(text), begun, count, ended, count, separator, room, len(room),
+                    answer, len(answer))
+    kind, number, amount = struct.unpack("<2B6xQ", answer)
+    return ctypes.string_at(room, amount) if kind == lib.PASSED else Refused(number, amount)
 
 
 def content(path: Path) -> bytes:

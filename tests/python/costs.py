@@ -31,6 +31,7 @@ def written(t):
     room = ctypes.create_string_buffer(29739)
     lib.write_table(4, c.in_use, 16, c.left, 5, c.right, 5, c.weight, 20, c.mark, 5, b"", 0, None, 0,
                     None, 0, 32, room, len(room), answer, 16)
+    return ctypes.string_at(room, 40).decode()
 
 
 def methods():

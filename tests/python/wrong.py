@@ -275,8 +275,7 @@ class Threads(unittest.TestCase):
         self.assertEqual(seen, dict.fromkeys(self.CALLS, True))
         functions = {name for name, value in vars(lib).items() if hasattr(value, "argtypes")}
         self.assertEqual(functions - set(self.CALLS), {"version", "refusal_text", "init", "read",
-                                                       "read_table", "read_file", "line_of",
-                                                       "read_written"})
+                                                       "read_table", "read_file", "line_of"})
 
     def test_one_table_from_several_threads(self):
         """Each answer is a whole one, whatever the others do."""
