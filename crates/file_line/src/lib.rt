@@ -314,9 +314,8 @@ fn count_line(text: &[u8], at: usize, x: Fields) -> Line
     }
 }
 
-// A line: what its fields say.
+// A line: what its fields say. What is past the text's end is not there.
 pub fn line_of(text: &[u8], from: usize, to: usize) -> Line
-    requires { ⌜ (from ≤ to) × (to ≤ length (now text)) ⌝ }
     ensures { λ r. ⌜ lineIn (now (text .entry)) r ≡ lineOf (pieceAt (now (text .entry)) from to) ⌝ }
     ensures good { λ r. ⌜ Good (now (text .entry)) r ⌝ }
 {

@@ -1,6 +1,6 @@
 // The bytes of a table file: names compared and looked up among those met so far, and the pieces of a line.
 ghost use mathlib.Core.Path.{_≡_};
-ghost use Prim.Native.Nat.{ℕ, _+_, _≤_, _<_, max};
+ghost use Prim.Native.Nat.{ℕ, _+_, _≤_, _<_, min, max};
 ghost use lib.ListN.{length, take, drop, set};
 ghost use mathlib.Core.Bool.{cond};
 ghost use Rattle.file_spec.specs.Names.{equal, position, met, metAt};
@@ -37,7 +37,7 @@ pub fn equal(a: &[u8], b: &[u8]) -> bool
 }
 
 // The position of a name among the first `count` of the names met so far, which are kept by their places in the text; `count` where it is new.
-pub fn find_name(
+fn find_name(
     text: &[u8],
     starts: &[u32; NAMES],
     ends: &[u32; NAMES],
@@ -91,11 +91,10 @@ fn ends_line(b: u8) -> bool
     b == 10 || b == 13
 }
 
-// The end of the line that a place stands in.
+// The end of the line that a place stands in; a place past the text is its own.
 pub fn line_end(text: &[u8], at: usize) -> usize
-    requires { ⌜ at ≤ length (now text) ⌝ }
     ensures { λ r. ⌜ r ≡ firstAt endsLine at (part (now (text .entry)) at (length (now (text .entry)))) ⌝ }
-    ensures bounds { λ r. ⌜ (at ≤ r) × (r ≤ length (now (text .entry))) ⌝ }
+    ensures bounds { λ r. ⌜ (at ≤ r) × (r ≤ max at (length (now (text .entry)))) ⌝ }
 {
     let mut i = at;
     while i < text.len() {
@@ -167,7 +166,7 @@ fn trim(text: &[u8], from: usize, to: usize) -> Part
 }
 
 // The content of a line: without its comment and the blanks around.
-pub fn content_of(text: &[u8], from: usize, to: usize) -> Part
+fn content_of(text: &[u8], from: usize, to: usize) -> Part
     requires { ⌜ (from ≤ to) × (to ≤ length (now text)) ⌝ }
     ensures { λ r. ⌜ pieceAt (now (text .entry)) (r .from) (r .to) ≡ content (pieceAt (now (text .entry)) from to) ⌝ }
     ensures bounds { λ r. ⌜ (from ≤ r .from) × (r .from ≤ r .to) × (r .to ≤ to) ⌝ }
@@ -281,14 +280,44 @@ fn collect(text: &[u8], from: usize, to: usize, sep: u8) -> Fields
     x
 }
 
-// The fields of a line.
-pub fn fields_of(text: &[u8], from: usize, to: usize) -> Fields
+// The fields of a line that lies in the text.
+fn fields_in(text: &[u8], from: usize, to: usize) -> Fields
     requires { ⌜ (from ≤ to) × (to ≤ length (now text)) ⌝ }
     ensures { λ r. ⌜ FieldsRead (now (text .entry)) (fields (pieceAt (now (text .entry)) from to)) (r .count) (r .from) (r .to) ⌝ }
 {
     let p = content_of(text, from, to);
     let sep = separator_of(text, p.from, p.to);
     collect(text, p.from, p.to, sep)
+}
+
+// The fields of nothing.
+fn no_fields() -> Fields
+    ensures { λ r. ⌜ (r .count ≡ 0) × (length (r .from) ≡ 5) × (length (r .to) ≡ 5) ⌝ }
+{
+    Fields {
+        seen: 0,
+        count: 0,
+        from: [0usize; FIELDS],
+        to: [0usize; FIELDS],
+    }
+}
+
+// The lesser of two places.
+fn lesser(a: usize, b: usize) -> usize
+    ensures { λ r. ⌜ r ≡ min a b ⌝ }
+{
+    if a < b { a } else { b }
+}
+
+// The fields of a line, of which what is past the text's end is not there.
+pub fn fields_of(text: &[u8], from: usize, to: usize) -> Fields
+    ensures { λ r. ⌜ FieldsRead (now (text .entry)) (fields (pieceAt (now (text .entry)) from to)) (r .count) (r .from) (r .to) ⌝ }
+{
+    let high = lesser(to, text.len());
+    if high < from {
+        return no_fields();
+    }
+    fields_in(text, from, high)
 }
 
 // The position of a name among those met so far; one that is new is added after the `count` others, while there is room.

@@ -33,19 +33,13 @@ begun c =
     let p = c .before .before .pre in
     (λ t. p .0 .1, omega arith, p .1 .0, λ t. p .1 .1, λ t. p .1 .1, sym (start _ _ _ _))
 
-line-end-requires : tie.Need-line-end-requires Inv-loop μ-loop
-line-end-requires c κs = c .before .loop .inv .0 (c .loop-test .taken)
-
-line-of-requires : tie.Need-line-of-requires Inv-loop μ-loop
-line-of-requires c κs = c .line-end .ensures .1
-
 take-line-requires : tie.Need-take-line-requires Inv-loop μ-loop
 take-line-requires c κs =
     let i = c .before .before .before .before .before .before .before .before .before .before .before .before .loop .inv in
     ((c .before .before .before .before .before .before .before .before .before .before .before .before .before .before .before .pre .0 .0, c .before .before .before .before .before .before .before .before .before .line-of .ensures .1), (i .2, i .3 (c .before .before .before .before .before .before .before .before .before .before .before .loop-test .taken)))
 
 add-at : tie.Need-add-at Inv-loop μ-loop
-add-at c = omega (arith, c .before .before .before .before .before .before .before .before .before .before .before .before .before .line-end .ensures .1, c .before .before .before .before .before .before .before .before .before .before .before .before .before .before .before .before .before .before .pre .0 .0)
+add-at c = omega (arith, c .before .before .before .before .before .before .before .before .before .before .before .before .before .line-end .ensures .1, c .before .before .before .before .before .before .before .before .before .before .before .before .before .before .before .loop .inv .1, c .before .before .before .before .before .before .before .before .before .before .before .before .before .before .before .before .before .before .pre .0 .0)
 
 loop-less : tie.Need-loop-less Inv-loop μ-loop
 loop-less c = omega (arith, c .before .before .before .before .before .before .before .before .before .before .before .before .before .line-end .ensures .1, c .before .before .before .before .before .before .before .before .before .before .before .before .before .before .before .loop .inv .0 (c .before .before .before .before .before .before .before .before .before .before .before .before .before .before .loop-test .taken))
@@ -54,15 +48,16 @@ loop-again : tie.Need-loop-again Inv-loop μ-loop
 loop-again c =
     let i = c .before .before .before .before .before .before .before .before .before .before .before .before .before .before .before .loop .inv in
     let e = c .before .before .before .before .before .before .before .before .before .before .before .before .before .line-end .ensures in
+    let inside = i .0 (c .before .before .before .before .before .before .before .before .before .before .before .before .before .before .loop-test .taken) in
     let t = c .before .before .take-line .ensures in
     let a = c .before .before .take-line .result .broken in
     let text = c .before .before .before .before .before .before .before .before .before .before .before .before .before .before .before .before .before .before .args .text .now in (
       λ m. let l = ltb-true (c .before .before .before .before .before .before .before .before .before .before .before .before .before .line-end .result) (length text) (and-right (not a) _ (sym (c .both .ensures) ∙ m)) in omega arith,
-      omega (arith, e .1),
+      omega (arith, e .1, inside),
       t .1 .0,
       λ m. t .1 .1 (and-left a _ (sym (c .both .ensures) ∙ m)),
       λ b. t .1 .1 b,
-      i .5 ∙ line-turn text (c .before .before .before .before .before .before .before .before .before .before .before .before .before .before .before .loop .at) (c .before .before .before .before .before .before .before .before .before .before .before .before .before .line-end .result) (i .0 (c .before .before .before .before .before .before .before .before .before .before .before .before .before .before .loop-test .taken)) (e .0) (e .1 .1) _ _ _ (ap (next _) (sym (c .before .before .before .before .before .before .before .before .before .before .before .before .line-of .ensures .0)) ∙ t .0) _ _ (c .before .before .before .before .before .before .before .before .before .before .before .before .before .before .loop-test .taken) (c .both .ensures) _,
+      i .5 ∙ line-turn text (c .before .before .before .before .before .before .before .before .before .before .before .before .before .before .before .loop .at) (c .before .before .before .before .before .before .before .before .before .before .before .before .before .line-end .result) (i .0 (c .before .before .before .before .before .before .before .before .before .before .before .before .before .before .loop-test .taken)) (e .0) (omega (arith, e .1 .1, inside)) _ _ _ (ap (next _) (sym (c .before .before .before .before .before .before .before .before .before .before .before .before .line-of .ensures .0)) ∙ t .0) _ _ (c .before .before .before .before .before .before .before .before .before .before .before .before .before .before .loop-test .taken) (c .both .ensures) _,
     )
 
 returns : tie.Need-returns Inv-loop μ-loop
@@ -70,4 +65,4 @@ returns c = let i = c .before .loop .inv in (i .5 ∙ over _ (c .before .loop .a
 
 pub read-lines-spec : {M : Type 1} → statement M
 read-lines-spec =
-    tie.close (tie.spec Inv-loop μ-loop (λ c κs. search needs) begun line-end-requires line-of-requires take-line-requires (λ c κs. search needs) add-at loop-less loop-again returns)
+    tie.close (tie.spec Inv-loop μ-loop (λ c κs. search needs) begun (λ c κs. search needs) (λ c κs. search needs) take-line-requires (λ c κs. search needs) add-at loop-less loop-again returns)

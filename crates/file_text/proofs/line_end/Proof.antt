@@ -1,5 +1,5 @@
 -- `file_text::line_end` meets its contract. Assumes nothing.
-use Prim.Native.Nat.{_-_, _≤_}
+use Prim.Native.Nat.{_-_, _≤_, max}
 use borrow.Author.Needs.{needs}
 use lib.ListN.{length}
 use mathlib.Core.Path.{_≡_, refl, sym, _∙_}
@@ -11,7 +11,7 @@ use Rattle.file_text.proofs.line_end.Statement.{statement}
 use Rattle.file_text.proofs.line_end.Tie as tie
 
 abbrev Inv-loop : tie.InvT-loop
-Inv-loop text at i₀ i = (at ≤ i) × (i ≤ length text) × (firstAt endsLine i (part text i (length text)) ≡ firstAt endsLine at (part text at (length text)))
+Inv-loop text at i₀ i = (at ≤ i) × (i ≤ max at (length text)) × (firstAt endsLine i (part text i (length text)) ≡ firstAt endsLine at (part text at (length text)))
 
 abbrev μ-loop : tie.MeasureT-loop
 μ-loop text at i₀ i = length text - i
