@@ -133,10 +133,19 @@ int command_build(struct table *t, const struct options *with, struct output *o)
     return EXIT_PASSED;
 }
 
+static int table_csv(struct output *o, const struct table *t) {
+    struct message fault = {{0}, 0};
+    FILE *to = output_open(o);
+    if (!to) return EXIT_UNWRITTEN;
+    if (table_write(to, t, ';', &fault)) return EXIT_PASSED;
+    fault_tell(&fault);
+    return EXIT_UNWRITTEN;
+}
+
 int command_table(struct table *t, const struct options *with, struct output *o) {
     struct star_answer a = table_cst(t);
-    (void)with;
-    return a.kind != STAR_REFUSED || refusal_of_plan(a) ? edit_marks(o, t) : refused(t, a);
+    if (a.kind == STAR_REFUSED && !refusal_of_plan(a)) return refused(t, a);
+    return with->csv ? table_csv(o, t) : edit_marks(o, t);
 }
 
 /* A picture with what check says of the plan. A plan that is refused is drawn, since its table is

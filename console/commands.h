@@ -14,6 +14,7 @@ struct options {
     int steps;       /* mend: each step too */
     int static_page; /* page: the one without its program */
     int plan;        /* digs: the marked trenches, and not a cheapest network */
+    int csv;         /* table: a file for spreadsheets */
     int json;        /* an object in place of words */
     char **words;    /* what follows the file */
     int count;

@@ -1,5 +1,6 @@
 /* Asks the doors about a table: those of working tables where a trench is struck, and else the
    plain ones. */
+#include <stdlib.h>
 #include <string.h>
 
 #include "table.h"
@@ -204,4 +205,40 @@ struct star_answer table_merge(const struct table *t, uint32_t *numbers) {
     star_merge(ROWS(as), COLUMNS(&copy, STAR_MAX_ROWS), numbers, STAR_MAX_ROWS, answer,
                sizeof answer);
     return star_read_answer(answer);
+}
+
+/* Where the names stand in the file's bytes, and the length of the longest: at least that of a
+   number. */
+static size_t name_places(const struct table *t, const char *bytes, uint32_t *from, uint32_t *to) {
+    size_t longest = 3, v;
+    for (v = 0; v < t->names; v++) {
+        from[v] = (uint32_t)(t->name[v].at - bytes);
+        to[v] = from[v] + (uint32_t)t->name[v].len;
+        if (t->name[v].len > longest) longest = t->name[v].len;
+    }
+    return longest;
+}
+
+int table_write(FILE *to, const struct table *t, char by, struct message *fault) {
+    uint32_t from[STAR_MAX_NAMES], end[STAR_MAX_NAMES];
+    const char *bytes = t->text.at - t->order_mark;
+    size_t room = STAR_FILE_ROOM(name_places(t, bytes, from, end));
+    uint8_t answer[STAR_ANSWER_BYTES], *out;
+    struct lent as = lent_as(t);
+    struct star_written w = {STAR_REFUSED, 0, 0, 0};
+    if (room > STAR_MAX_FILE) room = STAR_MAX_FILE; /* the door refuses a longer text */
+    out = malloc(room);
+    if (out) {
+        star_write_table(t->n, ROWS(as), COLUMNS(t, t->m), t->mark, t->m, (const uint8_t *)bytes,
+                         t->text.len + t->order_mark, from, t->names, end, t->names, (uint8_t)by,
+                         out, room, answer, sizeof answer);
+        w = star_read_written(answer);
+    }
+    if (w.kind == STAR_PASSED) {
+        if (by == ';') fputs("\xef\xbb\xbf", to);
+        fwrite(out, 1, w.length, to);
+    } else
+        say(fault, "star: %s", out ? star_refusal_text(w.number) : "there is no room to write it");
+    free(out);
+    return w.kind == STAR_PASSED;
 }

@@ -256,14 +256,16 @@ int edit_write(struct output *o, const struct table *t, const struct edit *e) {
 
 int edit_marks(struct output *o, const struct table *t) {
     static struct edit marks;
+    struct message fault = {{0}, 0};
     FILE *to;
     size_t i;
     for (i = table_next(t, 0); i <= t->m; i = table_next(t, i)) marks.change[i - 1] = CHANGE_MARK;
     if (!t->stp) return edit_write(o, t, &marks);
     to = output_open(o);
     if (!to) return EXIT_UNWRITTEN;
-    table_write(to, t);
-    return EXIT_PASSED;
+    if (table_write(to, t, ' ', &fault)) return EXIT_PASSED;
+    fault_tell(&fault);
+    return EXIT_UNWRITTEN;
 }
 
 int edit_refused(const struct table *t, const struct edit *e, struct message *words,

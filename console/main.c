@@ -17,7 +17,7 @@ struct command {
     const char *name;
     command *run;
     const char *takes; /* what it takes beside a file: c --certificate, t --table, a --all, s
-                          --steps, p --static, l --plan, j --json, w words */
+                          --steps, p --static, l --plan, v --csv, j --json, w words */
     enum needs {
         FILE_ALONE,
         PLAN,
@@ -40,7 +40,7 @@ static const struct command COMMANDS[] = {
     {"draw", command_draw, "", FILE_ALONE, WRITING, NULL},
     {"dot", command_dot, "", FILE_ALONE, WRITING, NULL},
     {"page", command_page, "p", FILE_ALONE, WRITING, NULL},
-    {"table", command_table, "", FILE_ALONE, TABLE, NULL},
+    {"table", command_table, "v", FILE_ALONE, TABLE, NULL},
     {"digs", command_digs, "lj", TEXT, WRITING, "list"},
     {"quote", command_quote, "jw", FILE_ALONE, WORDS, NULL},
     {"breaking", command_breaking, "jw", FILE_ALONE, WORDS, NULL},
@@ -114,6 +114,7 @@ static int options(struct request *r, char **words) {
         else if (strcmp(word, "--steps") == 0 && takes(r, 's')) r->with.steps = 1;
         else if (strcmp(word, "--static") == 0 && takes(r, 'p')) r->with.static_page = 1;
         else if (strcmp(word, "--plan") == 0 && takes(r, 'l')) r->with.plan = 1;
+        else if (strcmp(word, "--csv") == 0 && takes(r, 'v')) r->with.csv = 1;
         else if (strcmp(word, "--json") == 0 && takes(r, 'j')) r->with.json = 1;
         else if (strncmp(word, "-o", 2) == 0) {
             status = output_named(r, word[2] ? word + 2 : *++words);
@@ -140,7 +141,8 @@ static int run(struct request *r) {
     int marks = r->command->needs == PLAN || r->with.plan;
     r->with.file = in.file;
     over = status == 0 ? output_spares(&r->out, in.id, r->command->name,
-                                       !in.stp && (r->command->result == TABLE || r->with.table))
+                                       !in.stp && !r->with.csv &&
+                                           (r->command->result == TABLE || r->with.table))
                        : 0;
     if (over != 0) {
         input_close(&in);

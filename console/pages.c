@@ -71,6 +71,7 @@ const struct option OPTIONS[] = {
     {"--all", "", "tells of all trenches left out, rings, groups; not of a few"},
     {"--steps", "", "tells each step too"},
     {"--plan", "", "lists the marked trenches, and not a cheapest network"},
+    {"--csv", "", "writes a file that spreadsheets open"},
     {"--static", "", "writes the page that needs no script, to read and to print"},
     {"--json", "", "writes one object (JSON) in place of words"},
     {"-o", "OUTPUT", "writes the file OUTPUT, as a whole or not at all"},
@@ -224,10 +225,13 @@ const struct page PAGES[] = {
     {
         .name = "table",
         .words = "[FILE]",
-        .options = "",
+        .options = "--csv",
         .line = "write the trenches as a table",
         .does = "Writes the trenches of an STP file as a table, one line a trench, none of "
-                "them marked. A table is written as it stands, unless it is refused.",
+                "them marked. A table is written as it stands, unless it is refused.\n\n"
+                "With --csv it writes a file that spreadsheets open and that every command "
+                "reads: a header, semicolons, the names of junctions in UTF-8; comments are "
+                "left out.",
         .example = "table street.stp",
         .output = "junctions 8\n1 2 40 0\n2 3 35 0\n3 4 52 0\n1 5 61 0\n2 6 28 0\n3 7 44 0\n4 8 30 "
                   "0\n5 6 33 0\n6 7 47 0\n7 8 39 0\n1 6 55 0\n3 8 58 0\n",

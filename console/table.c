@@ -122,15 +122,6 @@ int table_read(struct table *t, struct message *fault) {
     return r.file.kind == STAR_PASSED ? 0 : EXIT_REFUSED;
 }
 
-void table_write(FILE *to, const struct table *t) {
-    char price[FIGURES];
-    size_t i;
-    fprintf(to, "junctions %" PRIu32 "\n", t->n);
-    for (i = 1; i <= t->m; i++)
-        fprintf(to, "%u %u %s %u\n", t->left[i - 1], t->right[i - 1], table_price(price, t, i),
-                t->mark[i - 1]);
-}
-
 size_t table_next(const struct table *t, size_t i) {
     do i++;
     while (i <= t->m && t->struck[i - 1]);

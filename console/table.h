@@ -39,8 +39,10 @@ struct table {
    status.h: 0 if all is well, EXIT_REFUSED for too many trenches or names. */
 int table_read(struct table *t, struct message *fault);
 
-/* Writes a table that was read from an STP file as one that table_read takes. */
-void table_write(FILE *to, const struct table *t);
+/* Writes the table anew by star_write_table, its fields parted by a byte: ' ', or ';' as
+   spreadsheets have it, with a header and a byte order mark, which tells them that names are UTF-8.
+   0 with words where the door refuses or there is no room. */
+int table_write(FILE *to, const struct table *t, char by, struct message *fault);
 
 /* The first trench in use after trench i; one more than there are trenches where there is none. The
    number of trenches in use. */

@@ -4,6 +4,8 @@ usage: names.py STAR..   the program, with words before it. Ends in one line 'N 
 Every command says of a file with names what it says of the same table with numbers, with the names
 in place of the numbers; a file that a command changes keeps its names, comments and lines.
 """
+import csv
+import io
 import json
 import os
 import random
@@ -232,6 +234,27 @@ def which():
     check("which, numbers", star(first, "which", "FILE", path)[2] == 3)
 
 
+def spreadsheets():
+    """What --csv writes is what Python's csv module reads, and the same table to every command."""
+    rows = [(a, b, p, m) for a, b, p, m in ROWS]
+    for form, make in FORMS.items():
+        for names in (NAMES, None):
+            text = make(rows, names)
+            out, err, status = star(text, "table", "--csv", "FILE")
+            check("csv of %s" % form, status == 0 and reading(out) == reading(text), out + err)
+            cells = list(csv.reader(io.StringIO(out.decode("utf-8-sig")), delimiter=";"))
+            check("csv of %s: header" % form, cells[0] == ["left", "right", "price", "mark"], cells)
+            meant = [[str(a), str(b), str(p), str(m)] for a, b, p, m in (
+                (*(e.decode() if names else e for e in r[:2]), *r[2:4]) for r in reading(text))]
+            check("csv of %s: rows" % form, cells[2:] == meant, cells)
+            check("csv of %s: again" % form, star(out, "table", "--csv", "FILE")[0] == out)
+    struck = star(sheet(rows, NAMES), "strike", "FILE", "3")[0]
+    out = star(struck, "table", "--csv", "FILE")[0]
+    check("csv of a struck trench", reading(out) == reading(struck), out)
+    done = star(b"A;B;5;x\n", "table", "--csv", "FILE", "-o", os.path.join(folder.name, "plan.csv"))
+    check("csv over its file", done[2] == 4, done)
+
+
 def lost():
     """A name that goes with a struck line, and one that is nearly there."""
     text = b"A;B;5;x\nstruck;B;C;4\n"
@@ -311,6 +334,7 @@ def main():
     faults()
     which()
     lost()
+    spreadsheets()
     largest()
     print("%d passed, %d failed" % (counts[True], counts[False]))
     return 1 if counts[False] else 0
