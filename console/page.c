@@ -76,10 +76,10 @@ static const char FOOTER[] =
     "library's words (star_cst). What this page says of a refusal stands in a red box: its place "
     "is the core's answer, and what is counted in it is counted by this page. The trenches of each "
     "detour come from the core too (star_paths),\n"
-    "and so do rings and groups that stand apart (star_mst1 and star_paths on the marked "
-    "trenches).</p>\n"
+    "and so do groups that stand apart and the trenches that close rings (star_groups), and which "
+    "of these make one ring (star_mst1 and star_paths on a group's marked trenches).</p>\n"
     "<p>All else is drawing and arithmetic of this page, and not proved: where junctions stand, "
-    "colours, the order of a detour's trenches, sums, and which of two prices is "
+    "colours, the order of the trenches of a detour or a ring, sums, and which of two prices is "
     "larger.</p>\n</footer>\n";
 
 /* The yard, for what a table does not show. Its trees 1, 2, 4 and 2, 3, 4 both cost 12; with 1, 2,

@@ -1,6 +1,7 @@
 /* The doors to the verified core: the tree checker and the tree builder, paths, quotes, breaking
- * prices, which of two plans stands, districts, mending, outlets, groups and rings, dig lists,
- * working tables, the reader of STP texts, and table files read and written.
+ * prices, which of two plans stands, districts, mending, outlets, detours, the best exchange,
+ * groups and rings, totals, dig lists, working tables, the reader of STP texts, and table files
+ * read and written.
  *
  * A table has n junctions, numbered 1 to n, and m rows, counted from 1. A row joins two junctions
  * at a price:
@@ -158,16 +159,17 @@ enum star_refusal {
                                     with equal ends; star_write_table: 0, or without a name */
     STAR_BAD_MARK = 6,           /* place: the uppermost row marked with another byte than 0 and 1
                                     (star_cst, star_other, star_paths, star_which, star_mend,
-                                    star_plan_digs, star_total, star_groups, star_write_table) */
+                                    star_plan_digs, star_total, star_detours, star_best,
+                                    star_groups, star_write_table) */
     STAR_BAD_SOURCE = 7,         /* s (star_paths) or r (star_outlets) is 0 or above n; the row
                                     asked about is 0, above m or not in use (star_quote,
                                     star_breaking) */
     STAR_SHORT_MATRIX = 8,       /* the matrix has fewer than 16 n words (star_paths) */
     STAR_BAD_MARK_COUNT = 9,     /* the marks are not n - 1 (star_cst, star_other, star_paths,
-                                    star_which, star_plan_digs) */
+                                    star_which, star_plan_digs, star_detours, star_best) */
     STAR_NOT_JOINED = 10,        /* place: the smallest junction that marked rows do not join to 1
-                                    (star_cst, star_other, star_which, star_plan_digs), or to s
-                                    (star_paths) */
+                                    (star_cst, star_other, star_which, star_plan_digs, star_detours,
+                                    star_best), or to s (star_paths) */
     STAR_NO_NETWORK = 11,        /* no set of rows joins every junction (star_mst1, star_quote,
                                     star_breaking, star_digs, star_digs_text, star_districts,
                                     star_mend, star_outlets) */
