@@ -466,7 +466,7 @@ int main(int count, char **words) {
     share(lighter, 50, steps, "the share of lighter plans");
     share(passes, 10, steps, "the share of plans that pass");
     share(others, 200, steps, "the share of plans with another of the same total");
-    share(mended, 50, steps, "the share of mends");
+    share(mended, 100, steps, "the share of mends");
     share(refusals, 50, steps, "the share of refusals");
     if (steps >= 20000) tell(packed >= 3, "tables that are packed by an addition");
     printf("table: %lu steps, %lu lighter, %lu passed, %lu with another, %lu mended, %lu refused, "
