@@ -1,6 +1,7 @@
 #!/usr/bin/env bash
 # Tests of the runner of the wrong programs, over a repository of one crate: what is refused counts
-# as passed; an edit that changes nothing, or that cannot be made, fails.
+# as passed; an edit that changes nothing, or that cannot be made, fails, and so does a run that had
+# no time for half of them.
 # usage: edits.sh   Ends in one line 'N passed, M failed'.
 set -u
 cd "$(dirname "$0")/.." || exit
@@ -49,6 +50,11 @@ holds 'refused: told' says 'edits: must-fail one/another: refused, as it must be
 holds 'refused: counted' says '1 passed, 0 failed'
 before() { grep -qE "^crate one: modules loaded=$1 checked=$2$" "$at/target/edits/one/before.log"; }
 holds 'over what is proved: nothing twice' before '[1-9][0-9]*' 0
+EDITS_SECONDS=0 tried
+holds 'no time: fails' [ $? != 0 ]
+holds 'no time: told' says 'edits: 1 of 1 not tried, since their time was over: one'
+EDITS_SECONDS=600 tried
+holds 'time enough: refused' says '1 passed, 0 failed'
 mv "$at/target/rlib/one.rlib" "$work/rlib"
 tried
 holds 'over nothing: refused' says '1 passed, 0 failed'
