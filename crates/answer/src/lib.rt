@@ -1,4 +1,7 @@
 // The sixteen bytes of an answer, written in one place for every door, and the fields of what is done or refused.
+
+#![tactic(auto)]
+
 ghost use Rattle.std.specs.Prelude.{◌≡◌};
 ghost use Rattle.star_spec.specs.Cst.{refused};
 ghost use Rattle.star_spec.specs.Door.{well_lent, fields, field_bytes, answer_after, outcome_fields};
@@ -14,7 +17,7 @@ const LENGTH: usize = 16;
 const UNUSED: u8 = 0;
 
 // The fields of an answer, named after CST's; each door says what it puts where. A field that a kind lacks is 0.
-#[derive(Drop)]
+#[derive(Clone, Copy)]
 pub struct Record {
     // byte 0: 0 refused, 1 passed, tree built or text taken, 2 lighter
     pub kind: u32,

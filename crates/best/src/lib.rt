@@ -1,4 +1,7 @@
 // The best exchange on the machine: for each unmarked row FND of MAX over the path between its ends, and of these exchanges the one that saves most is kept; the least total is that of the tree that MST1 grows. Nothing lent is written.
+
+#![tactic(auto)]
+
 ghost use Rattle.std.specs.Prelude.{ℕ, ◌-◌, ◌≤◌, ltb, Bool, true, cond, ◌≡◌};
 ghost use Rattle.rowset.specs.Bytes.{in_row};
 ghost use Rattle.rowset.specs.Words.{in_words};
@@ -21,14 +24,14 @@ use slice::rows::rows_among;
 use slice::{Slice, difference};
 
 // A claim that no exchange makes lighter: the 64 bits of its weight and of the least total.
-#[derive(Drop)]
+#[derive(Clone, Copy)]
 pub struct Stay {
     pub weight: u64,
     pub least: u64,
 }
 
 // The exchange that saves most: the rows out and in, what it saves, and the 64 bits of the least total.
-#[derive(Drop)]
+#[derive(Clone, Copy)]
 pub struct Save {
     pub out: u32,
     pub into: u32,
@@ -37,7 +40,7 @@ pub struct Save {
 }
 
 // What is answered: no exchange saves, the one that saves most, or the refusal.
-#[derive(Drop)]
+#[derive(Clone, Copy)]
 pub enum Found {
     Stays(Stay),
     Saves(Save),
@@ -45,7 +48,7 @@ pub enum Found {
 }
 
 // The row in that is kept, the row out for it, and what their exchange saves; zeros where none saves.
-#[derive(Drop)]
+#[derive(Clone, Copy)]
 struct Pick {
     row: usize,
     out: usize,

@@ -1,5 +1,8 @@
 // The breaking price of a row: over all routes between its ends that do not use it, the least possible heaviest row; or none where no such route exists. Nothing lent is written.
 // The trees are built in one step (`around_rows`), the walk is made in another (`told`), so that what one takes of the stack is given back before the other.
+
+#![tactic(auto)]
+
 ghost use Rattle.std.specs.Prelude.{◌≡◌};
 ghost use Rattle.path_matrix.specs.Matrix.{matrix_column};
 ghost use Rattle.path_walk.specs.Steps.Walks.{walk};
@@ -14,7 +17,7 @@ use refusal::{Outcome, Refusal};
 use slice::Slice;
 
 // What is answered: the 32 bits of the breaking price, that there is none, or the refusal.
-#[derive(Drop)]
+#[derive(Clone, Copy)]
 pub enum Breaks {
     At(u32),
     Never,
@@ -22,7 +25,7 @@ pub enum Breaks {
 }
 
 // What the trees say of a row: whether there is a route around it, and then the rows of a tree without it; else the answer. What is not said is the price 0, and no row.
-#[derive(Drop)]
+#[derive(Clone, Copy)]
 pub struct Around {
     pub answer: Breaks,
     pub route: bool,

@@ -1,5 +1,8 @@
 // Working tables: a slice of rows in use, lent as sixteen words, beside columns of 1,024 rows. A row is struck, a row is added, and MERGE packs the rows in use to the top.
 // The list of numbers says where each row went. A call that is refused changes nothing.
+
+#![tactic(auto)]
+
 ghost use Rattle.std.specs.Prelude.{suc, ◌+◌, ◌-◌, ◌*◌, ◌<◌, ◌≤◌, cond, ◌++◌, ◌≡◌, length, take, drop, replicate};
 ghost use Rattle.refusal.specs.Outcomes.{refusal_of};
 ghost use Rattle.rowset.specs.Sets.{put, count};
@@ -23,7 +26,7 @@ const END: usize = 1;
 const PRICE: usize = 4;
 
 // What an add answers: the new row's position, or the refusal.
-#[derive(Drop)]
+#[derive(Clone, Copy)]
 pub enum Added {
     At(u32),
     Refused(Refusal),

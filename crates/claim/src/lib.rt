@@ -1,4 +1,7 @@
 // Between the bytes of a claim and slices of rows: the rows that a claim marks, the claim that marks a slice's rows, and the weight of a slice's rows, an integer, in the 64 bits that stand for it.
+
+#![tactic(auto)]
+
 ghost use Rattle.std.specs.Prelude.{◌≡◌, ℕ, ◌+◌, ◌*◌, ◌<◌, ◌≤◌, Bool, length};
 ghost use Rattle.rowset.specs.Bytes.{in_row};
 ghost use Rattle.rowset.specs.Integers.{from_bits, signed, total};
@@ -75,7 +78,7 @@ pub fn flipped_weight(weight: &[u8], i: usize) -> u32
 }
 
 // The sum of flipped weights, and 2 ^ 31 for each row added.
-#[derive(Drop)]
+#[derive(Clone, Copy)]
 struct Sums {
     above: u64,
     taken: u64,

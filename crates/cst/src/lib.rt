@@ -1,4 +1,7 @@
 // CST, the tree checker: its verdict on the claim that a table's marked rows are a least spanning tree.
+
+#![tactic(auto)]
+
 ghost use Rattle.std.specs.Prelude.{Bool, true, ◌≡◌, ℕ, ◌*◌, ◌≤◌, length, ◌≤ℤ◌};
 ghost use Rattle.rowset.specs.Bytes.{in_row};
 ghost use Rattle.rowset.specs.Words.{column_words};
@@ -30,7 +33,7 @@ const SOME: u32 = 64;
 const SOME_WORDS: usize = 1024;
 
 // The exchange that makes a claim lighter: the marked row that goes out, the unmarked row that comes in, and how much less the claim then weighs.
-#[derive(Drop)]
+#[derive(Clone, Copy)]
 pub struct Exchange {
     pub out: u32,
     pub into: u32,
@@ -38,14 +41,14 @@ pub struct Exchange {
 }
 
 // A claim that passes: the 64 bits of its weight, and whether it is the only spanning tree of that weight.
-#[derive(Drop)]
+#[derive(Clone, Copy)]
 pub struct Pass {
     pub weight: u64,
     pub only: bool,
 }
 
 // The verdict: passed, with the weight and yes or no; lighter, with the exchange; or refused, with the refusal.
-#[derive(Drop)]
+#[derive(Clone, Copy)]
 pub enum Verdict {
     Passed(Pass),
     Lighter(Exchange),
@@ -53,7 +56,7 @@ pub enum Verdict {
 }
 
 // The verdict with an exchange that gives another tree of the same weight, where the claim passes and there is one: the row that goes out and the row that comes in, else 0 and 0.
-#[derive(Drop)]
+#[derive(Clone, Copy)]
 pub struct Checked {
     pub verdict: Verdict,
     pub out: u32,
@@ -61,14 +64,14 @@ pub struct Checked {
 }
 
 // An exchange of two rows of equal weight: the row that goes out and the row that comes in, 0 and 0 where there is none.
-#[derive(Drop)]
+#[derive(Clone, Copy)]
 struct Equal {
     out: u32,
     into: u32,
 }
 
 // What is found among the unmarked rows: the first exchange that makes the claim lighter, and where there is none, the first of two rows of equal weight.
-#[derive(Drop)]
+#[derive(Clone, Copy)]
 struct Found {
     lighter: Exchange,
     equal: Equal,

@@ -1,4 +1,7 @@
 // What CST finds for a row on the tree path between its ends, and the row that it keeps of those with an equal one.
+
+#![tactic(auto)]
+
 ghost use Rattle.std.specs.Prelude.{◌≡◌, ◌-◌};
 ghost use Rattle.rowset.specs.Bytes.{in_row};
 ghost use Rattle.rowset.specs.Columns.{width};

@@ -1,5 +1,8 @@
 // Numbers in decimal, written into a lent column of bytes: each function takes the index at which to begin and gives the index after what it put there.
 // A byte past the column's end falls away.
+
+#![tactic(auto)]
+
 ghost use Rattle.std.specs.Prelude.{[], ◌∷◌};
 ghost use Rattle.decimal.specs.Decimal.{natural, integer};
 ghost use Rattle.decimal.specs.Puts.{Puts};

@@ -1,5 +1,8 @@
 // The dearest of each detour on the machine: for each unmarked row FND of MAX over the path between its ends; then the unmarked rows from the lightest on (FND of MIN), each of which is the answer of the marked rows of its path that
 // have none yet. The paths are read from CST's path matrix. The column of numbers is written once nothing can be refused any more.
+
+#![tactic(auto)]
+
 ghost use Rattle.std.specs.Prelude.{ℕ, ◌+◌, ◌≤◌, eqb, length, Bool, true, false, cond, ◌&&◌, ◌≡◌};
 ghost use Rattle.rowset.specs.Bytes.{in_row};
 ghost use Rattle.rowset.specs.Words.{in_words};

@@ -1,1 +1,4 @@
 // The dearest of each detour on byte columns: the definitions, the doors' bytes, what they mean and the trials (specs/), and their proofs (proofs/); no code.
+
+#![tactic(auto)]
+

@@ -1,5 +1,8 @@
 // The dig list of MST1's tree, made in a lent column of bytes: of a table, plain or working, and of an STP text.
 // What is printed is these bytes, or the line of the refusal; nothing is printed here.
+
+#![tactic(auto)]
+
 ghost use Rattle.std.specs.Prelude.{◌≡◌, ◌*◌, ◌≤◌, length, take};
 ghost use Rattle.digs_lines.specs.Prints.{Prints};
 ghost use Rattle.digs_spec.specs.DigList.{table_list, text_list, printed, exit_status};
@@ -20,7 +23,7 @@ const ROWS: usize = 1024;
 const WEIGHT_BYTES: usize = 4096;
 
 // What is listed: the length of the text, or the refusal.
-#[derive(Drop)]
+#[derive(Clone, Copy)]
 pub enum Listed {
     Text(usize),
     Refused(Refusal),
@@ -94,7 +97,7 @@ pub fn text_list(text: &[u8], out: &mut [u8]) -> Listed
 }
 
 // A page to print: the number of its bytes, and the exit status of a program that prints it, 0 for a list and 1 for a refusal.
-#[derive(Drop)]
+#[derive(Clone, Copy)]
 pub struct Page {
     pub size: usize,
     pub status: u32,

@@ -1,4 +1,7 @@
 // The fields of what was listed, as the doors of dig lists write them into the lent answer.
+
+#![tactic(auto)]
+
 ghost use Rattle.std.specs.Prelude.{◌≡◌};
 ghost use Rattle.answer.specs.Records.{fields_of};
 ghost use Rattle.digs_answer.specs.Steps.Fields.{table_fields, stp_fields};

@@ -1,4 +1,7 @@
 // The lines of a dig list, made in a lent column of bytes: those of rows, of the total and of a refusal. Nothing is printed here.
+
+#![tactic(auto)]
+
 ghost use Rattle.std.specs.Prelude.{cond, [], ◌++◌, ◌≡◌, ◌≤◌, length};
 ghost use Rattle.decimal.specs.Puts.{Puts};
 ghost use Rattle.digs_lines.specs.Prints.{Prints};

@@ -1,4 +1,7 @@
 // Districts first, then the city: for each run of the rows a least forest, and then a tree from the forests' rows alone.
+
+#![tactic(auto)]
+
 ghost use Rattle.std.specs.Prelude.{◌≡◌};
 ghost use Rattle.districts_spec.specs.Districts.{bad_runs, run_causes, districts_answer, districts_forests, districts_marks};
 ghost use Rattle.districts_theory.specs.Districts.{rises_to};
@@ -23,7 +26,7 @@ use slice::Slice;
 pub const MAX_ENDS: usize = 8;
 
 // What was grown: the forests' rows, whether the tree is a whole one, and its rows, none where it is not.
-#[derive(Drop)]
+#[derive(Clone, Copy)]
 pub struct City {
     pub forests: Slice,
     pub whole: bool,

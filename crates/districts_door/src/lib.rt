@@ -1,5 +1,8 @@
 // Districts first, then the city, for C, on plain and on working tables: lent columns, the ends of the runs, and a lent answer of sixteen bytes.
 // If the lent answer has not sixteen bytes the call returns 0 and writes nothing anywhere; else it returns 1.
+
+#![tactic(auto)]
+
 ghost use Rattle.std.specs.Prelude.{◌≡◌};
 ghost use Rattle.districts_spec.specs.Bytes.{DistrictsCall};
 ghost use Rattle.districts_spec.specs.Door.{districts_door, districts_door_forests, districts_door_marks};

@@ -1,4 +1,7 @@
 // The forests of runs of rows: each grows as MST1 grows a tree, by the same steps, with the rows that MATCH gives for each vertex, and where no row crosses it begins anew.
+
+#![tactic(auto)]
+
 ghost use Rattle.std.specs.Prelude.{◌≡◌};
 ghost use Rattle.districts_theory.specs.Districts.{forests};
 ghost use Rattle.districts_theory.specs.Growing.{grown_forest};

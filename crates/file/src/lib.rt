@@ -1,4 +1,7 @@
 // A table file read into lent columns. The text is read whole, into columns of its own, before a lent column is written.
+
+#![tactic(auto)]
+
 ghost use Rattle.std.specs.Prelude.{◌≡◌, Bool, true, false, cond, List, ◌++◌, map, ℕ, ◌*◌, ◌≤◌, max, eqb, length, take, drop, get_or};
 ghost use Rattle.rowset.specs.Words.{column_words, column_words_from};
 ghost use Rattle.slice.specs.Slices.{component};
@@ -25,7 +28,7 @@ const WEIGHT_BYTES: usize = 4096;
 const WORDS: usize = 16;
 
 // The number of junctions, of names and of rows that were read.
-#[derive(Drop)]
+#[derive(Clone, Copy)]
 pub struct Sizes {
     pub n: u32,
     pub names: u32,
@@ -33,7 +36,7 @@ pub struct Sizes {
 }
 
 // What is answered of a text: the sizes, or the refusal's number and place.
-#[derive(Drop)]
+#[derive(Clone, Copy)]
 pub enum Taken {
     Read(Sizes),
     Refused(u32, usize),

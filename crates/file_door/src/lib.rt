@@ -1,5 +1,8 @@
 // The doors of table files for C: a text read into lent columns with a lent answer of sixteen bytes, and the line of a place.
 // If the lent answer has not sixteen bytes the reader returns 0 and writes nothing anywhere; else it returns 1.
+
+#![tactic(auto)]
+
 ghost use Rattle.std.specs.Prelude.{Bool, ◌≡◌, min, ◌≤◌, ◌<◌, eqb, length};
 ghost use Rattle.answer.specs.Records.{fields_of};
 ghost use Rattle.star_spec.specs.Door.{door_returns};

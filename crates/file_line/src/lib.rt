@@ -1,4 +1,7 @@
 // A line of a table file: what it says, whatever the other lines say.
+
+#![tactic(auto)]
+
 ghost use Rattle.std.specs.Prelude.{◌≡◌, Bool, cond, ◌&&◌, ◌||◌, List, ℕ, ◌≤◌, ◌<◌, length, drop};
 ghost use Rattle.std.proofs.Math.Option.{Option, none, some};
 ghost use Rattle.file_spec.specs.Names.{is_name, is_letter, of_names};
@@ -23,7 +26,7 @@ const NOT_MARK: u32 = 23;
 const NOT_COUNT: u32 = 24;
 
 // A price: whether it is one, whether it is below zero, and its size.
-#[derive(Drop)]
+#[derive(Clone, Copy)]
 pub struct Money {
     pub priced: bool,
     pub under: bool,
@@ -31,7 +34,7 @@ pub struct Money {
 }
 
 // A trench: its ends by their numbers, 0 for a name, and where they stand.
-#[derive(Drop)]
+#[derive(Clone, Copy)]
 pub struct Trench {
     pub struck: bool,
     pub at: usize,
@@ -46,7 +49,7 @@ pub struct Trench {
     pub mark: u32,
 }
 
-#[derive(Drop)]
+#[derive(Clone, Copy)]
 pub enum Line {
     Nothing,
     Counting(u32, usize),

@@ -1,4 +1,7 @@
 // The reader of a table file: the lines of a text into the columns of a table.
+
+#![tactic(auto)]
+
 ghost use Rattle.std.specs.Prelude.{◌≡◌, Bool, true, false, cond, ◌&&◌, List, [], ◌∷◌, ◌++◌, ℕ, ◌+◌, ◌*◌, ◌≤◌, ◌<◌, max, length, take};
 ghost use Rattle.star_spec.specs.Door.{bytes_of};
 ghost use Rattle.file_text.specs.Steps.Spans.{part, names_of, Within};
@@ -12,7 +15,7 @@ use file_line::{Line, Trench, both, line_of};
 use file_text::{NAMES, line_end, meet};
 
 // How reading ends: whether the text cannot stand, and the reason and the place.
-#[derive(Drop)]
+#[derive(Clone, Copy)]
 pub struct Step {
     pub broken: bool,
     pub reason: u32,
@@ -20,7 +23,7 @@ pub struct Step {
 }
 
 // A junction's number, or 256 where there is no room for its name, and the number of names.
-#[derive(Drop)]
+#[derive(Clone, Copy)]
 pub struct Met {
     pub number: u32,
     pub count: usize,
@@ -147,7 +150,7 @@ fn store_place(column: &mut [u32; 1024], k: usize, v: usize)
 }
 
 // A row as it is stored, and the place of its line's first field.
-#[derive(Drop)]
+#[derive(Clone, Copy)]
 struct Row {
     left: u8,
     right: u8,

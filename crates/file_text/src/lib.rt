@@ -1,4 +1,7 @@
 // The bytes of a table file: names compared and looked up among those met so far, and the pieces of a line.
+
+#![tactic(auto)]
+
 ghost use Rattle.std.specs.Prelude.{◌≡◌, ℕ, ◌+◌, ◌≤◌, ◌<◌, min, max, length, take, drop, set, cond, List};
 ghost use Rattle.file_spec.specs.Names.{equal, position, met, met_at};
 ghost use Rattle.file_spec.specs.Pieces.{ends_line, is_blank, is_byte, first_at, before, front_trimmed, back_trimmed, trimmed, content, separator, field, fields, fields_by, Piece};
@@ -60,7 +63,7 @@ fn find_name(
 }
 
 // A part of a text: the place of its first byte, and the place after its last.
-#[derive(Drop)]
+#[derive(Clone, Copy)]
 pub struct Part {
     pub from: usize,
     pub to: usize,
@@ -69,7 +72,7 @@ pub struct Part {
 // The fields of a line: how many were seen, how many of them there are without the empty ones at the end, and where the first five begin and end.
 pub const FIELDS: usize = 5;
 
-#[derive(Drop)]
+#[derive(Clone, Copy)]
 pub struct Fields {
     pub seen: usize,
     pub count: usize,

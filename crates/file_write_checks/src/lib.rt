@@ -1,4 +1,7 @@
 // The checks before a table is written as a table file. Where none refuses, what is written reads back as the table.
+
+#![tactic(auto)]
+
 ghost use Rattle.std.specs.Prelude.{◌&&◌, ◌||◌, ◌≡◌, ◌-◌, ◌≤◌, max, length};
 ghost use Rattle.file_spec.specs.Names.{is_letter, any_letter};
 ghost use Rattle.file_spec.specs.Pieces.{is_blank};

@@ -1,5 +1,8 @@
 // The door that writes table files for C: a table in lent columns, with names that are parts of a lent text, as a text in lent bytes, with a lent answer of sixteen bytes.
 // If the lent answer has not sixteen bytes the call returns 0 and writes nothing anywhere; else it returns 1.
+
+#![tactic(auto)]
+
 ghost use Rattle.std.specs.Prelude.{◌≡◌, length};
 ghost use Rattle.answer.specs.Records.{fields_of};
 ghost use Rattle.file_write_checks.specs.Checks.{write_cause};
@@ -13,7 +16,7 @@ use answer::{Record, well_lent, write_answer};
 use refusal::{Outcome, Refusal};
 
 // What was written: the length of the text, or the refusal.
-#[derive(Drop)]
+#[derive(Clone, Copy)]
 pub enum Written {
     Text(usize),
     Refused(Refusal),

@@ -1,4 +1,7 @@
 // The writer of table files: a table in lent columns as a text, made in a lent column of bytes. That what is written reads back is specs/RoundTrip.antt.
+
+#![tactic(auto)]
+
 ghost use Rattle.std.specs.Prelude.{not, ◌≡◌, ◌++◌, ◌-◌, ◌≤◌, min, length};
 ghost use Rattle.decimal.specs.Puts.{Puts};
 ghost use Rattle.file_spec.specs.Line.{marked};

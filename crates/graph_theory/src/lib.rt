@@ -1,1 +1,4 @@
 // Graphs, spanning trees and their weights: definitions (specs/) and theorems (proofs/), no code.
+
+#![tactic(auto)]
+

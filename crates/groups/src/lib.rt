@@ -1,6 +1,9 @@
 // Groups and rings of any marks on the machine. The lent groups' column holds a label for each vertex, the smallest vertex of its group so far, and a path matrix of its own a column for each vertex.
 // The marked rows are visited from the top. A row between two groups makes them one: the larger label becomes the smaller, and the columns of its vertices are turned over by the row's ring,
 // so that the columns of the ends of every such row differ in that row alone. A row inside a group closes a ring: itself, and the rows in which the columns of its ends differ.
+
+#![tactic(auto)]
+
 ghost use Rattle.std.specs.Prelude.{ℕ, ◌≤◌, eqb, length, ◌≡◌};
 ghost use Rattle.groups_spec.specs.Groups.{groups_causes, groups_answer, groups_after, rings_after};
 ghost use Rattle.in_use.specs.Tables.{table_in};
@@ -24,14 +27,14 @@ use table_checks::row_byte;
 const ALL_WORDS: usize = 4080;
 
 // The number of groups, and of the marked rows that close a ring.
-#[derive(Drop)]
+#[derive(Clone, Copy)]
 pub struct Counts {
     pub groups: u32,
     pub rings: u32,
 }
 
 // The answer.
-#[derive(Drop)]
+#[derive(Clone, Copy)]
 pub enum Grouped {
     Told(Counts),
     Refused(Refusal),

@@ -1,5 +1,8 @@
 // Groups and rings of any marks for C, on plain and on working tables: lent columns, and a lent answer of sixteen bytes.
 // If the lent answer has not sixteen bytes the call returns 0 and writes nothing anywhere; else it returns 1.
+
+#![tactic(auto)]
+
 ghost use Rattle.std.specs.Prelude.{◌≡◌};
 ghost use Rattle.answer.specs.Records.{fields_of};
 ghost use Rattle.groups.specs.Answers.{answer_of};

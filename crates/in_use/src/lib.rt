@@ -1,4 +1,7 @@
 // A table of either kind by one value: its number of rows, whether the rows in use were handed in for all of them, and which are in use. Every procedure has one entrance, which takes it beside the columns.
+
+#![tactic(auto)]
+
 ghost use Rattle.std.specs.Prelude.{true, ◌≡◌, eqb, length};
 ghost use Rattle.rowset.specs.Sets.{up_to, both};
 ghost use Rattle.rowset.specs.Words.{column_words, in_words};
@@ -10,7 +13,7 @@ use slice::words::rows_in_use;
 use slice::{SIZE, Slice, WORDS};
 
 // m, the number of rows; whether the rows in use were handed in for all of them; the rows in use.
-#[derive(Drop)]
+#[derive(Clone, Copy)]
 pub struct InUse {
     pub m: usize,
     pub whole: bool,

@@ -1,5 +1,8 @@
 // Runs the machine on cases whose results are known from outside, and prints what it gives; the file stdout has what it should print.
 // Standard input has a line for each case: what is printed before its result.
+
+#![tactic(auto)]
+
 use libc::{STDIN_FILENO, STDOUT_FILENO};
 use refusal::Refusal;
 use search_great::Compared;

@@ -1,6 +1,9 @@
 // Mending an old claim: marks that close a ring are dropped, rows that join two groups are added (crate mend_groups), and each unmarked row from the top is exchanged for the heaviest row of its path where that is heavier.
 // Each drop, addition and exchange becomes a record, kept in numbers of the mender's own, three a record; the doors, which alone see the lent list, write them there through the crate mend_list.
 // The claim is written once nothing can be refused any more.
+
+#![tactic(auto)]
+
 ghost use Rattle.std.specs.Prelude.{ℕ, ◌+◌, ◌*◌, ◌^◌, ◌-◌, ◌<◌, ◌≤◌, ltb, length, get_or, Bool, true, cond, List, ◌≡◌};
 ghost use Rattle.std.proofs.Math.Option.{none};
 ghost use Rattle.path_matrix.specs.Matrix.{matrix_column};
@@ -35,14 +38,14 @@ use table_checks::row_byte;
 const EXCHANGE: u32 = 3;
 
 // What the mender answers: the number of records, or the refusal.
-#[derive(Drop)]
+#[derive(Clone, Copy)]
 pub enum Mended {
     Records(u32),
     Refused(Refusal),
 }
 
 // What mending gives: the answer, and the records to be written, as the first `count` of numbers, three a record.
-#[derive(Drop)]
+#[derive(Clone, Copy)]
 pub struct Mending {
     pub list: [u32; NUMBERS],
     pub count: usize,

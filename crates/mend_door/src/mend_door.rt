@@ -17,7 +17,7 @@ use mend_list::{NUMBERS, write_records};
 use mend_record::Record;
 
 // What a call gives: the records to be written, as the first `count` of numbers, three a record, and the number returned.
-#[derive(Drop)]
+#[derive(Clone, Copy)]
 pub struct Told {
     pub list: [u32; NUMBERS],
     pub count: usize,

@@ -1,5 +1,8 @@
 // Groups of vertices, and the first two passes of mending over them: marks that close a ring are dropped, and rows that join two groups are added.
 // A group is told by a byte a vertex, its label. Each drop and addition is noted as a record, three numbers.
+
+#![tactic(auto)]
+
 ghost use Rattle.std.specs.Prelude.{ℕ, ◌+◌, ◌*◌, ◌^◌, ◌≤◌, ◌<◌, length, set, ◌≡◌};
 ghost use Rattle.slice.specs.Slices.{size, component};
 ghost use Rattle.mend_groups.specs.Steps.Machine.{state_of, stored, renamed, all_renamed, labels_from, apart, joined_labels, drop_at, add_at, visits, two_passes, bounded};
@@ -20,14 +23,14 @@ const DROP: u32 = 1;
 const ADDITION: u32 = 2;
 
 // The drawing while it is mended: the rows marked by now, and the number of records.
-#[derive(Drop)]
+#[derive(Clone, Copy)]
 pub struct Drawn {
     pub marks: Slice,
     pub count: usize,
 }
 
 // The labels of vertices 1 to 255.
-#[derive(Drop)]
+#[derive(Clone, Copy)]
 struct Labels {
     labels: [u8; VERTICES],
 }

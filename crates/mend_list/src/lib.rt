@@ -1,4 +1,7 @@
 // A lent list of records, written from the numbers of a list, three a record.
+
+#![tactic(auto)]
+
 ghost use Rattle.std.specs.Prelude.{ℕ, set, ◌≡◌};
 ghost use Rattle.mend_list.specs.Steps.Stored.{record_at, stored_to};
 

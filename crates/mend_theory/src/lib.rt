@@ -1,1 +1,4 @@
 // Mending an old claim: definitions (specs/) and theorems (proofs/), no code.
+
+#![tactic(auto)]
+

@@ -1,6 +1,9 @@
 // MST1, the tree builder: it grows a tree from the uppermost row of least weight, by the uppermost row of least weight among those with exactly one end in the fragment.
 // It is the procedure MST1 of source 001, in whose words `lefts` is N1, `rights` N2, `chosen` R and `rows` S. Where it departs: S stays as it is, since the rows with exactly one end in the fragment are
 // those that only one of N1 and N2 has (xor); so MATCH is asked for the far end of a row alone once the first row is there, as the near one was matched before; and a table without a tree is told.
+
+#![tactic(auto)]
+
 ghost use Rattle.std.specs.Prelude.{◌≡◌, true, ◌-◌, ◌≤◌};
 ghost use Rattle.search_join.specs.Steps.Ends.{EachEnd};
 ghost use Rattle.rowset.specs.Integers.{integer_in, signed};
@@ -21,21 +24,21 @@ use refusal::{Outcome, Refusal};
 use slice::{Slice, WORDS};
 
 // What MST1 answers: the tree's weight, as the 64 bits that stand for it in two's complement, or the refusal.
-#[derive(Drop)]
+#[derive(Clone, Copy)]
 pub enum Built {
     Tree(u64),
     Refused(Refusal),
 }
 
 // What was grown: whether it is a whole tree, and the chosen rows, none where it is not.
-#[derive(Drop)]
+#[derive(Clone, Copy)]
 pub struct Grown {
     pub whole: bool,
     pub chosen: Slice,
 }
 
 // A fragment: the rows whose left end is in it, the rows whose right end is, and the chosen rows.
-#[derive(Drop)]
+#[derive(Clone, Copy)]
 struct Fragment {
     lefts: Slice,
     rights: Slice,

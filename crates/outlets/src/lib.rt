@@ -1,4 +1,7 @@
 // Connections at a vertex: a least spanning tree with exactly t rows at vertex r. The start prefers rows at r; then exchanges take rows at r out, the cheapest first, until t are left.
+
+#![tactic(auto)]
+
 ghost use Rattle.std.specs.Prelude.{◌≡◌};
 ghost use Rattle.outlets_spec.specs.Outlets.{vertex_asked, outlets, outlet_marks};
 ghost use Rattle.mst1.specs.Answers.{answer_of};

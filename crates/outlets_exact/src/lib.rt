@@ -1,5 +1,8 @@
 // The tree with exactly t rows at a vertex r on the machine: the weights are loaded, the start prefers rows at r, the others grow their forest U, a walk over the start fills the path matrix from r,
 // and exchanges for rows of U take rows at r out until t are left.
+
+#![tactic(auto)]
+
 ghost use Rattle.std.specs.Prelude.{◌≡◌};
 ghost use Rattle.districts_theory.specs.Growing.{grown_forest};
 ghost use Rattle.outlets_start.specs.Steps.Start.{graph_in};
@@ -15,7 +18,7 @@ use slice::Slice;
 use slice::rows::rows_among;
 
 // What is made: whether there is a tree at all, whether there is one with exactly t rows at r, and its rows, none where there is none.
-#[derive(Drop)]
+#[derive(Clone, Copy)]
 pub struct Made {
     pub joined: bool,
     pub whole: bool,

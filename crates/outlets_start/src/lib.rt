@@ -1,5 +1,8 @@
 // The tree that the exchanges at a vertex r start from: it grows as MST1's does, but rows at r are chosen before all others; so it has as many rows at r as there can be.
 // The ends stand in byte columns, which are loaded for MATCH; it gives the rows at r, and those of each vertex that is reached. The columns of weights are lent as a table's.
+
+#![tactic(auto)]
+
 ghost use Rattle.std.specs.Prelude.{◌-◌, ◌≤◌, cond, ◌≡◌};
 ghost use Rattle.outlets_theory.specs.Degree.{touches};
 ghost use Rattle.search_join.specs.Steps.Ends.{EachEnd};
@@ -15,7 +18,7 @@ ghost use Rattle.outlets_start.specs.Steps.Start.{graph_in, Starts};
 use slice::{Slice, WORDS};
 
 // The start: whether it is a whole tree, its rows, none where it is not, and the rows of the table at r.
-#[derive(Drop)]
+#[derive(Clone, Copy)]
 pub struct Started {
     pub whole: bool,
     pub chosen: Slice,

@@ -1,5 +1,8 @@
 // The exchanges that take rows at a vertex r out of a tree, one at a time, by the path matrix from r. For each row of a set, none of which is at r, two columns of numbers keep the dearest row at r on its path,
 // found by MAX, and what their exchange costs. After an exchange the matrix is turned over, and only the rows for which the row that went out was kept are looked at anew.
+
+#![tactic(auto)]
+
 ghost use Rattle.std.specs.Prelude.{◌+◌, ◌-◌, ◌<◌, length, get_or, set, true, ◌≡◌};
 ghost use Rattle.path_exchange.specs.Turned.{columns_turned};
 ghost use Rattle.outlets_kept.specs.Steps.Offers.{cost_of, cheaper, cheapest_to};
@@ -22,14 +25,14 @@ const ABOVE: u64 = 4294967296;
 const NONE: u64 = 8589934592;
 
 // A row that could come in, 0 where there is none, and what its exchange costs.
-#[derive(Drop)]
+#[derive(Clone, Copy)]
 struct Pick {
     row: usize,
     cost: u64,
 }
 
 // What is left of a tree: whether all exchanges were made, and the rows then, none where they were not.
-#[derive(Drop)]
+#[derive(Clone, Copy)]
 pub struct Reduced {
     pub whole: bool,
     pub chosen: Slice,

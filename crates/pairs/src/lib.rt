@@ -1,5 +1,8 @@
 // A set of pairs of bytes as lent words of 64 bits. The pair of a and b, in either order, is bit k % 64 of word k / 64, where k is 256 times the smaller byte and the larger one.
 // 1,024 words hold every pair; a pair whose word is not there is not in the set, and putting it in changes nothing.
+
+#![tactic(auto)]
+
 ghost use Rattle.std.specs.Prelude.{◌≡◌};
 ghost use Rattle.pairs.specs.Pairs.{pair_at, has_pair, with_pair};
 

@@ -1,4 +1,7 @@
 // MatrixPath on the machine: a walk over the marked rows from the source vertex (crate path_walk), which fills a path matrix of its own; the caller's matrix is written once nothing can be refused any more.
+
+#![tactic(auto)]
+
 ghost use Rattle.std.specs.Prelude.{◌≡◌, [], ◌∷◌, ◌++◌, ◌≤◌, length, take, drop};
 ghost use Rattle.refusal.specs.Outcomes.{refusal_of};
 ghost use Rattle.in_use.specs.Tables.{table_in};

@@ -1,5 +1,8 @@
 // The path matrix after an exchange of two rows of a tree: where row e goes out and row f comes in, each column that has e is turned over by the ring, the path of f with f itself.
 // One matrix so serves a procedure that makes many exchanges, and is never filled anew.
+
+#![tactic(auto)]
+
 ghost use Rattle.std.specs.Prelude.{◌≡◌};
 ghost use Rattle.slice.specs.Slices.{component};
 ghost use Rattle.path_exchange.specs.Turned.{column_turned, columns_turned};

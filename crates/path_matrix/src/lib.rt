@@ -1,5 +1,8 @@
 // Columns of the path matrix, a lent slice of words, sixteen a column: component i of column j is bit (i - 1) % 64 of word 16 (j - 1) + (i - 1) / 64.
 // Columns are counted from 1. A column that is not wholly inside the matrix reads Θ, and writing it changes nothing.
+
+#![tactic(auto)]
+
 ghost use Rattle.std.specs.Prelude.{◌≡◌, true};
 ghost use Rattle.slice.specs.Slices.{component, written};
 ghost use Rattle.path_matrix.specs.Matrix.{has_column, matrix_column, with_column};

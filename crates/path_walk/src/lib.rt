@@ -1,6 +1,9 @@
 // MatrixPath's walk: from the source vertex over rows whose ends stand in byte columns, which fills a path matrix.
 // It is the procedure MatrixPath of source 000, in whose words `lefts` is N1, `rights` N2 and `rows` T; crate `path` has what is checked before it. Where it departs: the rows with an end reached and not yet taken, which the paper keeps in X
 // and steps through, are those that only one of N1 and N2 has (xor), and the uppermost is taken, as STEP takes it; so N1, N2 and Y are not cleared at a row. A vertex's code is its number, so that no MATCH over codes is needed. R is not cleared: the column of each vertex that is reached is written.
+
+#![tactic(auto)]
+
 ghost use Rattle.std.specs.Prelude.{true, cond, ◌≡◌};
 ghost use Rattle.path_matrix.specs.Matrix.{matrix_column, with_column};
 ghost use Rattle.rowset.specs.Words.{in_words};

@@ -1,4 +1,7 @@
 // The dig list of a plan that is lent: the list of its marked rows and its length, or CST's refusal. Nothing is printed here; the list is made in a lent column of bytes.
+
+#![tactic(auto)]
+
 ghost use Rattle.std.specs.Prelude.{◌≡◌};
 ghost use Rattle.digs.specs.Lists.{Lists};
 ghost use Rattle.in_use.specs.Tables.{table_in};

@@ -1,4 +1,7 @@
 // The programs diglist and readstp for C: a few lines of C call one of these functions and end with the status that it gives.
+
+#![tactic(auto)]
+
 ghost use Rattle.std.specs.Prelude.{◌≤◌};
 
 // The dig list of the STP text on standard input.

@@ -1,4 +1,7 @@
 // The quote: one row gets a new price, and the answer is the least total before the change and after it. Nothing lent is written.
+
+#![tactic(auto)]
+
 ghost use Rattle.std.specs.Prelude.{ℕ, ◌<◌, ◌≤◌, ◌^◌, eqb, length, get_or, cond, ◌≡◌};
 ghost use Rattle.refusal.specs.Outcomes.{refusal_of};
 ghost use Rattle.rowset.specs.Bytes.{in_row};
@@ -14,21 +17,21 @@ use refusal::{Outcome, Refusal};
 const PRICES: usize = 4096;
 
 // The least totals before the change and after it, each as the 64 bits that stand for it in two's complement.
-#[derive(Drop)]
+#[derive(Clone, Copy)]
 pub struct Totals {
     pub before: u64,
     pub after: u64,
 }
 
 // What a quote answers: the two totals, or the refusal.
-#[derive(Drop)]
+#[derive(Clone, Copy)]
 pub enum Quoted {
     Totals(Totals),
     Refused(Refusal),
 }
 
 // A column of 1,024 prices.
-#[derive(Drop)]
+#[derive(Clone, Copy)]
 struct Prices {
     bytes: [u8; PRICES],
 }

@@ -1,5 +1,8 @@
 // The answer of a quote: twenty-four bytes, of which the first sixteen are those of every door, with the least total before, and the last eight the
 // least total after. Other doors write two totals by it too.
+
+#![tactic(auto)]
+
 ghost use Rattle.std.specs.Prelude.{cond, ◌++◌, ◌≡◌};
 ghost use Rattle.answer.specs.Records.{fields_of};
 ghost use Rattle.quote.specs.Answers.{answer_of};
@@ -14,7 +17,7 @@ use quote::Quoted;
 pub const LENGTH: usize = 24;
 
 // The fields of a quote: those of every door, and the 64 bits of the least total after.
-#[derive(Drop)]
+#[derive(Clone, Copy)]
 pub struct QuoteRecord {
     pub first: Record,
     pub after: u64,

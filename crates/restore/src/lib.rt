@@ -1,4 +1,7 @@
 // A struck row of a working table put back into use, on lent words. A call that is refused changes nothing.
+
+#![tactic(auto)]
+
 ghost use Rattle.std.specs.Prelude.{◌≡◌, length};
 ghost use Rattle.change_spec.specs.Changes.{words_of};
 ghost use Rattle.refusal.specs.Outcomes.{refusal_of};

@@ -1,5 +1,8 @@
 // The searches MATCH, MIN, MAX and GREAT over the rows of a table that a slice selects. Their loops stand in the crates `search_match`, `search_great` and `search_extremes`, over columns that are lent, where the first columns may be left out.
 // What a row holds in the others is the row itself, for MATCH, where every row is below 2 ^ (32 - first) (the law `small_row_lem`); the integer is the row's, for GREAT, MIN and MAX, where `sign_columns` are left out (the law `sign-row`).
+
+#![tactic(auto)]
+
 ghost use Rattle.std.specs.Prelude.{◌≡◌};
 ghost use Rattle.rowset.specs.Columns.{repeated_columns};
 ghost use Rattle.rowset.specs.Counts.{columns_read};

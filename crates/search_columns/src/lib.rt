@@ -1,5 +1,8 @@
 // A table's columns as they stand in a path matrix, lent: a caller that searches often lends the columns and copies no table. Here are a table's columns as words, one component of them, and what the loops of the searches share: rows in the running, in place as words or as a slice, narrowed at a column. The searches are in crates `search_match`, `search_great` and `search_extremes`.
 // A column that is not wholly inside what is lent is Θ, so that every function is defined for a matrix of any size. Assumes nothing.
+
+#![tactic(auto)]
+
 ghost use Rattle.std.specs.Prelude.{◌≡◌, ℕ, ◌≤◌, get_or};
 ghost use Rattle.path_matrix.specs.Matrix.{matrix_column};
 ghost use Rattle.slice.specs.Slices.{component};
@@ -20,7 +23,7 @@ const ALL: usize = 512;
 const BITS: usize = 64;
 
 // A table's columns, one after the other.
-#[derive(Drop)]
+#[derive(Clone, Copy)]
 pub struct Stored {
     pub columns: [u64; ALL],
 }

@@ -1,5 +1,8 @@
 // MIN and MAX over a table's columns as they stand in a path matrix, lent. They read the columns from left to right, without the first ones, as many as they are told, and are about the integer that the others stand for in two's complement: the first column that is read is that of the sign.
 // A column that is not wholly inside what is lent is Θ, so that both are defined for a matrix of any size. Assumes nothing.
+
+#![tactic(auto)]
+
 ghost use Rattle.std.specs.Prelude.{◌≡◌, true, not, cond, ◌+◌, ◌-◌, ◌*◌, ◌≤◌, eqb, length};
 ghost use Rattle.rowset.specs.Sets.{any};
 ghost use Rattle.rowset.specs.Columns.{width, in_columns};

@@ -1,5 +1,8 @@
 // GREAT over a table's columns as they stand in a path matrix, lent. It reads the columns from left to right, without the first ones, as many as it is told, and is about the integer that the others stand for in two's complement: the first column that is read is that of the sign.
 // A column that is not wholly inside what is lent is Θ, so that GREAT is defined for a matrix of any size. Assumes nothing.
+
+#![tactic(auto)]
+
 ghost use Rattle.std.specs.Prelude.{◌≡◌, true, ◌+◌, ◌-◌, ◌*◌, ◌<◌, ◌≤◌, length};
 ghost use Rattle.rowset.specs.Sets.{either};
 ghost use Rattle.rowset.specs.Columns.{width};
@@ -21,7 +24,7 @@ const COLUMN: usize = 16;
 const ALL: usize = 512;
 
 // What GREAT gives: the rows that are greater than the number compared with, and those that equal it.
-#[derive(Drop)]
+#[derive(Clone, Copy)]
 pub struct Compared {
     pub greater: Slice,
     pub equal: Slice,

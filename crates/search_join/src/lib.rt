@@ -1,5 +1,8 @@
 // MATCH over a table's columns, lent as words, its rows joined in place to those of a slice: what a procedure does for one vertex after another. No table and no slice is copied.
 // The columns are read from right to left, without the first ones, as many as it is told, and no more of them once no row is left in the running. Assumes nothing.
+
+#![tactic(auto)]
+
 ghost use Rattle.std.specs.Prelude.{◌≡◌, true, false, cond, ℕ, ◌+◌, ◌-◌, ◌/◌, ◌^◌, ◌≤◌, ◌<◌, eqb, length, get_or};
 ghost use Rattle.rowset.specs.Columns.{width, in_columns};
 ghost use Rattle.rowset.specs.Counts.{equal_right, read_within};

@@ -1,5 +1,8 @@
 // MATCH over a table's columns as they stand in a path matrix, lent. It reads the columns from right to left and is about the number that a row holds in the columns that are not left out, 0 where none is left.
 // A column that is not wholly inside what is lent is Θ, so that MATCH is defined for a matrix of any size. Assumes nothing.
+
+#![tactic(auto)]
+
 ghost use Rattle.std.specs.Prelude.{◌≡◌, ◌-◌, ◌/◌, ◌^◌, eqb};
 ghost use Rattle.rowset.specs.Columns.{width, in_columns};
 ghost use Rattle.rowset.specs.Counts.{equal_right, read_within};
@@ -13,7 +16,7 @@ use slice::Slice;
 const WIDTH: usize = 32;
 
 // What MATCH gives: the rows that it found, and the number of columns that it read.
-#[derive(Drop)]
+#[derive(Clone, Copy)]
 pub struct Matched {
     pub rows: Slice,
     pub read: usize,

@@ -1,5 +1,8 @@
 // Slices of 1,024 components, numbered from 1 at the top: the machine's CLR, SET, FND, STEP, SOME, ZERO, and the operations and, or, xor and not.
 // A component outside 1 to 1,024 reads 0, and writing it changes nothing.
+
+#![tactic(auto)]
+
 ghost use Rattle.std.specs.Prelude.{◌≡◌, not};
 ghost use Rattle.rowset.specs.Sets.{empty, up_to, both, either, one_of, without, take_out, any, uppermost};
 ghost use Rattle.slice.specs.Slices.{size, component, written};
@@ -16,13 +19,13 @@ pub const WORDS: usize = 16;
 const BITS: usize = 64;
 
 // Sixteen words of 64 bits: component i is bit (i - 1) % 64 of word (i - 1) / 64. What a slice means is its components: contracts speak of these, and of words only where words are lent.
-#[derive(Drop)]
+#[derive(Clone, Copy)]
 pub struct Slice {
     pub words: [u64; WORDS],
 }
 
 // What STEP gives: the position of the uppermost 1, and the slice without it.
-#[derive(Drop)]
+#[derive(Clone, Copy)]
 pub struct Stepped {
     pub at: usize,
     pub slice: Slice,

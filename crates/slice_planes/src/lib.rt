@@ -1,5 +1,8 @@
 // Bytes split into bit planes: eight slices, of which plane k holds bit k of each row's byte. This is how a column of bytes becomes columns of bits.
 // The bytes of eight rows go into one word, a block. The bits k of its bytes are then taken out together, so that eight blocks give 64 components.
+
+#![tactic(auto)]
+
 ghost use Rattle.std.specs.Prelude.{◌≡◌, ℕ, ◌+◌, ◌<◌, ◌*◌, ◌/◌, ◌%◌, ◌^◌, length, get_or};
 ghost use Rattle.slice_planes.specs.Planes.{plane, bit_plane};
 ghost use Rattle.slice_planes.specs.Steps.Blocks.{block_of, word_of};
@@ -7,7 +10,7 @@ ghost use Rattle.slice_planes.specs.Steps.Blocks.{block_of, word_of};
 use slice::{Slice, WORDS};
 
 // Plane k stands at index k.
-#[derive(Drop)]
+#[derive(Clone, Copy)]
 pub struct Planes {
     pub planes: [Slice; 8],
 }
@@ -16,7 +19,7 @@ pub struct Planes {
 const BLOCKS: usize = 128;
 
 // Byte l of the block at index 8 q + g is that of row 64 q + 8 l + g, rows counted from 0.
-#[derive(Drop)]
+#[derive(Clone, Copy)]
 struct Blocks {
     blocks: [u64; BLOCKS],
 }

@@ -1,4 +1,7 @@
 // STEP over a slice that is lent as words: the slice is changed in place and not copied for each row.
+
+#![tactic(auto)]
+
 ghost use Rattle.std.specs.Prelude.{◌≡◌, false, length};
 ghost use Rattle.rowset.specs.Sets.{take_out, uppermost};
 ghost use Rattle.rowset.specs.Words.{in_words};

@@ -1,5 +1,8 @@
 // Slices lent as words, read and changed in place: a slice that is visited row by row is not copied for each row.
 // A component that is not there reads 0, and writing it changes nothing.
+
+#![tactic(auto)]
+
 ghost use Rattle.std.specs.Prelude.{ℕ, ◌≤◌, ◌<◌, true, false, ◌≡◌, length};
 ghost use Rattle.rowset.specs.Sets.{one_of, uppermost, count};
 ghost use Rattle.rowset.specs.Words.{in_words};

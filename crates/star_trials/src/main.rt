@@ -1,6 +1,9 @@
 // Reads trials on standard input and prints what MatrixPath, CST and MST1 answer; the file stdout has what they should. Beside a weight that passes stands yes where no other tree weighs the same, else no.
 // A line is a trial: its name, a colon, and numbers: the procedure (1 CST, 2 MST1, 3 MatrixPath on a matrix of 112 words, 4 CST with the rows of an exchange that gives another tree of the same weight), n, s (for
 // MatrixPath), and then each column, as its length and its entries: left, right, prices, marks. A price is the number of its 32 bits: 4294967295 is -1.
+
+#![tactic(auto)]
+
 ghost use Rattle.std.specs.Prelude.{◌≤◌, length};
 
 use cst::{Checked, Pass, Verdict};
@@ -11,7 +14,7 @@ use refusal::{Outcome, Refusal};
 use slice::Slice;
 
 // A number that was read, and where reading goes on.
-#[derive(Drop)]
+#[derive(Clone, Copy)]
 struct Parsed {
     value: u32,
     next: usize,
@@ -224,7 +227,7 @@ fn least(a: usize, b: usize) -> usize
 }
 
 // A column that was read: the number of its entries, and where reading goes on.
-#[derive(Drop)]
+#[derive(Clone, Copy)]
 struct Column {
     count: usize,
     next: usize,

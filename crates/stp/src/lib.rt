@@ -1,4 +1,7 @@
 // The import of a SteinLib STP text into the three columns of a table. The text is read whole, into columns of the reader's own, before a lent column is written.
+
+#![tactic(auto)]
+
 ghost use Rattle.std.specs.Prelude.{[], ◌∷◌, ◌++◌, ◌≡◌, ◌*◌, ◌≤◌, length, take, drop, get_or};
 ghost use Rattle.std.proofs.Math.Option.{none};
 ghost use Rattle.stp_reader.specs.Readings.{Sized, read_of, rows_of, finished};
@@ -12,14 +15,14 @@ use refusal::{Outcome, Refusal};
 use stp_reader::lines::{EDGES, FOUND, LINES, NODES, ROWS, Step, WEIGHT_BYTES};
 
 // The number of vertices and of rows that were read.
-#[derive(Drop)]
+#[derive(Clone, Copy)]
 pub struct Sizes {
     pub n: u32,
     pub m: u32,
 }
 
 // What an import answers.
-#[derive(Drop)]
+#[derive(Clone, Copy)]
 pub enum Imported {
     Taken(Sizes),
     Refused(Refusal),

@@ -1,5 +1,8 @@
 // The reader of a SteinLib STP text: its words become the columns of a table, or the place where the layout is broken. The section reader and the line reader
 // call each other, once a section, so that what they hand on is what a text of many sections costs in stack.
+
+#![tactic(auto)]
+
 ghost use Rattle.std.specs.Prelude.{true, false, cond, ◌&&◌, ◌||◌, [], ◌++◌, ◌≡◌, ◌-◌, ◌≤◌, ◌<◌, eqb, length, take, drop, replicate};
 ghost use Rattle.stp_spec.specs.Import.{max_text, read_text, columns_of};
 ghost use Rattle.stp_spec.specs.Reader.{Read, opening, sections, naming, closed, read_from};
@@ -19,7 +22,7 @@ pub mod lines; // lines.rt: the lines of a section
 const MAX_TEXT: usize = 65536;
 
 // A text that was read: how reading ended, the numbers found, and the columns, of which the rows found are the text's.
-#[derive(Drop)]
+#[derive(Clone, Copy)]
 pub struct Text {
     pub step: Step,
     pub found: [u32; FOUND],
@@ -30,7 +33,7 @@ pub struct Text {
 
 // A line between sections: where it opens a section, the step is at the end of the section's name, and `graph` says that the name is Graph;
 // where it does not, the step says how reading ends.
-#[derive(Drop)]
+#[derive(Clone, Copy)]
 struct Heading {
     begun: bool,
     graph: bool,

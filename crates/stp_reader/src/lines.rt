@@ -29,21 +29,21 @@ pub const EDGES: usize = 2;
 pub const LINES: usize = 3;
 
 // Where a reader has come to: the place where the layout is broken, or the place where reading goes on.
-#[derive(Drop)]
+#[derive(Clone, Copy)]
 pub struct Step {
     pub broken: bool,
     pub at: usize,
 }
 
 // What a line came to: `more` says that the section goes on.
-#[derive(Drop)]
+#[derive(Clone, Copy)]
 struct Line {
     more: bool,
     step: Step,
 }
 
 // A number or the 32 bits of a price that was read, or the place where the layout is broken. The flag stands last, where it costs no room.
-#[derive(Drop)]
+#[derive(Clone, Copy)]
 struct Counted {
     at: usize,
     value: u32,

@@ -1,4 +1,7 @@
 // The words of an STP text: a byte's class, the next word of a text, the names that a word may be, and the number or the price that it is.
+
+#![tactic(auto)]
+
 ghost use Rattle.std.specs.Prelude.{◌≡◌, drop};
 ghost use Rattle.stp_words.specs.Bytes.{within, class_of, of_words, upper};
 ghost use Rattle.stp_words.specs.Names.{same};
@@ -7,7 +10,7 @@ ghost use Rattle.stp_words.specs.Answers.{number_in, price_in};
 ghost use Rattle.stp_words.specs.Spans.{first_after, gap_from, end_from, span_of};
 
 // What a byte is.
-#[derive(Drop)]
+#[derive(Clone, Copy)]
 pub enum Class {
     Digit,
     Letter,
@@ -17,7 +20,7 @@ pub enum Class {
 }
 
 // A word of a text: its first byte's place, the place after its last byte, and whether it is the first word of its line.
-#[derive(Drop)]
+#[derive(Clone, Copy)]
 pub struct Span {
     pub from: usize,
     pub to: usize,
@@ -25,21 +28,21 @@ pub struct Span {
 }
 
 // Where a word begins, and whether it is the first of its line.
-#[derive(Drop)]
+#[derive(Clone, Copy)]
 struct Start {
     at: usize,
     first: bool,
 }
 
 // The number that a word is, if it is one.
-#[derive(Drop)]
+#[derive(Clone, Copy)]
 pub enum Number {
     Value(u32),
     Missing,
 }
 
 // The price that a word is, if it is one: v, or v below zero.
-#[derive(Drop)]
+#[derive(Clone, Copy)]
 pub enum Price {
     Plus(u32),
     Minus(u32),

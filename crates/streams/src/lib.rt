@@ -1,9 +1,12 @@
 // Whole texts read, with errors told apart from ends, and the start of a buffer. No contract can say which bytes a call of C reads: what is said here is where they stand.
+
+#![tactic(auto)]
+
 ghost use Rattle.std.specs.Prelude.{take, ◌≡◌};
 ghost use Rattle.io.specs.Counts.{IsPrefixLen};
 
 // What was read: the number of bytes at the buffer's start, and whether an error ended the reading.
-#[derive(Drop)]
+#[derive(Clone, Copy)]
 pub struct Input {
     pub size: usize,
     pub failed: bool,

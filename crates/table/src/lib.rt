@@ -1,4 +1,7 @@
 // Tables of 1,024 rows of 32 bits, stored as 32 slices; column 1 is the most significant. COL and ROW read a table; a load makes one from a column of bytes.
+
+#![tactic(auto)]
+
 ghost use Rattle.std.specs.Prelude.{◌≡◌, ℕ, ◌+◌, ◌*◌, ◌≤◌, ◌<◌, ◌^◌};
 ghost use Rattle.rowset.specs.Sets.{empty};
 ghost use Rattle.slice.specs.Slices.{component};
@@ -16,13 +19,13 @@ pub const WIDTH: usize = 32;
 const UPPER: usize = 24;
 
 // The table's columns from left to right: column j stands at index j - 1.
-#[derive(Drop)]
+#[derive(Clone, Copy)]
 pub struct Table {
     pub columns: [Slice; WIDTH],
 }
 
 // What a load gives: the refusal, with number 0 where the column is taken, and the table.
-#[derive(Drop)]
+#[derive(Clone, Copy)]
 pub struct Loaded {
     pub refusal: Refusal,
     pub table: Table,

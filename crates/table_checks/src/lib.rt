@@ -1,6 +1,9 @@
 // The checks that every procedure makes of a table of m rows, and CST and MatrixPath of a claim: causes 1 to 4, 15, 6 and 9, each for columns of any bytes and any lengths.
 // What stands in rows that are not in use is not looked at.
 // Rows are counted from 1; 0 is no row, and a byte past a column's end reads 0.
+
+#![tactic(auto)]
+
 ghost use Rattle.std.specs.Prelude.{ℕ, ◌+◌, ◌≤◌, Bool, false, List, [], ◌∷◌, ◌++◌, ◌≡◌, length, get_or};
 ghost use Rattle.rowset.specs.Bytes.{little, in_row};
 ghost use Rattle.rowset.specs.Sets.{both, uppermost, count};

@@ -1,6 +1,9 @@
 // Byte columns loaded straight into the words of a table's columns, which the caller lends: ends, with one byte a row, and prices, with four. Only the words that the rows reach are written, and of a table of ends only the last eight columns. Columns of zeros then hold the table. A column that cannot be loaded, one of over 1,024 rows or whose length is not a number of whole rows, leaves all as it was.
 // The bytes of eight rows, each eight after the one before it, go into one word, a block. The bits k of its bytes are then taken out together, so that eight blocks give 64 rows.
 // Beside the loads: how many columns only repeat the sign, and a row's end, which is read from its byte and needs no load.
+
+#![tactic(auto)]
+
 ghost use Rattle.std.specs.Prelude.{◌≡◌, ℕ, ◌+◌, ◌-◌, ◌*◌, ◌/◌, ◌<◌, ◌≤◌, length, get_or};
 ghost use Rattle.rowset.specs.Columns.{width, in_columns, repeated_columns};
 ghost use Rattle.path_matrix.specs.Matrix.{matrix_column};
@@ -22,7 +25,7 @@ const BITS: usize = 64;
 const LOWEST: u64 = 0x0101010101010101;
 
 // Byte l of the block at index g is that of row 64 q + 8 l + g, for some q, rows counted from 0.
-#[derive(Drop)]
+#[derive(Clone, Copy)]
 struct Blocks {
     blocks: [u64; 8],
 }

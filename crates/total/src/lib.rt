@@ -1,4 +1,7 @@
 // The total of a claim's marked rows over a table of either kind: the sum of their prices in the 64 bits that stand for it, or the refusal.
+
+#![tactic(auto)]
+
 ghost use Rattle.std.specs.Prelude.{◌≡◌};
 ghost use Rattle.in_use.specs.Tables.{table_in};
 ghost use Rattle.total_spec.specs.Total.{claim_total};
@@ -9,7 +12,7 @@ use refusal::{Outcome, Refusal};
 use slice::rows::rows_among;
 
 // What is answered: the 64 bits of the total, or the refusal.
-#[derive(Drop)]
+#[derive(Clone, Copy)]
 pub enum Total {
     Sum(u64),
     Refused(Refusal),

@@ -1,4 +1,7 @@
 // The verdict on a table file in one line, made in a lent column of bytes: the file is read into columns, and CST is called over what was read. Nothing is printed here.
+
+#![tactic(auto)]
+
 ghost use Rattle.std.specs.Prelude.{◌≤◌, length, ◌≡◌};
 ghost use Rattle.decimal.specs.Puts.{Puts};
 ghost use Rattle.star_spec.specs.Call.{work_of};

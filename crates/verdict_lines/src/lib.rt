@@ -1,4 +1,7 @@
 // The line of each verdict on a table file, made in a lent column of bytes. Nothing is printed here.
+
+#![tactic(auto)]
+
 ghost use Rattle.std.specs.Prelude.{◌++◌};
 ghost use Rattle.cst.specs.Verdicts.{answer_of};
 ghost use Rattle.decimal.specs.Decimal.{natural};
@@ -18,7 +21,7 @@ pub const LINE_BYTES: usize = 48;
 const LINE_END: u8 = 10;
 
 // A line to print: the number of its bytes, and the exit status of a program that prints it: 0 where the plan passes, 1 where a cheaper one exists, 2 for a refusal.
-#[derive(Drop)]
+#[derive(Clone, Copy)]
 pub struct Line {
     pub size: usize,
     pub status: u32,

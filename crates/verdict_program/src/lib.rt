@@ -2,6 +2,9 @@
 // holds the longest text, call it and end with its status.
 // The line is made whole by verdict::print_text, whose contract says what it is, before a byte is printed. What the kit's contracts say of C's read and write ends here: no contract says which
 // bytes were read, nor what C does with those that are handed to it.
+
+#![tactic(auto)]
+
 ghost use Rattle.std.specs.Prelude.{◌⊎◌, ◌≡◌, ◌≤◌};
 ghost use Rattle.verdict_spec.specs.VerdictText.{verdict_text, verdict_status};
 

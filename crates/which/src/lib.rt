@@ -1,4 +1,7 @@
 // Which of two plans stands: of two lent mark columns over one table the lighter one is handed back as it is, the first if they weigh the same. Neither is written.
+
+#![tactic(auto)]
+
 ghost use Rattle.std.specs.Prelude.{◌≡◌};
 ghost use Rattle.answer.specs.Records.{fields_of};
 ghost use Rattle.which_spec.specs.Door.{which_fields, plan_number, plan_of, start_of, which_door, which_returns, handed_back};

@@ -1,4 +1,7 @@
 // Which of two plans stands over a table of either kind: the refusals of both, and their weights.
+
+#![tactic(auto)]
+
 ghost use Rattle.std.specs.Prelude.{◌≡◌, ℕ, Bool, List, int_lt};
 ghost use Rattle.std.proofs.Math.Option.{none};
 ghost use Rattle.which_spec.specs.Which.{lighter_plan, which};
@@ -19,7 +22,7 @@ use slice::rows::rows_among;
 const OFFSET: u64 = 9223372036854775808;
 
 // What is answered: the plan that stands, with the 64 bits of its weight, or the refusal.
-#[derive(Drop)]
+#[derive(Clone, Copy)]
 pub enum Decision {
     First(u64),
     Second(u64),
