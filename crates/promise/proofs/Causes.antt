@@ -199,6 +199,7 @@ module _ (t : P.Table) (uses : ℕ → Bool) (agree : (k : ℕ) → k < t.m → 
 
   none_first : {os : List (Option Refusal)} {xs : List ℕ} → Tolds os xs → refusal os ≡ none → (y p : ℕ) → ¬ P.First t c xs y p
   unfolding refusal or_else
+  none_first none_left e y p f = elim f [ ]
   none_first (and_then (silent n) w) e y p (P.here k) = n p k
   none_first (and_then (silent n) w) e y p (P.later m f) = none_first w e y p f
   none_first (and_then (speaks q k) w) e y p f = absurd (apart _ e)

@@ -109,6 +109,7 @@ accepted t c v r l e s x p (P.later _ (P.here (P.rows n))) = n r
 accepted t c v r l e s x p (P.later _ (P.later _ (P.here (P.lengths n)))) = n l
 accepted t c v r l e s x p (P.later _ (P.later _ (P.later _ (P.here (P.ends k u))))) = u.1 (e k u.0)
 accepted t c v r l e s x p (P.later _ (P.later _ (P.later _ (P.later _ (P.here (P.repeats k u)))))) = u.1 (s k u.0)
+accepted t c v r l e s x p (P.later _ (P.later _ (P.later _ (P.later _ (P.later _ none))))) = elim none [ ]
 
 yard-accepted : (c : List ℕ) → length c ≡ 5 → P.Accepted yard c
 yard-accepted c e =
@@ -207,6 +208,7 @@ ten-four x p (P.later _ (P.later _ (P.later _ (P.later _ (P.here (P.repeats k u)
 ten-four x p (P.later _ (P.later _ (P.later _ (P.later _ (P.later _ (P.here (P.claim-byte k u))))))) =
     absurd (u.1 (below-five (λ k. P.at c125 k ≤ 1) (omega arith) (omega arith) (omega arith) (omega arith) (omega arith) k u.0.0))
 ten-four x p (P.later _ (P.later _ (P.later _ (P.later _ (P.later _ (P.later _ (P.here (P.count n)))))))) = absurd (n refl)
+ten-four x p (P.later _ (P.later _ (P.later _ (P.later _ (P.later _ (P.later _ (P.later _ (P.later _ none)))))))) = elim none [ ]
 ten-four x p (P.later _ (P.later _ (P.later _ (P.later _ (P.later _ (P.later _ (P.later _ (P.here (P.unjoined v h lone others))))))))) =
     (refl, up-to-four (λ v. ¬ P.Walk yard c125 1 v → v ≡ 4) (λ n. absurd (n P.stay)) (λ n. absurd (n two)) (λ n. absurd (n (P.forth 1 (omega arith, refl) refl two))) (λ n. refl) v h lone)
   where

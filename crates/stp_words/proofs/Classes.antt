@@ -9,7 +9,7 @@ use mathlib.Core.List.{List}
 use mathlib.Core.Logic.{◌⊎◌, inl, inr}
 use mathlib.Core.Path.{◌≡◌, refl}
 use native.Mathlib.Omega.{arith}
-use types.Run.{OneOf}
+use borrow.Enum.Refused.{Among}
 use Rattle.stp_words.specs.Bytes.{within, class_of, of_words, upper}
 use Rattle.stp_words.specs.Spans.{first_after}
 use Rattle.stp_words.specs.Text.{Before, at_start, in_gap, in_word, after, begins, is_first}
@@ -87,7 +87,7 @@ digit-class b = go (within 48 57 b) (within 65 90 b || within 97 122 b) (eqb b 9
 
 -- a class by its number among the classes
 abbrev pub numbered : List ℕ → Class → Type 0
-numbered keys k = OneOf keys (tag_of the_type k)
+numbered keys k = Among keys (tag_of the_type k)
 
 -- what stands before the next byte where no word goes on
 abbrev pub before : Bool → Before

@@ -1,0 +1,22 @@
+-- `change::clear_from` meets its contract. The loop's invariant: the bytes before k are the old ones before `from` and 0 after them. The measure is what is left of the column.
+-- Assumes nothing.
+use Prim.Native.Nat.{ℕ, ◌+◌, ◌-◌, ◌≤◌, ◌<◌}
+use lib.ListN.{length, take, set, replicate, length-set, replicate-append-replicate}
+use lib.Seq.{take-suc-set, take_all}
+use mathlib.Core.List.{List, [], ◌∷◌, ◌++◌, append_assoc, append-nil}
+use mathlib.Core.Path.{◌≡◌, refl, sym, ap, ◌∙◌}
+use native.Mathlib.Numerals.{add-one}
+use native.Mathlib.Omega.{arith}
+use Rattle.change.proofs.clear_from.Given as goal
+
+pub record Clearing (l : List ℕ) (start : ℕ) (column : List ℕ) (k : ℕ) : Type 0 where
+  pub from : start ≤ k
+  pub within : k ≤ length l
+  pub top : take k column ≡ take start l ++ replicate (k - start) 0
+  pub same : length column ≡ length l
+
+abbrev pub invariant-loop-k : goal.invariant-loop-k
+invariant-loop-k l = Clearing l.initial.column l.from l.column l.k
+
+abbrev pub decreases-loop-k : goal.decreases-loop-k
+decreases-loop-k l = length l.initial.column - l.k

@@ -1,0 +1,19 @@
+-- `change_door::merge_door::star_merge` meets its contract: what MERGE, `of_outcome` and `write_answer` promise, one after the other. Assumes nothing.
+use borrow.Author.Rules.{rules}
+use borrow.Author.Tests.{not-true, not-false}
+use mathlib.Core.Path.{refl, sym, ap, ◌∙◌}
+use Rattle.change_meaning.proofs.Bytes.{merge-call}
+use Rattle.star_spec.specs.Door.{answer_after, door_returns, outcome_fields}
+use Rattle.change_spec.specs.Door.{merge_door, merge_door_table}
+use Rattle.change_door.proofs.merge_door.star_merge.Goals as goal
+
+pub returns-then-not-well_lent : goal.returns-then-not-well_lent
+unfolding door_returns answer_after merge_door merge_door_table
+returns-then-not-well_lent c =
+    let ill = sym c.well_lent.ensures ∙ c.if-not-well_lent.true in let told = merge-call (rw ill (refl, (refl, refl))) in record { returned = told.0; answered = told.1; table = told.2; means = told.3 }
+
+pub returns : goal.returns
+unfolding door_returns merge_door merge_door_table
+returns c =
+    let well = sym c.well_lent.ensures ∙ c.if-not-well_lent.false in
+    let (answer, left) = c.merge-o.ensures in let told = merge-call (rw well (refl, (c.write_answer.ensures ∙ ap (answer_after _) (c.of_outcome-x.ensures ∙ ap outcome_fields answer), left))) in record { returned = told.0; answered = told.1; table = told.2; means = told.3 }

@@ -1,0 +1,19 @@
+-- `claim::write_claim` meets its contract. The loop's invariant: the bytes before index i are those of the claim, and the length is as it was.
+-- The measure is what is left of the column. Assumes nothing.
+use Rattle.std.proofs.Common.{◌≡◌, ℕ, suc, ◌+◌, ◌-◌, ◌<◌, Bool, cond, List, [], ◌∷◌, length, get_or, sym, refl, ap, ◌∙◌, ap₂, zero-add, arith}
+use Rattle.slice_words.proofs.Laws.{component-words}
+use Rattle.slice.specs.Slices.{component}
+use Rattle.slice.proofs.Stores.{Filled, filled_none, filled_more, filled-all}
+use Rattle.star_spec.specs.Call.{claim_from, claim_of}
+use Rattle.claim.proofs.Laws.{as-digit}
+use Rattle.claim.proofs.write_claim.Given as goal
+
+-- the byte at index k of the claim that marks the rows of S
+abbrev pub Byte : (ℕ → Bool) → ℕ → ℕ → Type 0
+Byte S k b = b ≡ cond (S (k + 1)) 1 0
+
+abbrev pub invariant-loop-i : goal.invariant-loop-i
+invariant-loop-i l = Filled (length l.initial.mark) 0 (Byte (component l.rows)) l.mark l.i
+
+abbrev pub decreases-loop-i : goal.decreases-loop-i
+decreases-loop-i l = length l.initial.mark - l.i

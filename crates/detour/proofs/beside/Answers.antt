@@ -1,0 +1,17 @@
+-- `detour::beside` meets its contract, in both of its cases. Assumes nothing.
+use borrow.Author.Tests.{not-true, not-false}
+use mathlib.Core.Bool.{Bool, true, false, ◌&&◌}
+use mathlib.Core.Path.{◌≡◌, refl}
+use Rattle.detour.proofs.beside.Goals as goal
+
+never : (b d : Bool) → b ≡ false → false ≡ (b && d)
+never b d h = rw h
+
+always : (b d : Bool) → b ≡ true → d ≡ (b && d)
+always b d h = rw h
+
+pub returns-then-not-table : goal.returns-then-not-table
+returns-then-not-table c = (refl, never c.args.table.whole _ c.if-not-table.true, refl)
+
+pub returns : goal.returns
+returns c = (refl, always c.args.table.whole _ c.if-not-table.false, refl)

@@ -1,0 +1,20 @@
+-- `digs_lines::put_rows` meets its contract. The loop's invariant: the lines of the slice's rows of 1 to i were put. Assumes nothing.
+use borrow.Author.Rules.{rules}
+use lib.ListN.{length}
+use mathlib.Core.Bool.{Bool, cond}
+use mathlib.Core.List.{List, []}
+use mathlib.Core.Path.{◌≡◌, refl}
+use native.Mathlib.Numerals.{add-one}
+use native.Mathlib.Omega.{arith}
+use Prim.Native.Nat.{ℕ, ◌+◌, ◌-◌, ◌≤◌, ◌<◌}
+use Rattle.decimal.proofs.Laws.{puts-append, puts-length}
+use Rattle.decimal.specs.Puts.{Puts}
+use Rattle.digs_spec.specs.DigList.{row_line, row_lines}
+use Rattle.slice.specs.Slices.{component}
+use Rattle.digs_lines.proofs.put_rows.Given as goal
+
+abbrev pub invariant-loop-i : goal.invariant-loop-i
+invariant-loop-i l = (l.i ≤ l.m) × Puts l.initial.out 0 (row_lines (row_line l.left l.right l.weight) l.i (component l.rows)) l.out l.next
+
+abbrev pub decreases-loop-i : goal.decreases-loop-i
+decreases-loop-i l = l.m - l.i

@@ -1,0 +1,16 @@
+-- `districts::ends_rise` meets its contract. The loop's invariant: the ends that are left rise from p exactly where all rise from 0.
+-- Assumes nothing.
+use Prim.Native.Nat.{◌≤◌, ◌<◌, ◌-◌, ◌^◌}
+use borrow.Author.Rules.{rules}
+use lib.ListN.{length, drop}
+use mathlib.Core.Path.{◌≡◌, refl}
+use native.Mathlib.Omega.{arith}
+use Rattle.districts.proofs.Ends.{rises-not, rises-more, rises-last}
+use Rattle.districts_theory.specs.Districts.{rises_to}
+use Rattle.districts.proofs.ends_rise.Given as goal
+
+abbrev pub invariant-loop-j : goal.invariant-loop-j
+invariant-loop-j l = (l.j ≤ length l.ends) × (rises_to l.m l.p (drop l.j l.ends) ≡ rises_to l.m 0 l.ends)
+
+abbrev pub decreases-loop-j : goal.decreases-loop-j
+decreases-loop-j l = length l.ends - l.j

@@ -1,0 +1,16 @@
+-- `districts_door::star_districts` meets its contract: what `districts::districts`, `of_built` and `write_answer` promise, one after the other. Assumes nothing.
+use borrow.Author.Rules.{rules}
+use borrow.Author.Tests.{not-true, not-false}
+use mathlib.Core.Path.{sym, ◌∙◌}
+use Rattle.districts_spec.proofs.Bytes.{districts-call}
+use Rattle.districts_door.proofs.Laws.{districts-shut, districts-open}
+use Rattle.districts_door.proofs.star_districts.Goals as goal
+
+pub returns-then-not-well_lent : goal.returns-then-not-well_lent
+returns-then-not-well_lent c =
+     let told = districts-call (districts-shut _ _ _ _ (sym c.well_lent.ensures ∙ c.if-not-well_lent.true)) in record { returned = told.0; written = told.1; means = told.2 }
+
+pub returns : goal.returns
+returns c =
+    let well = sym c.well_lent.ensures ∙ c.if-not-well_lent.false in
+    let ((rows, whole), used) = c.plain-table.ensures in let told = districts-call (districts-open _ _ _ _ well c.write_answer.ensures c.of_built-x.ensures (rw (rows, whole, used) at c.districts-b.ensures)) in record { returned = told.0; written = told.1; means = told.2 }

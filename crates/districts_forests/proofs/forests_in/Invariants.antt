@@ -1,0 +1,19 @@
+-- `districts_forests::forests_in` meets its contract. The loop's invariant: the forests gathered, with those of the ends that are left, are all. The measure is the number of ends left.
+-- Assumes nothing.
+use Prim.Native.Nat.{◌≤◌, ◌<◌, ◌-◌}
+use borrow.Author.Rules.{rules}
+use lib.ListN.{length}
+use native.Mathlib.Omega.{arith}
+use Rattle.districts_forests.proofs.Runs.{Gathered, gathered_none, gathered-more, gathered-all}
+use Rattle.districts_theory.specs.Districts.{run}
+use Rattle.search_columns.specs.Steps.Integers.{integers_after}
+use Rattle.mst1.specs.Steps.Growth.{graph_by}
+use Rattle.slice.specs.Slices.{component}
+use Rattle.table.specs.Loads.{loaded_row}
+use Rattle.districts_forests.proofs.forests_in.Given as goal
+
+abbrev pub invariant-loop-j : goal.invariant-loop-j
+invariant-loop-j l = (l.j ≤ length l.ends) × Gathered (graph_by (loaded_row 1 l.left) (loaded_row 1 l.right) l.rows l.n) (integers_after l.weight l.first) l.ends (component l.all) l.p l.j
+
+abbrev pub decreases-loop-j : goal.decreases-loop-j
+decreases-loop-j l = length l.ends - l.j

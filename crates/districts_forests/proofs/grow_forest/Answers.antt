@@ -1,0 +1,46 @@
+-- `districts_forests::grow_forest` meets its contract. The loop's invariant: the slices are those of the forest after k rows. The measure is the number of rows left.
+-- Assumes nothing.
+use Prim.Native.Nat.{◌≤◌, ◌<◌, ◌-◌, ◌^◌}
+use borrow.Author.Rules.{rules}
+use native.Mathlib.Omega.{arith}
+use Rattle.districts_forests.proofs.Growing.{Grew, grew_none, grew-ended, grew-more, grew-whole, joined-both}
+use Rattle.slice_words.proofs.Joining.{zeros-none}
+use Rattle.search_columns.specs.Steps.Integers.{integers_after}
+use Rattle.mst1.specs.Steps.Growth.{graph_by}
+use Rattle.rowset.specs.Words.{in_words}
+use Rattle.slice.specs.Slices.{component, bit}
+use Rattle.table.specs.Loads.{loaded_row}
+use Rattle.districts_forests.proofs.grow_forest.Goals as goal
+
+pub loop-k-init : goal.loop-k-init
+unfolding in_words component bit
+loop-k-init c = (omega arith, grew_none _ _ zeros-none zeros-none zeros-none, omega arith)
+
+pub returns-then-i-eq0 : goal.returns-then-i-eq0
+unfolding in_words component bit
+returns-then-i-eq0 c =
+    let rows = c.args.rows in
+    grew-ended _ _ _ rows _ c.loop-k.invariant.1 c.next_row-i.ensures c.loop-k.invariant.0 c.if-i-eq0.true
+
+pub overflow_add-k : goal.overflow_add-k
+overflow_add-k c = omega (arith, c.loop-k-test.true, c.loop-k.invariant.2)
+
+pub loop-k-smaller : goal.loop-k-smaller
+loop-k-smaller c = omega (arith, c.loop-k-test.true)
+
+pub loop-k-preserved : goal.loop-k-preserved
+unfolding in_words component bit
+loop-k-preserved c =
+    let l = c.loop-k in
+    let rows = c.args.rows in (
+      omega (arith, c.loop-k-test.true),
+      grew-more _ _ _ rows _ l.invariant.1 c.next_row-i.ensures (omega (arith, c.if-i-eq0.false)) c.end_at-u.ensures.end c.end_at-v.ensures.end
+          (joined-both _ _ _ (component rows) _ _ _ c.requires.0 c.match_ends.ensures.rows c.match_ends-in-loop-k.ensures.rows)
+          (joined-both _ _ _ (component rows) _ _ _ c.requires.1 c.match_ends-in-loop-k-2.ensures.rows c.match_ends-in-loop-k-3.ensures.rows)
+          c.put_row.ensures.rows,
+      l.invariant.2,
+    )
+
+pub returns : goal.returns
+unfolding in_words component bit
+returns c = grew-whole _ _ _ c.args.rows _ c.loop-k.invariant.1 (omega arith)

@@ -1,0 +1,20 @@
+-- `file::largest_of` meets its contract. The loop's invariant: the largest byte is the larger of what was found and of what is left. Assumes nothing.
+use Prim.Native.Nat.{◌-◌, ◌≤◌, max}
+use borrow.Author.Rules.{rules}
+use lib.ListN.{length, drop}
+use mathlib.Core.Path.{◌≡◌}
+use native.Mathlib.Omega.{arith}
+use Rattle.file_spec.specs.Reader.{largest}
+use Rattle.file.proofs.Laws.{largest-start, largest-turn, largest-end}
+use Rattle.file.proofs.largest_of.Goals as goal
+
+pub loop-k-init : goal.loop-k-init
+loop-k-init c = (omega arith, largest-start _)
+
+pub loop-k-preserved : goal.loop-k-preserved
+loop-k-preserved c =
+    let l = c.loop-k in
+    (omega arith, largest-turn _ l.k l.most _ (omega arith) (rw c.number_of_lem.ensures at c.larger-most.ensures) l.invariant.1)
+
+pub returns : goal.returns
+returns c = let l = c.loop-k in largest-end _ l.k l.most (omega arith) l.invariant.1

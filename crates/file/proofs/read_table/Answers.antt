@@ -1,0 +1,41 @@
+-- `file::read_table` meets its contract: a column of another length, or what follows the reading of the text. Assumes nothing.
+use borrow.Author.Rules.{rules}
+use mathlib.Core.Path.{◌≡◌, refl, sym, ◌∙◌}
+use native.Mathlib.Omega.{arith}
+use Rattle.file_spec.specs.Table.{wrong_lent}
+use Rattle.file.specs.Answers.{answer_of}
+use Rattle.file.proofs.Settling.{nothing_yet, fitting, right_answer, right-lent, wrong_answer, wrong-lent}
+use Rattle.file.proofs.read_table.Goals as goal
+
+pub returns-then-wrong_sizes : goal.returns-then-wrong_sizes
+unfolding answer_of wrong_lent
+returns-then-wrong_sizes c =
+    let e = sym c.wrong_sizes.ensures ∙ c.if-wrong_sizes.true in record {
+      answer = wrong_answer _ _ e;
+      lent = wrong-lent _ _ e;
+    }
+
+pub read_text-s-requires : goal.read_text-s-requires
+read_text-s-requires c =
+     let told = (
+  nothing_yet _ _ _ _ _ _ _ _ _ _ refl refl refl refl,
+  (
+    (record { numbers = refl; starts-sized = refl; ends-sized = refl }, record { lefts = refl; rights = refl; weights = refl; marks = refl; strucks = refl; places = refl }),
+    record { few-names = omega arith; few-rows = omega arith; kept = record { order = λ k h. absurd (omega arith); high = λ k h. absurd (omega arith) } },
+  ),
+) in record { rows_value = told.0; sized = told.1; sound = told.2 }
+
+pub settle-requires : goal.settle-requires
+unfolding wrong_lent
+settle-requires c =
+    let r = c.read_text-s.ensures in let told = (r.sized.0, (λ b. let o = r.sized.1 b in (o.few-names, o.few-rows), fitting _ (sym c.wrong_sizes.ensures ∙ c.if-wrong_sizes.false))) in record { sized = told.0; few = told.1; lent = told.2 }
+
+pub returns : goal.returns
+unfolding wrong_lent
+returns c =
+    let r = c.read_text-s.ensures in
+    let e = sym c.wrong_sizes.ensures ∙ c.if-wrong_sizes.false in
+    let s = c.settle.ensures in record {
+      answer = s.answer _ ∙ right_answer _ _ _ e r.text_value;
+      lent = s.lent _ r.sized.1 ∙ right-lent _ _ _ e r.text_value;
+    }

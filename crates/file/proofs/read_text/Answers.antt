@@ -1,0 +1,27 @@
+-- `file::read_text` meets its contract: too long, or its lines read. Assumes nothing.
+use borrow.Author.Rules.{rules}
+use lib.ListN.{length}
+use mathlib.Core.Path.{◌≡◌, sym, ap, ◌∙◌}
+use native.Mathlib.Omega.{arith}
+use Rattle.file_spec.specs.Pieces.{lines}
+use Rattle.file_spec.specs.Reader.{Read, read_lines}
+use Rattle.file_text.specs.Steps.Spans.{part}
+use Rattle.file_reader.specs.Steps.State.{resumed}
+use Rattle.file.proofs.Laws.{too_long, taken-whole, never-read, told-broken}
+use Rattle.file.proofs.read_text.Goals as goal
+
+pub returns-then-text-gt-MAX_TEXT : goal.returns-then-text-gt-MAX_TEXT
+returns-then-text-gt-MAX_TEXT c =
+    let p = c.requires in let told = (too_long _ c.if-text-gt-MAX_TEXT.true ∙ told-broken _ _ c.too_long.ensures, (p.sized.0, λ b. never-read _ c.too_long.ensures b)) in record { text_value = told.0; sized = told.1; sound = told.2 }
+
+pub read_lines-requires : goal.read_lines-requires
+read_lines-requires c =
+    let p = c.requires in let told = ((c.if-text-gt-MAX_TEXT.false, c.body_at-from.ensures.1), (p.sized.0, p.sized.1)) in record { text_len_bound = told.0; sized = told.1; sound = told.2 }
+
+pub returns : goal.returns
+returns c =
+    let p = c.requires in
+    let b = c.body_at-from.ensures in
+    let r = c.read_lines.ensures in
+    let text = c.args.text.now in
+    let at = c.body_at-from.result in let told = (taken-whole _ _ c.if-text-gt-MAX_TEXT.false b.0 b.1 ∙ ap (λ (x : Read). read_lines x (lines at (part text at (length text)))) (sym p.rows_value) ∙ r.text_value, r.sized) in record { text_value = told.0; sized = told.1; sound = told.2 }

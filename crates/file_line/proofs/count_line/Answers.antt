@@ -1,0 +1,43 @@
+-- `file_line::count_line` meets its contract. Assumes nothing.
+use borrow.Author.Rules.{rules}
+use mathlib.Core.Path.{refl, sym, ap, ◌∙◌}
+use native.Mathlib.Omega.{arith}
+use Rattle.stp_words.specs.Answers.{number_in}
+use Rattle.file_text.specs.Steps.Spans.{part}
+use Rattle.file_spec.specs.Line.{counted}
+use Rattle.file_line.specs.Steps.Seen.{line_in, Good}
+use Rattle.file_line.proofs.Lined.{count-other, count-one}
+use Rattle.file_line.proofs.count_line.Goals as goal
+
+pub returns-then-x-ne2 : goal.returns-then-x-ne2
+unfolding line_in Good
+returns-then-x-ne2 c =
+    record {
+      result_value = λ fs r. count-other _ fs _ _ _ r _ c.if-x-ne2.true;
+      good = refl;
+    }
+
+pub slice_bounds-number_of-count : goal.slice_bounds-number_of-count
+slice_bounds-number_of-count c = omega (arith, start (goal.at.slice_bounds-number_of-count c).After-t-1)
+
+pub slice_bounds-number_of-start : goal.slice_bounds-number_of-start
+slice_bounds-number_of-start c = c.requires.order 1 (omega arith) (omega arith)
+
+pub slice_bounds-number_of-end : goal.slice_bounds-number_of-end
+slice_bounds-number_of-end c = c.requires.high 1 (omega arith) (omega arith)
+
+pub returns-in-Value : goal.returns-in-Value
+unfolding line_in Good counted number_in part
+returns-in-Value c =
+    record {
+      result_value = λ fs r. count-one _ fs _ _ _ r _ c.if-x-ne2.false _ (sym (ap number_in c.in-Value.is) ∙ c.number_of_lem.ensures);
+      good = refl;
+    }
+
+pub returns-in-Missing : goal.returns-in-Missing
+unfolding line_in Good counted number_in part
+returns-in-Missing c =
+    record {
+      result_value = λ fs r. count-one _ fs _ _ _ r _ c.if-x-ne2.false _ (sym (ap number_in c.in-Missing.is) ∙ c.number_of_lem.ensures);
+      good = refl;
+    }

@@ -1,0 +1,26 @@
+-- `file_line::mark_of` meets its contract. Assumes nothing.
+use borrow.Author.Rules.{rules}
+use mathlib.Core.Path.{sym, ap, ◌∙◌}
+use Rattle.stp_words.specs.Answers.{number_in}
+use Rattle.stp_words.specs.Bytes.{bytes}
+use Rattle.file_spec.specs.Pieces.{Piece}
+use Rattle.file_spec.specs.Line.{digit_mark, mark_of}
+use Rattle.file_line.proofs.Rows.{word-mark}
+use Rattle.file_line.proofs.mark_of.Goals as goal
+
+pub returns-in-Value : goal.returns-in-Value
+unfolding mark_of number_in
+returns-in-Value c =
+    λ at.
+    let f : Piece = record { at = at; letters = c.args.w.now } in
+    c.mark_number.ensures f ∙ ap (λ n. digit_mark n f) (sym (ap number_in c.in-Value.is) ∙ c.number_of_lem.ensures)
+
+pub returns-in-Missing : goal.returns-in-Missing
+unfolding number_in bytes
+returns-in-Missing c =
+    λ at.
+    word-mark _ at _ _ _ _ _ _ _ _ _ c.same.ensures c.same-2.ensures c.same-3.ensures c.same-4.ensures c.same-5.ensures c.either.ensures
+    c.either-one.ensures
+    c.either-zero.ensures
+    c.mark_word.ensures
+    (sym (ap number_in c.in-Missing.is) ∙ c.number_of_lem.ensures)

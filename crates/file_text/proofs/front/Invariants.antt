@@ -1,0 +1,16 @@
+-- `file_text::front` meets its contract. Assumes nothing.
+use Prim.Native.Nat.{◌-◌, ◌≤◌}
+use borrow.Author.Rules.{rules}
+use borrow.Author.Tests.{not-true, not-false}
+use mathlib.Core.Path.{◌≡◌, refl, sym, ◌∙◌}
+use native.Mathlib.Omega.{arith}
+use Rattle.file_spec.specs.Pieces.{front_trimmed}
+use Rattle.file_text.specs.Steps.Spans.{part}
+use Rattle.file_text.proofs.Trims.{front-more, front-stop, front-last}
+use Rattle.file_text.proofs.front.Given as goal
+
+abbrev pub invariant-loop-i : goal.invariant-loop-i
+invariant-loop-i l = (l.from ≤ l.i) × (l.i ≤ l.to) × (front_trimmed l.i (part l.text l.i l.to) ≡ front_trimmed l.from (part l.text l.from l.to))
+
+abbrev pub decreases-loop-i : goal.decreases-loop-i
+decreases-loop-i l = l.to - l.i

@@ -1,6 +1,0 @@
--- `file_write_checks::both` meets its contract. Assumes nothing.
-use Rattle.file_write_checks.proofs.both.Statement.{statement}
-use Rattle.file_write_checks.proofs.both.Tie as tie
-
-pub both-spec : {M : Type 1} → statement M
-both-spec = tie.close (tie.spec (λ c. rw c.if1.true) (λ c. rw c.if1.false))

@@ -1,0 +1,15 @@
+-- `file_write_checks::longest` meets its contract. Assumes nothing.
+use Prim.Native.Nat.{◌-◌, ◌≤◌}
+use borrow.Author.Rules.{rules}
+use lib.ListN.{length}
+use mathlib.Core.Path.{◌≡◌}
+use native.Mathlib.Omega.{arith}
+use Rattle.file_write_checks.proofs.Laws.{longest-more, longest-none, longest-all}
+use Rattle.file_write_checks.specs.Checks.{longest_to}
+use Rattle.file_write_checks.proofs.longest.Given as goal
+
+abbrev pub invariant-loop-k : goal.invariant-loop-k
+invariant-loop-k l = (l.k ≤ length l.starts) × (l.most ≡ longest_to l.starts l.ends l.k) × (l.most ≤ 4294967295)
+
+abbrev pub decreases-loop-k : goal.decreases-loop-k
+decreases-loop-k l = length l.starts - l.k

@@ -1,0 +1,18 @@
+-- `groups::count_own` meets its contract. The loop's invariant: `total` is the number of vertices of 1 to v that have their own label. The measure is what is left of the vertices.
+-- Assumes nothing.
+use Prim.Native.Nat.{ℕ, ◌-◌, ◌≤◌}
+use borrow.Author.Rules.{rules}
+use lib.Dec.{eqb}
+use mathlib.Core.Path.{◌≡◌, sym}
+use native.Mathlib.Omega.{arith}
+use Rattle.rowset.proofs.Laws.{count-bound}
+use Rattle.rowset.specs.Bytes.{in_row}
+use Rattle.rowset.specs.Sets.{count}
+use Rattle.slice_words.proofs.Counts.{bool_small, count_none, count-more}
+use Rattle.groups.proofs.count_own.Given as goal
+
+abbrev pub invariant-loop-v : goal.invariant-loop-v
+invariant-loop-v l = (l.v ≤ l.n) × (l.n ≤ 255) × (l.total ≤ l.v) × (l.total ≡ count l.v (λ k. eqb (in_row 1 l.labels k) k))
+
+abbrev pub decreases-loop-v : goal.decreases-loop-v
+decreases-loop-v l = l.n - l.v

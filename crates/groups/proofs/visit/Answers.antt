@@ -1,0 +1,15 @@
+-- `groups::visit` meets its contract: the row closes a ring, or joins two groups.
+-- Assumes nothing.
+use borrow.Author.Rules.{rules}
+use native.Mathlib.Omega.{arith}
+use Rattle.groups.proofs.Steps.{visit-ring, visit-join}
+use Rattle.groups.proofs.visit.Goals as goal
+
+pub returns-then-x-y : goal.returns-then-x-y
+returns-then-x-y c =
+    visit-ring _ _ _ _ _ c.row_byte-a.ensures c.row_byte-b.ensures c.row_byte-x.ensures c.row_byte-y.ensures c.ring_at-ring.ensures c.if-x-y.true c.or.ensures
+
+pub returns : goal.returns
+returns c =
+    let (labels, own) = c.join.ensures in
+    visit-join _ _ _ _ _ c.row_byte-a.ensures c.row_byte-b.ensures c.row_byte-x.ensures c.row_byte-y.ensures c.ring_at-ring.ensures c.if-x-y.false c.larger.ensures c.smaller.ensures labels own

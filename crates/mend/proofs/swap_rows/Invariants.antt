@@ -1,0 +1,22 @@
+-- `mend::swap_rows` meets its contract. The loop's invariant: the state is that after i rows, and there are at most 2 · m + i records. The measure is what is left of the rows.
+-- Assumes nothing.
+use Prim.Native.Nat.{ℕ, ◌+◌, ◌-◌, ◌*◌, ◌≤◌}
+use borrow.Author.Rules.{rules}
+use lib.ListN.{length}
+use mathlib.Core.Path.{◌≡◌, refl, sym, ◌∙◌, ap}
+use native.Mathlib.Omega.{arith}
+use Rattle.path_matrix.specs.Matrix.{matrix_column}
+use Rattle.rowset.specs.Columns.{width}
+use Rattle.rowset.specs.Integers.{integer_in}
+use Rattle.slice.specs.Slices.{size, component}
+use Rattle.mend_groups.proofs.Steps.{visits-next}
+use Rattle.mend.proofs.Steps.{swap-count}
+use Rattle.mend_groups.specs.Steps.Machine.{State, state_of, visits}
+use Rattle.mend.specs.Steps.Machine.{swap_at}
+use Rattle.mend.proofs.swap_rows.Given as goal
+
+abbrev pub invariant-loop-i : goal.invariant-loop-i
+invariant-loop-i l = (l.i ≤ l.m) × (l.m ≤ size) × (9 * l.m ≤ length l.list) × (l.s.count ≤ 2 * l.m + l.i) × (state_of l.s l.list l.own ≡ visits (swap_at l.n (component l.used) (integer_in (matrix_column l.weights) l.first (width - l.first)) l.left l.right l.weight) l.i (state_of l.initial.s l.initial.list l.initial.own)) × (length l.list ≡ length l.initial.list) × (length l.own ≡ length l.initial.own)
+
+abbrev pub decreases-loop-i : goal.decreases-loop-i
+decreases-loop-i l = l.m - l.i

@@ -1,0 +1,22 @@
+-- `mend_door::mend_door::of_mended` meets its contract: each case's fields, written out; a number of records is what its own digits stand for. Assumes nothing.
+use borrow.Author.Rules.{rules}
+use lib.IntN.{ℤ}
+use mathlib.Core.Path.{refl, ap}
+use native.Mathlib.Omega.{arith}
+use Rattle.answer.specs.Records.{fields_of}
+use Rattle.mend_spec.specs.Door.{mend_fields}
+use Rattle.mend.specs.Answers.{answer_of}
+use Rattle.rowset.proofs.Signed.{natural-bits}
+use Rattle.star_spec.specs.Door.{Fields, fields}
+use Rattle.mend_door.proofs.mend_door.of_mended.Goals as goal
+
+pub returns-in-Records : goal.returns-in-Records
+unfolding fields_of mend_fields answer_of
+returns-in-Records c =
+    let count = c.in-Records.count in
+    let written : ℤ → Fields = λ a. record { kind = 1; number = 0; out = 0; into = 0; only = 0; amount = a } in
+    rw c.in-Records.is (ap written (natural-bits 63 count (omega arith)))
+
+pub returns-in-Refused : goal.returns-in-Refused
+unfolding mend_fields answer_of fields
+returns-in-Refused c = rw c.in-Refused.is c.of_refusal.ensures

@@ -1,0 +1,43 @@
+-- `mend_groups::close_gaps` meets its contract. The loop's invariant: the state is that after i rows, and there are at most m + i records. The measure is what is left of the rows.
+-- Assumes nothing.
+use Prim.Native.Nat.{ℕ, ◌+◌, ◌-◌, ◌*◌, ◌≤◌}
+use borrow.Author.Rules.{rules}
+use lib.ListN.{length}
+use mathlib.Core.Path.{◌≡◌, refl, sym, ◌∙◌, ap}
+use native.Mathlib.Omega.{arith}
+use Rattle.slice.specs.Slices.{size, component}
+use Rattle.mend_groups.proofs.Steps.{visits-next, add-count}
+use Rattle.mend_groups.specs.Steps.Machine.{State, state_of, add_at, visits}
+use Rattle.mend_groups.proofs.close_gaps.Goals as goal
+
+pub loop-i-init : goal.loop-i-init
+unfolding visits
+loop-i-init c = (omega arith, omega arith, omega arith, omega arith, refl, refl, refl)
+
+pub add_at-s-requires : goal.add_at-s-requires
+add_at-s-requires c = (omega arith, omega arith)
+
+pub loop-i-preserved : goal.loop-i-preserved
+loop-i-preserved c =
+    let l = c.loop-i in
+    let a = c.args in
+    let step = c.add_at-s.ensures in
+    let count = ap (λ (x : State). x.count) step in
+    let few = add-count a.left.now a.right.now (l.i + 1) (state_of l.s l.list l.labels) (component a.used) in (
+      omega arith,
+      l.invariant.1,
+      omega arith,
+      omega (arith, count, few),
+      step ∙ ap (add_at (component a.used) a.left.now a.right.now (l.i + 1)) l.invariant.4 ∙ sym (visits-next _ _ _),
+      omega arith,
+      omega arith,
+    )
+
+pub returns : goal.returns
+returns c =
+    let l = c.loop-i in
+    let a = c.args in
+    let all : l.i ≡ a.m = omega arith in record {
+      passed = rw (← all) l.invariant.4;
+      few = omega arith;
+    }

@@ -1,0 +1,17 @@
+-- `mend_groups::drop_rings` meets its contract. The loop's invariant: the state is that after i rows, and there are at most i records. The measure is what is left of the rows.
+-- Assumes nothing.
+use Prim.Native.Nat.{ℕ, ◌+◌, ◌-◌, ◌*◌, ◌≤◌}
+use borrow.Author.Rules.{rules}
+use lib.ListN.{length}
+use mathlib.Core.Path.{◌≡◌, refl, sym, ◌∙◌, ap}
+use native.Mathlib.Omega.{arith}
+use Rattle.slice.specs.Slices.{size}
+use Rattle.mend_groups.proofs.Steps.{visits-next, drop-count}
+use Rattle.mend_groups.specs.Steps.Machine.{State, state_of, drop_at, visits}
+use Rattle.mend_groups.proofs.drop_rings.Given as goal
+
+abbrev pub invariant-loop-i : goal.invariant-loop-i
+invariant-loop-i l = (l.i ≤ l.m) × (l.m ≤ size) × (3 * l.m ≤ length l.list) × (l.s.count ≤ l.i) × (state_of l.s l.list l.labels ≡ visits (drop_at l.left l.right) l.i (state_of l.initial.s l.initial.list l.initial.labels)) × (length l.list ≡ length l.initial.list) × (length l.labels ≡ length l.initial.labels)
+
+abbrev pub decreases-loop-i : goal.decreases-loop-i
+decreases-loop-i l = l.m - l.i

@@ -1,0 +1,26 @@
+-- `mst1::grow_from` meets its contract. The loop's invariant: the slices are those of the fragment of k vertices.
+-- The measure is the number of vertices left. Assumes nothing.
+use Prim.Native.Nat.{ℕ, ◌≤◌, ◌<◌, ◌-◌, ◌^◌}
+use native.Mathlib.Omega.{arith}
+use mathlib.Core.Logic.{⊎_elim}
+use mathlib.Core.Path.{◌≡◌, refl, ap, ◌∙◌}
+use borrow.Author.Rules.{rules}
+use lib.ListN.{length}
+use Rattle.rowset.specs.Sets.{either}
+use Rattle.rowset.specs.Words.{in_words}
+use Rattle.slice.specs.Slices.{component, bit}
+use Rattle.table.specs.Loads.{loaded_row}
+use Rattle.mst1.proofs.Growth.{grows_none, grows-whole, cheapest-row, extend-reached}
+use Rattle.mst1.proofs.Steps.{next-none}
+use Rattle.search_columns.specs.Steps.Integers.{integers_after}
+use Rattle.mst1.specs.Steps.Growth.{graph_by, Reached}
+use Rattle.mst1.proofs.grow_from.Given as goal
+
+abbrev pub invariant-loop-k : goal.invariant-loop-k
+invariant-loop-k l =
+    (l.k ≤ l.n) × Reached (graph_by (loaded_row 1 l.left) (loaded_row 1 l.right) l.rows l.n) (integers_after l.weight l.first) l.k (in_words l.lefts) (in_words l.rights) (in_words l.chosen)
+    × (l.n < 2 ^ 64)
+    × (length l.lefts ≡ 16)
+
+abbrev pub decreases-loop-k : goal.decreases-loop-k
+decreases-loop-k l = l.n - l.k

@@ -1,0 +1,36 @@
+-- `mst1::grow_tree` meets its contract: fewer than two vertices need no row; otherwise MATCH over the columns of ends gives the rows with each end, and the tree grows from the first row, if there is one.
+-- Assumes nothing.
+use native.Mathlib.Omega.{arith}
+use mathlib.Core.Path.{sym, ◌∙◌}
+use borrow.Author.Rules.{rules}
+use Rattle.graph_theory.specs.Builder.{cheapest}
+use Rattle.rowset.specs.Words.{in_words}
+use Rattle.search_join.proofs.Joining.{each-end}
+use Rattle.slice.specs.Slices.{component, bit}
+use Rattle.table_loads.proofs.Numbers.{zeros}
+use Rattle.mst1.proofs.Growth.{grows_none, grows-small, begin-reached}
+use Rattle.mst1.proofs.Steps.{first-none}
+use Rattle.mst1.proofs.grow_tree.Goals as goal
+
+pub returns-then-n-lt2 : goal.returns-then-n-lt2
+returns-then-n-lt2 c = grows-small _ _ c.if-n-lt2.true c.nothing.ensures.whole c.nothing.ensures.chosen
+
+pub returns-then-i-eq0 : goal.returns-then-i-eq0
+unfolding cheapest
+returns-then-i-eq0 c =
+    grows_none _ _ (first-none _ _ (sym c.cheapest-i.ensures ∙ c.if-i-eq0.true) c.if-n-lt2.false) c.nothing-then-i-eq0.ensures.whole c.nothing-then-i-eq0.ensures.chosen
+
+pub grow_from-requires : goal.grow_from-requires
+unfolding cheapest in_words component bit
+grow_from-requires c =
+    let rows = c.args.rows in
+    let few = c.words_for-words.ensures.0 in
+    let past = c.words_for-words.ensures.1 in
+    let lefts = each-end _ _ rows.words _ (c.put_ends.ensures.last.0 zeros) few past in
+    let rights = each-end _ _ rows.words _ (c.put_ends-2.ensures.last.0 zeros) few past in
+    let first = c.begin-start.ensures lefts rights in (
+      omega (arith, c.if-n-lt2.false),
+      lefts,
+      rights,
+      begin-reached _ _ _ rows _ (sym c.cheapest-i.ensures) (omega (arith, c.if-i-eq0.false)) first.left first.right first.one,
+    )

@@ -1,0 +1,22 @@
+-- `outlets_swaps::exchanges` meets its contract. The loop's invariant: the rows, the path matrix and what is kept are those after i exchanges. The measure is what is left of the exchanges. Assumes nothing.
+use Prim.Native.Nat.{◌-◌, ◌≤◌, ◌<◌, ◌^◌}
+use borrow.Author.Rules.{rules}
+use lib.ListN.{length}
+use mathlib.Core.Option.{some}
+use mathlib.Core.Path.{◌≡◌, refl, ◌∙◌, ap}
+use native.Mathlib.Omega.{arith}
+use Rattle.path_exchange.proofs.Turned.{length-all-turned}
+use Rattle.outlets_swaps.specs.Steps.Columns.{given_of}
+use Rattle.outlets_swaps.specs.Steps.Exchanges.{State, picked, exchanges_to}
+use Rattle.outlets_swaps.proofs.Fills.{length-filled}
+use Rattle.outlets_swaps.proofs.Turns.{exchanges-stuck, own-made, own-stuck, exchanges-more, ends-none, ends-made}
+use Rattle.slice.specs.Slices.{component}
+use Rattle.outlets_swaps.proofs.exchanges.Given as goal
+
+abbrev pub invariant-loop-i : goal.invariant-loop-i
+invariant-loop-i l =
+    (l.i ≤ l.k) × (l.k < 2 ^ 64) × (length l.own ≡ length l.initial.own) × (length l.out ≡ length l.initial.out) × (length l.cost ≡ length l.initial.cost) × (length l.initial.out ≡ length l.initial.cost)
+    × (exchanges_to (given_of l.left l.right l.weight l.weights l.first (component l.at)) l.n l.i (record { chosen = component l.initial.chosen; own = l.initial.own; out = l.initial.out; cost = l.initial.cost }) ≡ some (record { chosen = component l.chosen; own = l.own; out = l.out; cost = l.cost }))
+
+abbrev pub decreases-loop-i : goal.decreases-loop-i
+decreases-loop-i l = l.k - l.i

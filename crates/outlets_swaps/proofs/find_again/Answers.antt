@@ -1,0 +1,64 @@
+-- `outlets_swaps::find_again` meets its contract. The loop's invariant: the numbers before place j are written, and the others as they were. The measure is what is left of the column.
+-- Assumes nothing.
+use Prim.Native.Nat.{ℕ, ◌+◌, ◌-◌}
+use borrow.Author.Rules.{rules}
+use borrow.Author.Tests.{eq-eqb, ne_eqb}
+use lib.Dec.{eqb}
+use lib.ListN.{length, get_or}
+use mathlib.Core.Bool.{Bool}
+use mathlib.Core.List.{List}
+use mathlib.Core.Logic.{⊎_elim}
+use mathlib.Core.Path.{◌≡◌, sym, ◌∙◌, ap}
+use native.Mathlib.Omega.{arith}
+use Rattle.outlets_swaps.specs.Steps.Columns.{given_of}
+use Rattle.outlets_swaps.specs.Steps.Exchanges.{kept_as, dearest, costs}
+use Rattle.outlets_swaps.proofs.Fills.{Filling, filling-none, filling-more, filling-all}
+use Rattle.slice.specs.Slices.{component}
+use Rattle.outlets_swaps.proofs.find_again.Goals as goal
+
+-- the test is that of the number as it was before the loop
+same_test : (old l : List ℕ) (e j : ℕ) (b : Bool) → get_or l j 0 ≡ get_or old j 0 → eqb (get_or l j 0) e ≡ b → b ≡ kept_as old e (j + 1)
+same_test old l e j b q t =
+    let s : j + 1 - 1 ≡ j = omega arith in
+    sym t ∙ ap (λ (y : ℕ). eqb y e) q ∙ ap (λ (k : ℕ). eqb (get_or old k 0) e) (sym s)
+
+pub loop-j-init : goal.loop-j-init
+loop-j-init c = (filling-none _ _ _, filling-none _ _ _, c.requires)
+
+pub find-requires : goal.find-requires
+find-requires c =
+    let l = c.loop-j in (omega (arith, c.loop-j-test.true), omega (arith, c.loop-j-test.true, l.invariant.0.full, l.invariant.1.full, l.invariant.2))
+
+pub overflow_add-j : goal.overflow_add-j
+overflow_add-j c = omega (arith, c.loop-j-test.true)
+
+pub loop-j-smaller : goal.loop-j-smaller
+loop-j-smaller c = omega (arith, c.loop-j-test.true, c.loop-j.invariant.0.full)
+
+pub loop-j-preserved : goal.loop-j-preserved
+loop-j-preserved c =
+    let l = c.loop-j in
+    let a = c.args in
+    let low = c.loop-j-test.true in
+    let old = l.invariant.0.rest l.j (omega arith) in
+    ⊎_elim
+    (λ w.
+    let test = same_test a.out.now l.out a.e l.j _ old (eq-eqb _ _ w.0.true) in
+    (filling-more _ _ _ _ _ _ _ l.invariant.0 (omega (arith, low, l.invariant.0.full)) test (w.8 ∙ w.3.ensures.0), filling-more _ _ _ _ _ _ _ l.invariant.1 (omega (arith, low, l.invariant.0.full, l.invariant.2)) test (w.9 ∙ w.3.ensures.1), l.invariant.2))
+    (λ w.
+    let test = same_test a.out.now l.out a.e l.j _ old (ne_eqb _ _ w.0.false) in
+    (filling-more _ _ _ _ _ _ _ l.invariant.0 (omega (arith, low, l.invariant.0.full)) test w.1, filling-more _ _ _ _ _ _ _ l.invariant.1 (omega (arith, low, l.invariant.0.full, l.invariant.2)) test w.2, l.invariant.2))
+    c.if-out-j.branch-raw
+
+pub shape_of-out : goal.shape_of-out
+shape_of-out c = c.loop-j.invariant.0.full
+
+pub shape_of-cost : goal.shape_of-cost
+shape_of-cost c = c.loop-j.invariant.1.full
+
+pub returns : goal.returns
+returns c =
+    let l = c.loop-j in record {
+      out = filling-all _ _ _ _ _ (omega (arith, c.loop-j-test.false, l.invariant.0.full)) l.invariant.0;
+      cost = filling-all _ _ _ _ _ (omega (arith, c.loop-j-test.false, l.invariant.0.full, l.invariant.2)) l.invariant.1;
+    }

@@ -1,0 +1,12 @@
+-- `path::call_check` meets its contract, by its two tests.
+-- Assumes nothing.
+use borrow.Author.Rules.{rules}
+use borrow.Author.Tests.{eq-eqb, ne_eqb}
+use mathlib.Core.Logic.{⊎_elim}
+use Rattle.table_checks.proofs.Laws.{refusal-two}
+use Rattle.path.proofs.call_check.Goals as goal
+
+pub returns : goal.returns
+returns c =
+    rw (refusal-two, c.first.ensures, c.refused_if-source.ensures, c.refused_if.ensures)
+    (⊎_elim (λ w. rw (w.1, eq-eqb _ _ w.0.true)) (λ w. rw (w.1, ne_eqb _ _ w.0.false)) c.if-s-eq0.branch-raw)

@@ -1,0 +1,20 @@
+-- `path::matrix_path` meets its contract: what the walk in a matrix of its own answers, and where that is done its words are copied.
+-- Assumes nothing.
+use Rattle.path.proofs.Result.{path-refuses, path-settled, path-fills}
+use borrow.Author.Rules.{rules}
+use mathlib.Core.Path.{refl}
+use native.Mathlib.Omega.{arith}
+use Rattle.path.proofs.matrix_path.Goals as goal
+
+pub returns-in_default : goal.returns-in_default
+returns-in_default c = path-refuses _ _ _ _ refl _ c.path_own-answer.ensures.answer _ c.in_default.is
+
+pub fill-requires : goal.fill-requires
+fill-requires c =
+    let a = c.args in
+    let h = path-settled _ _ a.r.now _ refl _ c.path_own-answer.ensures.answer c.in-Done.is in
+    (h.room, omega (arith, h.table.few-vertices))
+
+pub returns : goal.returns
+returns c =
+    path-fills _ _ _ _ refl _ c.path_own-answer.ensures.answer c.in-Done.is _ _ c.path_own-answer.ensures.words c.fill.ensures

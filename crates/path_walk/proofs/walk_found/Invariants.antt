@@ -1,0 +1,29 @@
+-- `path_walk::walk_found` meets its contract. The loop's invariant: where MATCH gives the rows with each end, the state is that after `k` steps from where the loop begins. The measure is what is left of the steps.
+-- Assumes nothing.
+use Prim.Native.Nat.{ℕ, ◌-◌, ◌^◌, ◌≤◌, ◌<◌}
+use Rattle.path_walk.specs.Steps.Walks.{State, step, steps}
+use Rattle.search_join.specs.Steps.Ends.{EachEnd}
+use Rattle.slice_words.proofs.Laws.{component-words}
+use Rattle.rowset.specs.Sets.{either}
+use Rattle.rowset.specs.Words.{in_words}
+use Rattle.table.specs.Loads.{loaded_row}
+use borrow.Author.Rules.{rules}
+use lib.ListN.{length}
+use mathlib.Core.Bool.{Bool}
+use mathlib.Core.Path.{◌≡◌, refl, ap, ◌∙◌}
+use native.Mathlib.Numerals.{add-one}
+use native.Mathlib.Omega.{arith}
+use Rattle.path_walk.proofs.Steps.{state, step-taken, step-none, steps-stay, begun}
+use Rattle.path_walk.proofs.walk_found.Given as goal
+
+abbrev pub invariant-loop-k : goal.invariant-loop-k
+invariant-loop-k l =
+    (l.k ≤ l.n)
+    × (EachEnd l.words l.left_ends (loaded_row 1 l.left) (in_words l.rows) → EachEnd l.words l.right_ends (loaded_row 1 l.right) (in_words l.rows)
+    → state (in_words l.lefts) (in_words l.rights) (in_words l.reached) l.own ≡ steps (loaded_row 1 l.left) (loaded_row 1 l.right) (in_words l.rows) (state (in_words l.initial.lefts) (in_words l.initial.rights) (in_words l.initial.reached) l.initial.own) l.k)
+    × (length l.own ≡ length l.initial.own)
+    × (l.n < 2 ^ 32)
+    × (length l.lefts ≡ 16)
+
+abbrev pub decreases-loop-k : goal.decreases-loop-k
+decreases-loop-k l = l.n - l.k

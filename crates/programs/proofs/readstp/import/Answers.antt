@@ -1,0 +1,26 @@
+-- `programs::readstp::import` meets its contract: what follows from each of the import's answers. Assumes nothing.
+use borrow.Author.Rules.{rules}
+use native.Mathlib.Omega.{arith}
+use Rattle.digs.proofs.Laws.{taken-answer, untaken-answer, few-rows}
+use Rattle.programs.proofs.Laws.{taken-page, taken-status, refused-page, refused-status}
+use Rattle.programs.proofs.readstp.import.Goals as goal
+
+pub put_imported-requires : goal.put_imported-requires
+put_imported-requires c =
+    let few = few-rows _ _ _ (taken-answer _ _ _ c.in-Taken.is c.import-answer.ensures.answer) in
+    search rules
+
+pub returns-in-Taken : goal.returns-in-Taken
+returns-in-Taken c =
+    let i = c.import-answer.ensures in
+    let a = taken-answer _ _ _ c.in-Taken.is i.answer in
+    let q = taken-page _ _ _ a i.lefts.0 i.lefts.1.0 i.lefts.1.1 in
+    let p = c.put_imported.ensures in let told = (rw q at p.puts, (rw q at p.few, (taken-status _ _ _ a, omega arith))) in record { puts = told.0; few = told.1; status = told.2 }
+
+pub returns-in-Refused : goal.returns-in-Refused
+returns-in-Refused c =
+    let i = c.import-answer.ensures in
+    let a = untaken-answer _ _ _ c.in-Refused.is i.answer in
+    let q = refused-page _ _ a in
+    let p = c.put_refused.ensures in
+    let h = rw q at p.short in let told = (rw q at p.puts, (omega (arith, h), (refused-status _ _ a, omega arith))) in record { puts = told.0; few = told.1; status = told.2 }

@@ -1,0 +1,14 @@
+-- `quote::replaced` meets its contract: four bytes are stored in the copy. Assumes nothing.
+use borrow.Author.Rules.{rules}
+use native.Mathlib.Omega.{arith}
+use Rattle.quote.proofs.Stores.{replaced-rows, replaced-length}
+use Rattle.quote.proofs.replaced.Goals as goal
+
+pub returns : goal.returns
+returns c =
+    let a = c.args in
+    let p = c.requires in
+    let (same, sized) = c.copied-prices.ensures in record {
+      by_index = replaced-rows a.weight.now c.copied-prices.result.bytes sized same a.row a.price p.1 p.2 (omega arith);
+      sized = replaced-length a.weight.now c.copied-prices.result.bytes sized same a.row a.price p.1 p.2 (omega arith);
+    }

@@ -1,0 +1,18 @@
+-- `quote_answer::of_quoted` meets its contract: each case's fields, written out, with the totals' bits handed on. Assumes nothing.
+use borrow.Author.Rules.{rules}
+use mathlib.Core.Path.{refl}
+use Rattle.answer.specs.Records.{fields_of}
+use Rattle.quote.specs.Answers.{answer_of}
+use Rattle.price_spec.specs.Door.{quote_fields, after_of}
+use Rattle.rowset.specs.Integers.{from_bits}
+use Rattle.star_spec.specs.Door.{fields}
+use Rattle.quote_answer.proofs.of_quoted.Goals as goal
+
+pub returns-in-Totals : goal.returns-in-Totals
+unfolding fields_of quote_fields after_of answer_of
+returns-in-Totals c = rw c.in let told = -Totals.is (refl, refl) in record { first = told.0; after = told.1 }
+
+pub returns-in-Refused : goal.returns-in-Refused
+unfolding quote_fields after_of answer_of from_bits fields
+returns-in-Refused c =
+    rw c.in let told = -Refused.is (c.of_refusal.ensures, refl) in record { first = told.0; after = told.1 }

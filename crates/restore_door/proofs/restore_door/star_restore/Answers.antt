@@ -1,0 +1,19 @@
+-- `restore_door::restore_door::star_restore` meets its contract: what restoring, `of_outcome` and `write_answer` promise, one after the other. Assumes nothing.
+use borrow.Author.Rules.{rules}
+use borrow.Author.Tests.{not-true, not-false}
+use mathlib.Core.Path.{refl, sym, ap, ◌∙◌}
+use Rattle.restore_spec.proofs.Bytes.{restore-call}
+use Rattle.restore_spec.specs.Restoring.{restore_door, restore_door_words}
+use Rattle.star_spec.specs.Door.{answer_after, door_returns, outcome_fields}
+use Rattle.restore_door.proofs.restore_door.star_restore.Goals as goal
+
+pub returns-then-not-well_lent : goal.returns-then-not-well_lent
+unfolding door_returns answer_after restore_door restore_door_words
+returns-then-not-well_lent c =
+    let ill = sym c.well_lent.ensures ∙ c.if-not-well_lent.true in let told = restore-call (rw ill (refl, (refl, refl))) in record { returned = told.0; answered = told.1; rows = told.2; means = told.3 }
+
+pub returns : goal.returns
+unfolding door_returns restore_door restore_door_words
+returns c =
+    let well = sym c.well_lent.ensures ∙ c.if-not-well_lent.false in
+    let (answer, words) = c.restore-o.ensures in let told = restore-call (rw well (refl, (c.write_answer.ensures ∙ ap (answer_after _) (c.of_outcome-x.ensures ∙ ap outcome_fields answer), words))) in record { returned = told.0; answered = told.1; rows = told.2; means = told.3 }

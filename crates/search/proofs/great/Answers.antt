@@ -1,0 +1,14 @@
+-- `search::great` meets its contract: the words are those of the table's columns, and a row is the number in all of them.
+-- Assumes nothing.
+use borrow.Author.Rules.{rules}
+use Rattle.rowset.specs.Integers.{integer_in}
+use Rattle.table.specs.Tables.{row}
+use Rattle.search.proofs.great.Goals as goal
+
+pub returns : goal.returns
+unfolding row integer_in
+returns c =
+    let columns = c.columns_of-stored.ensures in record {
+      greater = rw columns at c.great_from.ensures.greater;
+      equal = rw columns at c.great_from.ensures.equal;
+    }

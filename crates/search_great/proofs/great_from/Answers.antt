@@ -1,0 +1,80 @@
+-- `search_great::great_from` meets its contract. The loop's invariant: z has the rows that equal v in the columns read, of which the first is turned over, and g those that are greater there; where `four` is true, z has no row past four words.
+-- The measure is what is left of the columns. Assumes nothing.
+use Prim.Native.Nat.{◌-◌}
+use native.Mathlib.Omega.{arith}
+use borrow.Author.Rules.{rules}
+use borrow.Author.Tests.{not-true}
+use mathlib.Core.Bool.{true}
+use mathlib.Core.Logic.{⊎_elim}
+use mathlib.Core.Path.{◌≡◌, sym, ap, ◌∙◌}
+use lib.ListN.{length}
+use Rattle.rowset.specs.Columns.{in_columns}
+use Rattle.rowset.proofs.Laws.{clash}
+use Rattle.path_matrix.specs.Matrix.{matrix_column}
+use Rattle.search_great.proofs.Loops.{Comparing, comparing-start, comparing-more, comparing-none, comparing-all}
+use Rattle.search_columns.proofs.Loops.{component-in, blank-empty}
+use Rattle.search_columns.proofs.Words.{none-past-kept}
+use Rattle.search_great.proofs.Signs.{great-turned, same-turned, all-equal}
+use Rattle.search_columns.specs.Steps.Column.{turned}
+use Rattle.search_columns.specs.Steps.Rows.{rows_of, NonePast}
+use Rattle.search_great.proofs.great_from.Reads as reads
+use Rattle.search_great.proofs.great_from.Lts as lts
+use Rattle.search_great.proofs.great_from.Goals as goal
+
+pub loop-j-init : goal.loop-j-init
+loop-j-init c =
+    (comparing-start _ _ _ _ _ blank-empty, λ e. (c.in_four-four.ensures e).1, search rules, search rules)
+
+pub returns-then-zero : goal.returns-then-zero
+unfolding in_columns
+returns-then-zero c =
+    let empty = not-true _ (sym c.zero.ensures ∙ c.if-zero.true) in
+    let v = c.turned_bits-v.ensures in
+    let (greater, equal) = comparing-none _ _ _ _ _ _ _ _ (omega arith) empty (all-equal _ _ _ v) c.loop-j.invariant.0 in record {
+      greater = greater ∙ great-turned _ _ _ (component-in _) _ _ v;
+      equal = equal ∙ same-turned _ _ _ (component-in _) _ _ v;
+    }
+
+pub slice_bounds-compare_four-end : goal.slice_bounds-compare_four-end
+slice_bounds-compare_four-end c = omega (arith, c.loop-j.invariant.2)
+
+pub slice_bounds-compare_four-end-then-four : goal.slice_bounds-compare_four-end-then-four
+slice_bounds-compare_four-end-then-four c = omega (arith, c.loop-j.invariant.2)
+
+pub compare_four-requires : goal.compare_four-requires
+compare_four-requires c =
+    let l = c.loop-j in
+    let four = c.if-four.true in
+    let all = (c.in_four-four.ensures four).0 in
+    (l.invariant.2, l.invariant.3, omega (arith, all), l.invariant.1 four)
+
+pub loop-j-preserved : goal.loop-j-preserved
+loop-j-preserved c =
+    ⊎_elim
+    (λ s.
+    let l = c.loop-j in
+    let e = s.3.ensures in
+    let z = ap rows_of s.7 ∙ e.1 in (
+      comparing-more _ _ _ _ _ _ _ _ _ (omega arith) (ap rows_of s.6 ∙ e.0) z l.invariant.0,
+      λ q. none-past-kept 4 _ _ _ _ z (l.invariant.1 q),
+      omega (arith, ap length s.6, s.3, s.4, s.5, l.invariant.2),
+      omega (arith, ap length s.7, s.3, s.4, s.5, l.invariant.3),
+    ))
+    (λ s.
+    let l = c.loop-j in
+    let read = s.1.ensures in (
+      comparing-more _ _ _ _ _ _ _ _ _ (omega arith) (ap rows_of s.6 ∙ rw read at s.2.ensures) (ap rows_of s.7 ∙ rw read at s.3.ensures) l.invariant.0,
+      λ q. clash q s.0.false,
+      ap length s.6 ∙ search (rules, s.2),
+      ap length s.7 ∙ search (rules, s.3),
+    ))
+    c.if-four.branch-raw
+
+pub returns : goal.returns
+unfolding in_columns
+returns c =
+    let v = c.turned_bits-v.ensures in
+    let (greater, equal) = comparing-all _ _ _ _ _ _ _ _ (omega arith) (all-equal _ _ _ v) c.loop-j.invariant.0 in record {
+      greater = greater ∙ great-turned _ _ _ (component-in _) _ _ v;
+      equal = equal ∙ same-turned _ _ _ (component-in _) _ _ v;
+    }

@@ -1,0 +1,15 @@
+-- `search_join::put_words` meets its contract. The loop's invariant: the words below i are joined, and the others are as they were. The measure is what is left of the words.
+-- Assumes nothing.
+use Prim.Native.Nat.{◌-◌}
+use lib.Bits.{bit_or}
+use mathlib.Core.Path.{sym, ◌∙◌}
+use native.Mathlib.Omega.{arith}
+use Rattle.slice.proofs.Merge.{Merged, merged-none, merged-more}
+use Rattle.slice_words.proofs.Joining.{joined}
+use Rattle.search_join.proofs.put_words.Given as goal
+
+abbrev pub invariant-loop-i : goal.invariant-loop-i
+invariant-loop-i l = Merged bit_or (record { words = l.initial.x }) (record { words = l.z }) (record { words = l.x }) l.i
+
+abbrev pub decreases-loop-i : goal.decreases-loop-i
+decreases-loop-i l = l.used - l.i

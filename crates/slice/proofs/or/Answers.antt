@@ -1,0 +1,22 @@
+-- `slice::or` meets its contract, by the law of the loop that and, or and xor share. The loop's invariant: the words below `k` are joined, and the others are those of `x`.
+-- The measure is what is left of the words. Assumes nothing.
+use Prim.Native.Nat.{◌-◌}
+use mathlib.Core.Bool.{◌||◌}
+use mathlib.Core.Path.{refl}
+use borrow.Author.Rules.{rules}
+use lib.Bits.{bit_or}
+use native.Mathlib.Omega.{arith}
+use Rattle.rowset.specs.Sets.{either}
+use Rattle.slice.proofs.Bits.{or-bitwise}
+use Rattle.slice.proofs.Merge.{Merged, merged-none, merged-more, merged-all}
+use Rattle.slice.proofs.or.Goals as goal
+
+pub loop-k-init : goal.loop-k-init
+loop-k-init c = merged-none bit_or _ _ (search rules)
+
+pub loop-k-preserved : goal.loop-k-preserved
+loop-k-preserved c = merged-more bit_or _ _ _ _ (omega arith) c.loop-k.invariant
+
+pub returns : goal.returns
+unfolding either
+returns c = merged-all bit_or _ _ ◌||◌ or-bitwise refl _ _ (omega arith) c.loop-k.invariant

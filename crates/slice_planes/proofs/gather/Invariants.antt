@@ -1,0 +1,14 @@
+-- `slice_planes::gather` meets its contract. The loop's invariant: the blocks before b are right. The measure is what is left of them.
+-- Assumes nothing.
+use mathlib.Core.Path.{◌≡◌, refl}
+use Prim.Native.Nat.{◌+◌, ◌*◌, ◌-◌, ◌/◌, ◌%◌}
+use native.Mathlib.Omega.{arith}
+use Rattle.slice_planes.specs.Steps.Blocks.{block_of}
+use Rattle.slice.proofs.Stores.{Filled, filled_none, filled_more, filled-all}
+use Rattle.slice_planes.proofs.gather.Given as goal
+
+abbrev pub invariant-loop-b : goal.invariant-loop-b
+invariant-loop-b l = Filled 128 0 (λ g w. w ≡ block_of l.column l.stride l.offset (64 * (g / 8) + g % 8)) l.blocks.blocks l.b
+
+abbrev pub decreases-loop-b : goal.decreases-loop-b
+decreases-loop-b l = 128 - l.b

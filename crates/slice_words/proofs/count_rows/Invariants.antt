@@ -1,0 +1,18 @@
+-- `slice_words::count_rows` meets its contract. The loop's invariant: `count` is the number of rows of 1 to i. The measure is what is left of the rows.
+-- Assumes nothing.
+use Prim.Native.Nat.{◌-◌, ◌≤◌}
+use borrow.Author.Rules.{rules}
+use mathlib.Core.Path.{◌≡◌, sym}
+use native.Mathlib.Omega.{arith}
+use Rattle.rowset.specs.Sets.{count}
+use Rattle.rowset.proofs.Laws.{count-bound}
+use Rattle.rowset.specs.Words.{in_words}
+use Rattle.slice_words.proofs.Laws.{component-words}
+use Rattle.slice_words.proofs.Counts.{bool_small, count_none, count-more}
+use Rattle.slice_words.proofs.count_rows.Given as goal
+
+abbrev pub invariant-loop-i : goal.invariant-loop-i
+invariant-loop-i l = (l.i ≤ 1024) × (l.count ≡ count l.i (in_words l.x.words))
+
+abbrev pub decreases-loop-i : goal.decreases-loop-i
+decreases-loop-i l = 1024 - l.i

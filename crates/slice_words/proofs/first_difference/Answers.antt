@@ -1,0 +1,36 @@
+-- `slice_words::first_difference` meets its contract. The loop's invariant: the slices have the same components in the words below `k`. The measure is what is left of the words.
+-- Assumes nothing.
+use Prim.Native.Nat.{◌-◌, ◌≤◌}
+use mathlib.Core.Path.{sym}
+use native.Mathlib.Omega.{arith}
+use Rattle.rowset.proofs.Laws.{uppermost-zero}
+use Rattle.rowset.specs.Sets.{one_of}
+use Rattle.rowset.specs.Words.{in_words}
+use Rattle.slice.specs.Slices.{size}
+use Rattle.slice_words.proofs.Laws.{Clear, clear-more, found, differ-at}
+use Rattle.slice_words.proofs.first_difference.Goals as goal
+
+pub loop-k-init : goal.loop-k-init
+loop-k-init c = (omega arith, λ i l g. absurd (omega arith))
+
+pub lowest-requires : goal.lowest-requires
+lowest-requires c = omega (arith, c.if-w-ne0.true)
+
+pub overflow_add-result : goal.overflow_add-result
+overflow_add-result c = omega (arith, c.lowest.ensures.0)
+
+pub overflow_add-result-then-w-ne0 : goal.overflow_add-result-then-w-ne0
+overflow_add-result-then-w-ne0 c = omega (arith, c.lowest.ensures.0)
+
+pub returns-then-w-ne0 : goal.returns-then-w-ne0
+returns-then-w-ne0 c =
+    let (small, set, lower) = c.lowest.ensures in
+    let l = c.loop-k in
+    found _ _ _ (omega arith) (differ-at _ _ _ (omega arith)) l.invariant.1 _ small set lower
+
+pub loop-k-preserved : goal.loop-k-preserved
+loop-k-preserved c =
+    (omega arith, clear-more _ _ _ (omega arith) (differ-at _ _ _ (omega arith)) c.loop-k.invariant.1 c.if-w-ne0.false)
+
+pub returns : goal.returns
+returns c = sym (uppermost-zero size _ (λ i l g. c.loop-k.invariant.1 i l (omega arith)))

@@ -1,0 +1,26 @@
+-- `slice_words::last_row` meets its contract. The loop's invariant: the words from k on are 0. The measure is k.
+-- Assumes nothing.
+use Prim.Native.Nat.{ℕ, ◌+◌, ◌-◌, ◌*◌, ◌/◌, ◌%◌, ◌≤◌, ◌<◌}
+use mathlib.Core.Bool.{true, false}
+use mathlib.Core.List.{List}
+use mathlib.Core.Logic.{by_cases}
+use mathlib.Core.Path.{◌≡◌, ap, ◌∙◌}
+use native.Mathlib.Decide.{dec_le}
+use native.Mathlib.Omega.{arith}
+use lib.ListN.{get_or}
+use Rattle.rowset.specs.Words.{in_words}
+use Rattle.slice.proofs.Bits.{bit-of-zero}
+use Rattle.slice.proofs.Laws.{component-above}
+use Rattle.slice.specs.Slices.{size, bit}
+use Rattle.slice_words.proofs.Laws.{words-component, words-at}
+use Rattle.slice_words.proofs.last_row.Given as goal
+
+-- the words from k on have no component
+abbrev pub Past : List ℕ → ℕ → Type 0
+Past l k = (i : ℕ) → 64 * k < i → in_words l i ≡ false
+
+abbrev pub invariant-loop-k : goal.invariant-loop-k
+invariant-loop-k l = (l.k ≤ 16) × Past l.words l.k
+
+abbrev pub decreases-loop-k : goal.decreases-loop-k
+decreases-loop-k l = l.k

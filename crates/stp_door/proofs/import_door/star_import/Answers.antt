@@ -1,0 +1,19 @@
+-- `stp_door::import_door::star_import` meets its contract: what the import, `of_imported` and `write_answer` promise, one after the other. Assumes nothing.
+use borrow.Author.Rules.{rules}
+use borrow.Author.Tests.{not-true, not-false}
+use mathlib.Core.Path.{refl, sym, ap, ◌∙◌}
+use Rattle.stp_meaning.proofs.Bytes.{import-call}
+use Rattle.star_spec.specs.Door.{answer_after, door_returns}
+use Rattle.stp_spec.specs.Door.{import_fields, import_door, left_door, right_door, weight_door}
+use Rattle.stp_door.proofs.import_door.star_import.Goals as goal
+
+pub returns-then-not-well_lent : goal.returns-then-not-well_lent
+unfolding door_returns answer_after import_door left_door right_door weight_door
+returns-then-not-well_lent c =
+    let ill = sym c.well_lent.ensures ∙ c.if-not-well_lent.true in let told = import-call (rw ill (refl, (refl, (refl, (refl, refl))))) in record { returned = told.0; answered = told.1; lefts = told.2; rights = told.3; weights = told.4; means = told.5 }
+
+pub returns : goal.returns
+unfolding door_returns import_door left_door right_door weight_door
+returns c =
+    let well = sym c.well_lent.ensures ∙ c.if-not-well_lent.false in
+    let (answer, left) = c.import-i.ensures in let told = import-call (rw well (refl, (c.write_answer.ensures ∙ ap (answer_after _) (c.of_imported-x.ensures ∙ ap import_fields answer), left))) in record { returned = told.0; answered = told.1; lefts = told.2; rights = told.3; weights = told.4; means = told.5 }

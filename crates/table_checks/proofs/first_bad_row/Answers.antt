@@ -1,0 +1,26 @@
+-- `table_checks::first_bad_row` meets its contract. The loop's invariant: none of the rows above row i has wrong ends.
+-- The measure is what is left of the rows. Assumes nothing.
+use Prim.Native.Nat.{◌+◌, ◌-◌, ◌≤◌}
+use native.Mathlib.Omega.{arith}
+use Rattle.slice_words.proofs.Laws.{component-words}
+use Rattle.rowset.specs.Words.{in_words}
+use Rattle.star_spec.specs.Refusals.{wrong_row}
+use Rattle.table_checks.proofs.Laws.{Passed, passed_none, passed-more, passed-found, passed-all}
+use Rattle.table_checks.proofs.first_bad_row.Goals as goal
+
+pub loop-i-init : goal.loop-i-init
+loop-i-init c = (omega arith, omega arith, passed_none _)
+
+pub wrong_row-requires : goal.wrong_row-requires
+wrong_row-requires c = tt
+
+pub returns-then-wrong_row : goal.returns-then-wrong_row
+returns-then-wrong_row c =
+    rw component-words (passed-found _ _ _ (omega arith) (omega arith) c.loop-i.invariant.2 (rw c.wrong_row.ensures at c.if-wrong_row.true))
+
+pub loop-i-preserved : goal.loop-i-preserved
+loop-i-preserved c =
+    (omega arith, omega arith, passed-more _ _ c.loop-i.invariant.2 (rw c.wrong_row.ensures at c.if-wrong_row.false))
+
+pub returns : goal.returns
+returns c = rw component-words (passed-all _ _ _ (omega arith) c.loop-i.invariant.2)

@@ -1,0 +1,51 @@
+-- `table_loads::part` meets its contract. The loop's invariant: the blocks before g are right. The measure is what is left of them.
+-- Assumes nothing.
+use mathlib.Core.Path.{◌≡◌, refl, ◌∙◌}
+use Prim.Native.Nat.{ℕ, ◌+◌, ◌*◌, ◌-◌, ◌/◌, ◌<◌, ◌≤◌}
+use native.Mathlib.Omega.{arith}
+use Rattle.slice_planes.specs.Steps.Blocks.{block_of}
+use Rattle.slice.proofs.Stores.{Filled, filled_none, filled_more, filled-all}
+use Rattle.table_loads.proofs.Gathering.{Rest, in-column, block-whole}
+use Rattle.table_loads.proofs.part.Goals as goal
+
+pub overflow_mul-left : goal.overflow_mul-left
+overflow_mul-left c = omega (arith, c.requires.0.most)
+
+pub loop-g-init : goal.loop-g-init
+loop-g-init c = (record { most = omega arith; inside = omega arith; ended = λ l. omega arith }, filled_none refl)
+
+pub overflow_mul-q : goal.overflow_mul-q
+overflow_mul-q c = omega (arith, c.requires.0.most)
+
+pub overflow_add-q : goal.overflow_add-q
+overflow_add-q c = omega (arith, c.requires.0.most)
+
+pub overflow_add-left : goal.overflow_add-left
+overflow_add-left c = omega (arith, c.loop-g.invariant.0.most)
+
+pub block-requires : goal.block-requires
+block-requires c =
+    let p = c.requires in
+    let r = c.loop-g.invariant.0 in (
+      omega (arith, r.most),
+      omega (arith, r.inside, p.0.most),
+      p.0.four,
+      omega (arith, p.0.four),
+      λ l h. in-column _ _ _ p.0 _ p.1 _ (omega (arith, r.inside)),
+    )
+
+pub loop-g-preserved : goal.loop-g-preserved
+loop-g-preserved c =
+    let p = c.requires in
+    let i = c.loop-g.invariant in (
+      i.0,
+      filled_more i.1 c.loop-g-test.true
+          (c.block.ensures ∙ block-whole _ _ _ p.0 _ p.1 _ _ _ i.0 c.loop-g-test.true),
+    )
+
+pub returns : goal.returns
+returns c =
+    record {
+      by_index = filled-all c.loop-g.invariant.1 c.loop-g-test.false;
+      size = c.loop-g.invariant.1.full;
+    }

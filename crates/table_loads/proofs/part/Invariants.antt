@@ -1,0 +1,15 @@
+-- `table_loads::part` meets its contract. The loop's invariant: the blocks before g are right. The measure is what is left of them.
+-- Assumes nothing.
+use mathlib.Core.Path.{◌≡◌, refl, ◌∙◌}
+use Prim.Native.Nat.{ℕ, ◌+◌, ◌*◌, ◌-◌, ◌/◌, ◌<◌, ◌≤◌}
+use native.Mathlib.Omega.{arith}
+use Rattle.slice_planes.specs.Steps.Blocks.{block_of}
+use Rattle.slice.proofs.Stores.{Filled, filled_none, filled_more, filled-all}
+use Rattle.table_loads.proofs.Gathering.{Rest, in-column, block-whole}
+use Rattle.table_loads.proofs.part.Given as goal
+
+abbrev pub invariant-loop-g : goal.invariant-loop-g
+invariant-loop-g l = Rest l.rows l.q l.left × Filled 8 0 (λ g w. w ≡ block_of l.column l.stride l.offset (64 * l.q + g)) l.blocks.blocks l.g
+
+abbrev pub decreases-loop-g : goal.decreases-loop-g
+decreases-loop-g l = 8 - l.g

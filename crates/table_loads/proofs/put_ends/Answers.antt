@@ -1,0 +1,15 @@
+-- `table_loads::put_ends` meets its contract. Assumes nothing.
+use mathlib.Core.Path.{refl}
+use native.Mathlib.Omega.{arith}
+use borrow.Author.Rules.{rules}
+use Rattle.table_loads.proofs.put_ends.Goals as goal
+
+pub returns : goal.returns
+returns c =
+     let told = (
+  c.put.ensures.columns,
+  (
+    λ z. c.put.ensures.rows z 24 8 refl (omega arith),
+    λ z. c.put.ensures.rows z 0 32 refl (omega arith),
+  ),
+) in record { columns = told.0; last = told.1; rows = told.2 }

@@ -1,0 +1,39 @@
+-- `table_loads::whole` meets its contract. The loop's invariant: the blocks before g are right. The measure is what is left of them.
+-- Assumes nothing.
+use mathlib.Core.Path.{◌≡◌, refl, ◌∙◌}
+use Prim.Native.Nat.{ℕ, ◌+◌, ◌*◌, ◌-◌, ◌/◌, ◌<◌, ◌≤◌}
+use native.Mathlib.Omega.{arith}
+use Rattle.slice_planes.specs.Steps.Blocks.{block_of}
+use Rattle.slice.proofs.Stores.{Filled, filled_none, filled_more, filled-all}
+use Rattle.table_loads.proofs.Gathering.{in-column}
+use Rattle.table_loads.proofs.whole.Goals as goal
+
+pub loop-g-init : goal.loop-g-init
+loop-g-init c = filled_none refl
+
+pub overflow_mul-q : goal.overflow_mul-q
+overflow_mul-q c = omega (arith, c.requires.0.most)
+
+pub overflow_add-q : goal.overflow_add-q
+overflow_add-q c = omega (arith, c.requires.0.most)
+
+pub block-requires : goal.block-requires
+block-requires c =
+    let p = c.requires in (
+      omega arith,
+      omega (arith, p.0.most),
+      p.0.four,
+      omega (arith, p.0.four),
+      λ l h. in-column _ _ _ p.0 _ p.1 _ (omega arith),
+    )
+
+pub loop-g-preserved : goal.loop-g-preserved
+unfolding block_of
+loop-g-preserved c = filled_more c.loop-g.invariant c.loop-g-test.true c.block.ensures
+
+pub returns : goal.returns
+returns c =
+    record {
+      by_index = filled-all c.loop-g.invariant c.loop-g-test.false;
+      size = c.loop-g.invariant.full;
+    }

@@ -1,0 +1,11 @@
+-- `verdict_program::print` meets its contract: what is handed on is the line, whole. Assumes nothing.
+use borrow.Author.Rules.{rules}
+use Rattle.decimal.proofs.Laws.{puts_whole}
+use mathlib.Core.Path.{◌∙◌}
+use native.Mathlib.Omega.{arith}
+use Rattle.verdict_program.proofs.print.Goals as goal
+
+pub write_line-requires : goal.write_line-requires
+write_line-requires c =
+    let p = c.print_text-line.ensures in
+    (c.first.ensures ∙ puts_whole p.puts (omega (arith, p.few.0)), p.few.1.0, p.few.1.1)
