@@ -22,7 +22,7 @@ pub forest_of-forest-requires : goal.forest_of-forest-requires
 forest_of-forest-requires c = c.requires
 
 pub overflow_add-j : goal.overflow_add-j
-overflow_add-j c = omega (arith, c.loop-j-test.true, c.well-formed)
+overflow_add-j c = omega (arith, c.loop-j-test.true, c.well_formed)
 
 pub loop-j-smaller : goal.loop-j-smaller
 loop-j-smaller c = omega (arith, c.loop-j-test.true)

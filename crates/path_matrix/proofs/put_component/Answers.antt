@@ -1,9 +1,8 @@
 -- `path_matrix::put_component` meets its contract. Assumes nothing.
 use Prim.Native.Nat.{ℕ, ◌*◌, ◌≤◌}
 use borrow.Author.Rules.{rules}
-use borrow.Author.Tests.{not-true, not-false}
 use lib.ListN.{length}
-use mathlib.Core.Bool.{Bool, false, not}
+use mathlib.Core.Bool.{Bool, true}
 use mathlib.Core.List.{List}
 use mathlib.Core.Path.{◌≡◌, sym, ap, ◌∙◌}
 use native.Mathlib.Omega.{arith}
@@ -17,8 +16,8 @@ use Rattle.path_matrix.proofs.Components.{with_column-self, put-stored}
 use Rattle.path_matrix.proofs.put_component.Goals as goal
 
 -- the test that a column is there, passed
-there : (l : List ℕ) (j : ℕ) {r : Bool} → r ≡ has_column l j → not r ≡ false → (1 ≤ j) × (column_words * j ≤ length l)
-there l j {r} e h = has_column-bounds l j (sym e ∙ not-false r h)
+there : (l : List ℕ) (j : ℕ) {r : Bool} → r ≡ has_column l j → r ≡ true → (1 ≤ j) × (column_words * j ≤ length l)
+there l j {r} e h = has_column-bounds l j (sym e ∙ h)
 
 pub returns-then-not-has_column : goal.returns-then-not-has_column
 returns-then-not-has_column c = sym (with_column-outside _ _ _ (sym c.has_column.ensures ∙ c.if-not-has_column.true))

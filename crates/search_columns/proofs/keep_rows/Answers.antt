@@ -18,7 +18,7 @@ returns-then-columns-j c =
     }
 
 pub overflow_mul-from : goal.overflow_mul-from
-overflow_mul-from c = omega (arith, c.well-formed)
+overflow_mul-from c = omega (arith, c.well_formed)
 
 pub loop-k-init : goal.loop-k-init
 loop-k-init c =
@@ -34,10 +34,10 @@ pub bounds-z-k : goal.bounds-z-k
 bounds-z-k c = omega (arith, c.loop-k.invariant.2, c.loop-k.invariant.5.full)
 
 pub overflow_add-z : goal.overflow_add-z
-overflow_add-z c = omega (arith, c.well-formed, c.loop-k.invariant.1)
+overflow_add-z c = omega (arith, c.well_formed, c.loop-k.invariant.1)
 
 pub offset_bounds-columns-from : goal.offset_bounds-columns-from
-offset_bounds-columns-from c = omega (arith, c.well-formed, c.loop-k.invariant.1)
+offset_bounds-columns-from c = omega (arith, c.well_formed, c.loop-k.invariant.1)
 
 pub bounds-columns-from : goal.bounds-columns-from
 bounds-columns-from c = omega (arith, c.loop-k.invariant.1)

@@ -7,7 +7,7 @@ use Rattle.search_extremes.proofs.Words.{Joined, joined-none, joined-more, joine
 use Rattle.search_extremes.proofs.joined_rows.Goals as goal
 
 pub overflow_mul-from : goal.overflow_mul-from
-overflow_mul-from c = omega (arith, c.requires, c.well-formed)
+overflow_mul-from c = omega (arith, c.requires, c.well_formed)
 
 pub loop-k-init : goal.loop-k-init
 loop-k-init c = (omega arith, joined-none _ _ _ _)
@@ -16,7 +16,7 @@ pub bounds-z-k : goal.bounds-z-k
 bounds-z-k c = omega (arith, c.requires)
 
 pub overflow_add-joined : goal.overflow_add-joined
-overflow_add-joined c = omega (arith, c.requires, c.well-formed)
+overflow_add-joined c = omega (arith, c.requires, c.well_formed)
 
 pub bounds-columns-from : goal.bounds-columns-from
 bounds-columns-from c = omega (arith, c.requires)

@@ -7,7 +7,7 @@ use Rattle.search_great.proofs.Words.{Widened, widened_none, widened_more, widen
 use Rattle.search_great.proofs.grow_rows.Goals as goal
 
 pub overflow_mul-from : goal.overflow_mul-from
-overflow_mul-from c = omega (arith, c.requires, c.well-formed)
+overflow_mul-from c = omega (arith, c.requires, c.well_formed)
 
 pub loop-k-init : goal.loop-k-init
 loop-k-init c = (omega arith, widened_none _ _ _ _ _ c.requires.0)
@@ -19,10 +19,10 @@ pub bounds-z-k : goal.bounds-z-k
 bounds-z-k c = omega (arith, c.requires)
 
 pub overflow_add-g : goal.overflow_add-g
-overflow_add-g c = omega (arith, c.requires, c.well-formed)
+overflow_add-g c = omega (arith, c.requires, c.well_formed)
 
 pub offset_bounds-columns-from : goal.offset_bounds-columns-from
-offset_bounds-columns-from c = omega (arith, c.requires, c.well-formed)
+offset_bounds-columns-from c = omega (arith, c.requires, c.well_formed)
 
 pub bounds-columns-from : goal.bounds-columns-from
 bounds-columns-from c = omega (arith, c.requires)

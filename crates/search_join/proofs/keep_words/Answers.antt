@@ -7,6 +7,6 @@ use Rattle.search_join.proofs.keep_words.Goals as goal
 pub returns : goal.returns
 returns c =
     record {
-      rows = narrowed-is _ _ _ _ _ _ c.keep_rows.ensures.rows (omega (arith, c.requires.1, c.well-formed)) c.requires.3;
+      rows = narrowed-is _ _ _ _ _ _ c.keep_rows.ensures.rows (omega (arith, c.requires.1, c.well_formed)) c.requires.3;
       size = search rules;
     }

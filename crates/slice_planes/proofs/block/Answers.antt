@@ -11,8 +11,8 @@ use Rattle.slice_planes.proofs.block.Goals as goal
 use Rattle.slice_planes.proofs.block.Goals.{In-loop-l}
 
 -- the bytes that the block is to have
-abbrev rows : tie.In-loop invariant-loop decreases-loop → ℕ → ℕ
-rows c l = let a = c.before.before.before.args in row_byte a.column.now a.stride a.offset (a.first + 8 * l)
+abbrev rows : In-loop-l → ℕ → ℕ
+rows c l = let a = c.args in row_byte a.column.now a.stride a.offset (a.first + 8 * l)
 
 -- with one byte more the block fits
 grown : (c : In-loop-l) → c.loop-l.block * 256 + rows c (c.loop-l.l - 1) < 2 ^ 64

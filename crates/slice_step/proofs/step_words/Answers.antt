@@ -26,4 +26,8 @@ cleared l i = simp words-component (written-false (record { words = l }) i)
 
 pub returns : goal.returns
 returns c =
-    let at = c.first_difference-at.ensures ∙ ap (uppermost size) (from-none _) in let told = (at, (c.clear_in.ensures.rows ∙ cleared _ _ ∙ ap (take_out _) at, c.clear_in.ensures.size)) in record { at = told.0; rows = told.1; size = told.2 }
+    let at = c.first_difference-at.ensures ∙ ap (uppermost size) (from-none _) in record {
+      at = at;
+      rows = c.clear_in.ensures.rows ∙ cleared _ _ ∙ ap (take_out _) at;
+      size = c.clear_in.ensures.size;
+    }

@@ -26,7 +26,7 @@ loop-j-preserved c =
     let h : length t.columns ≡ 32 = search (rules, length-unmap) in
     let g : length p.planes ≡ 8 = search (rules, length-unmap) in
     filled_more c.loop-j.invariant c.loop-j-test.true
-    (⊎_elim (λ w. ap component w.2 ∙ moved-left t p j _ h w.0.true) (λ w. ap component w.2 ∙ moved-right t p j _ g w.0.false c.loop-j-test.true)
+    (⊎_elim (λ w. ap component w.x-is ∙ moved-left t p j _ h w.if-j-lt-UPPER.true) (λ w. ap component w.x-is ∙ moved-right t p j _ g w.if-j-lt-UPPER.false c.loop-j-test.true)
     c.if-j-lt-UPPER.branch-raw)
 
 pub returns : goal.returns
