@@ -145,27 +145,27 @@ module _ (c : ℕ → ℕ → Bool) (w : ℕ) where
     words-first = ap (first_words n) (sym (words-component l))
 
     -- the rows in the first words of l that equal w in the columns after the first ones, joined to x, where w has no digit before those of the columns, and the columns that are read
-    pub found : (r : List ℕ) (m : ℕ) → not b ≡ false → rows_of r ≡ either (rows_of x) (equal_right c w (32 - first) (first_words n (rows_of l))) → length r ≡ 16
+    pub found : (r : List ℕ) (m : ℕ) → b ≡ true → rows_of r ≡ either (rows_of x) (equal_right c w (32 - first) (first_words n (rows_of l))) → length r ≡ 16
         → m ≡ read_within (32 - first) size c w (first_words n (rows_of l))
         → (in_words r ≡ either (in_words x) (equal_to (in_columns c first (32 - first)) w (first_words n (in_words l))))
         × ((length r ≡ 16) × (m ≡ cond (eqb (w / 2 ^ (32 - first)) 0) (read_within (32 - first) size c w (first_words n (in_words l))) 0))
     found r m t e full read = (
       words-component r ∙ e
           ∙ ap₂ either (sym (words-component x))
-          (ap (equal_right c w (32 - first)) (words-first ∙ sym (match-start _ _ (eqb-true _ _ (sym fits ∙ not-false b t)))) ∙ right-from c w first (first_words n (in_words l))),
-      (full, rw (← fits, not-false b t) (read ∙ ap (read_within (32 - first) size c w) words-first)),
+          (ap (equal_right c w (32 - first)) (words-first ∙ sym (match-start _ _ (eqb-true _ _ (sym fits ∙ t)))) ∙ right-from c w first (first_words n (in_words l))),
+      (full, rw (← fits, t) (read ∙ ap (read_within (32 - first) size c w) words-first)),
     )
 
     -- and where it has one, there is none, and no column is read
-    pub found_none : not b ≡ true → length x ≡ 16
+    pub found_none : b ≡ false → length x ≡ 16
         → (in_words x ≡ either (in_words x) (equal_to (in_columns c first (32 - first)) w (first_words n (in_words l))))
         × ((length x ≡ 16) × (0 ≡ cond (eqb (w / 2 ^ (32 - first)) 0) (read_within (32 - first) size c w (first_words n (in_words l))) 0))
-    found_none f full = (sym (ap (either (in_words x)) none ∙ either-empty _), (full, rw (← fits, not-true b f)))
+    found_none f full = (sym (ap (either (in_words x)) none ∙ either-empty _), (full, rw (← fits, f)))
       where
         none : equal_to (in_columns c first (32 - first)) w (first_words n (in_words l)) ≡ empty
         none =
             sym (right-from c w first (first_words n (in_words l)))
-            ∙ ap (equal_right c w (32 - first)) (match-start-none _ _ (eqb-false _ _ (sym fits ∙ not-true b f))) ∙ right-empty (32 - first)
+            ∙ ap (equal_right c w (32 - first)) (match-start-none _ _ (eqb-false _ _ (sym fits ∙ f))) ∙ right-empty (32 - first)
 
 -- ── The words in which MATCH looks ──
 

@@ -10,8 +10,10 @@ use Rattle.cst.proofs.check_in.Goals as goal
 pub returns-in_default : goal.returns-in_default
 unfolding answer_of equal_rows_of refusal_of record_of
 returns-in_default c =
-     let told = rw (c.record_of.ensures, c.in_default.is)
-    (refused-own _ c.args.own.now (λ t. c.requires t.few-vertices) _ (ap refusal_of (sym c.in_default.is) ∙ c.path_own-answer.ensures.answer)) in record { verdict = told.0; rows = told.1 }
+     let told = (refused-own _ c.args.own.now (λ t. c.requires t.few-vertices) _ (ap refusal_of (sym c.in_default.is) ∙ c.path_own-answer.ensures.answer)) in record {
+      verdict = rw (c.record_of.ensures, c.in_default.is) told.0;
+      rows = rw (c.record_of.ensures, c.in_default.is) told.1;
+    }
 
 pub judge-requires : goal.judge-requires
 unfolding refusal_of

@@ -42,7 +42,7 @@ loop-at-init c =
       sign-integer _ c.sign_columns-first.ensures rows,
       sign-bits _ c.sign_columns-first.ensures rows,
       λ z u e. looking-first _ _ _ _ z _ _ u e,
-      c.step_words-at.ensures.rows.1,
+      c.step_words-at.ensures.size,
     )
 
 pub slice_bounds-compared_rows-end : goal.slice_bounds-compared_rows-end
@@ -53,7 +53,7 @@ unfolding some_on first_on
 exchange_of-requires c =
     let l = c.loop-at in
     let x = c.args.rows in
-    let looking = l.invariant.2 (component x) (began x c.step_words-at.ensures.at) (others x c.step_words-at.ensures.rows.0) in
+    let looking = l.invariant.2 (component x) (began x c.step_words-at.ensures.at) (others x c.step_words-at.ensures.rows) in
     let heavy = rw (l.invariant.0, l.invariant.1) at c.compared_rows-y.ensures.greater in
     let found = ap (any size) (sym heavy) ∙ sym c.some.ensures ∙ c.if-some.true in (
       uppermost-bound size _ _ c.fnd.ensures,
@@ -66,7 +66,7 @@ unfolding some_on first_on
 returns-then-some c =
     let l = c.loop-at in
     let x = c.args.rows in
-    let looking = l.invariant.2 (component x) (began x c.step_words-at.ensures.at) (others x c.step_words-at.ensures.rows.0) in
+    let looking = l.invariant.2 (component x) (began x c.step_words-at.ensures.at) (others x c.step_words-at.ensures.rows) in
     let some = first_some looking.Z _ looking.first (λ e. omega arith) in
     let heavy = rw (l.invariant.0, l.invariant.1) at c.compared_rows-y.ensures.greater in
     let found = ap (any size) (sym heavy) ∙ sym c.some.ensures ∙ c.if-some.true in record {
@@ -78,7 +78,7 @@ pub loop-at-smaller : goal.loop-at-smaller
 loop-at-smaller c =
     let l = c.loop-at in
     let x = c.args.rows in
-    let looking = l.invariant.2 (component x) (began x c.step_words-at.ensures.at) (others x c.step_words-at.ensures.rows.0) in
+    let looking = l.invariant.2 (component x) (began x c.step_words-at.ensures.at) (others x c.step_words-at.ensures.rows) in
     let bound = uppermost-bound size _ _ looking.first in
     let next = uppermost-bound size _ _ c.step_words-at-in-loop-at.ensures.at in
     let less = looking-less _ _ _ _ _ _ _ _ looking (λ e. omega arith) _ c.step_words-at-in-loop-at.ensures.at in
@@ -92,8 +92,8 @@ loop-at-preserved c =
     let same = rw (l.invariant.0, l.invariant.1) at c.compared_rows-y.ensures.equal in (
       l.invariant.0,
       l.invariant.1,
-      λ z u e. rw (c.remember-into.ensures, same) (looking-next _ _ _ _ _ _ _ _ (l.invariant.2 z u e) (λ o. omega arith) none _ _ c.step_words-at-in-loop-at.ensures.at c.step_words-at-in-loop-at.ensures.rows.0),
-      c.step_words-at-in-loop-at.ensures.rows.1,
+      λ z u e. rw (c.remember-into.ensures, same) (looking-next _ _ _ _ _ _ _ _ (l.invariant.2 z u e) (λ o. omega arith) none _ _ c.step_words-at-in-loop-at.ensures.at c.step_words-at-in-loop-at.ensures.rows),
+      c.step_words-at-in-loop-at.ensures.size,
     )
 
 pub slice_bounds-compared_rows-end-2 : goal.slice_bounds-compared_rows-end-2
@@ -107,7 +107,7 @@ pub overflow_cast-result-2 : goal.overflow_cast-result-2
 overflow_cast-result-2 c =
     let l = c.loop-at in
     let x = c.args.rows in
-    let looking = l.invariant.2 (component x) (began x c.step_words-at.ensures.at) (others x c.step_words-at.ensures.rows.0) in
+    let looking = l.invariant.2 (component x) (began x c.step_words-at.ensures.at) (others x c.step_words-at.ensures.rows) in
     let none = looking-none _ _ _ _ _ _ _ _ looking (omega arith) in
     search (rules, remembered-bound _ _ _ _ _ _ _ looking.kept none)
 
@@ -116,7 +116,7 @@ unfolding first_on
 returns c =
     let l = c.loop-at in
     let x = c.args.rows in
-    let looking = l.invariant.2 (component x) (began x c.step_words-at.ensures.at) (others x c.step_words-at.ensures.rows.0) in
+    let looking = l.invariant.2 (component x) (began x c.step_words-at.ensures.at) (others x c.step_words-at.ensures.rows) in
     let none = looking-none _ _ _ _ _ _ _ _ looking (omega arith) in
     let same = rw (l.invariant.0, l.invariant.1) at c.compared_rows-beside.ensures.equal in record {
       lighter = none_found _ _ _ _ _ _ looking.sought none;

@@ -26,8 +26,8 @@ grow_from-requires c =
     let rows = c.args.rows in
     let few = c.words_for-words.ensures.0 in
     let past = c.words_for-words.ensures.1 in
-    let lefts = each-end _ _ rows.words _ (c.put_ends.ensures.last.0 zeros) few past in
-    let rights = each-end _ _ rows.words _ (c.put_ends-2.ensures.last.0 zeros) few past in
+    let lefts = each-end _ _ rows.words _ (c.put_ends.ensures.last zeros) few past in
+    let rights = each-end _ _ rows.words _ (c.put_ends-2.ensures.last zeros) few past in
     let first = c.begin-start.ensures lefts rights in (
       omega (arith, c.if-n-lt2.false),
       lefts,

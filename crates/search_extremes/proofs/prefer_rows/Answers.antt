@@ -30,7 +30,7 @@ pub returns-then-joined-ne0 : goal.returns-then-joined-ne0
 returns-then-joined-ne0 c =
     record {
       rows = preferred-kept _ _ _ _ _ _ c.joined_rows-joined.ensures c.if-joined-eq0.false (narrowed-is _ _ _ _ _ _ c.keep_rows.ensures.rows (omega arith) c.requires.2);
-      last = λ e. clash (goal.at.returns-then-joined-ne0 c).Else-joined-eq0 refl;
+      last = λ e. clash e refl;
     }
 
 pub single-requires : goal.single-requires

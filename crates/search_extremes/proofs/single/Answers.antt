@@ -23,8 +23,8 @@ loop-k-preserved c =
     let l = c.loop-k in
     (
       omega arith,
-      ⊎_elim (λ t. rw t.2 (word_first _ _ _ (omega (arith, c.requires)) t.1.false l.invariant.1))
-          (λ t. rw t.1 (word-zero _ _ _ (omega (arith, c.requires)) t.0.false l.invariant.1)) c.if-w-ne0.branch-raw,
+      ⊎_elim (λ t. rw t.found-is (word_first _ _ _ (omega (arith, c.requires)) t.if-found-ne0.false l.invariant.1))
+          (λ t. rw t.found-is (word-zero _ _ _ (omega (arith, c.requires)) t.if-w-ne0.false l.invariant.1)) c.if-w-ne0.branch-raw,
     )
 
 pub returns-then-found-eq0 : goal.returns-then-found-eq0

@@ -53,20 +53,20 @@ loop-j-preserved c =
     ⊎_elim
     (λ s.
     let l = c.loop-j in
-    let e = s.3.ensures in
-    let z = ap rows_of s.7 ∙ e.1 in (
-      comparing-more _ _ _ _ _ _ _ _ _ (omega arith) (ap rows_of s.6 ∙ e.0) z l.invariant.0,
+    let e = s.compare_four.ensures in
+    let z = ap rows_of s.z-is ∙ e.equal in (
+      comparing-more _ _ _ _ _ _ _ _ _ (omega arith) (ap rows_of s.g-is ∙ e.greater) z l.invariant.0,
       λ q. none-past-kept 4 _ _ _ _ z (l.invariant.1 q),
-      omega (arith, ap length s.6, s.3, s.4, s.5, l.invariant.2),
-      omega (arith, ap length s.7, s.3, s.4, s.5, l.invariant.3),
+      omega (arith, ap length s.g-is, s.compare_four, s.g-then-four-1, s.z-then-four-2-1, l.invariant.2),
+      omega (arith, ap length s.z-is, s.compare_four, s.g-then-four-1, s.z-then-four-2-1, l.invariant.3),
     ))
     (λ s.
     let l = c.loop-j in
-    let read = s.1.ensures in (
-      comparing-more _ _ _ _ _ _ _ _ _ (omega arith) (ap rows_of s.6 ∙ rw read at s.2.ensures) (ap rows_of s.7 ∙ rw read at s.3.ensures) l.invariant.0,
-      λ q. clash q s.0.false,
-      ap length s.6 ∙ search (rules, s.2),
-      ap length s.7 ∙ search (rules, s.3),
+    let read = s.ordered-c.ensures in (
+      comparing-more _ _ _ _ _ _ _ _ _ (omega arith) (ap rows_of s.g-is ∙ rw read at s.grow-more.ensures) (ap rows_of s.z-is ∙ rw read at s.keep-rest.ensures) l.invariant.0,
+      λ q. clash q s.if-four.false,
+      ap length s.g-is ∙ search (rules, s.grow-more),
+      ap length s.z-is ∙ search (rules, s.keep-rest),
     ))
     c.if-four.branch-raw
 

@@ -6,5 +6,5 @@ pub returns : goal.returns
 returns c =
     record {
       rows = c.match_into.ensures.rows;
-      size = c.match_into.ensures.size.0;
+      size = c.match_into.ensures.size;
     }

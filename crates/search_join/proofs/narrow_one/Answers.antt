@@ -28,7 +28,10 @@ pub returns-then-none_in : goal.returns-then-none_in
 returns-then-none_in c =
     let l = c.loop-k in
     let i = c.if-first-lt-WIDTH in
-    let e : i.count ≡ 32 - c.args.first = ⊎_elim (λ t. omega arith) (λ t. omega arith) i.branch-raw in let told = rw (← e) (right-stopped _ _ _ _ _ l.k (omega arith) (none_at_all _ 1 (omega arith) l.invariant.1 (c.none_in.ensures.none c.if-none_in.true)) l.invariant.0) in record { rows = told.0; read = told.1 }
+    let e : i.count ≡ 32 - c.args.first = ⊎_elim (λ t. omega arith) (λ t. omega arith) i.branch-raw in let told = (right-stopped _ _ _ _ _ l.k (omega arith) (none_at_all _ 1 (omega arith) l.invariant.1 (c.none_in.ensures.none c.if-none_in.true)) l.invariant.0) in record {
+      rows = rw (← e) told.0;
+      read = rw (← e) told.1;
+    }
 
 pub overflow_sub-keep_words : goal.overflow_sub-keep_words
 overflow_sub-keep_words c = omega (arith, c.loop-k.invariant.0.most)
@@ -60,4 +63,7 @@ shape_of-z c = c.loop-k.invariant.2 ∙ sym c.requires.0
 pub returns : goal.returns
 returns c =
     let i = c.if-first-lt-WIDTH in
-    let e : i.count ≡ 32 - c.args.first = ⊎_elim (λ t. omega arith) (λ t. omega arith) i.branch-raw in let told = rw (← e) (right-all _ _ _ _ _ _ (omega arith) c.loop-k.invariant.0) in record { rows = told.0; read = told.1 }
+    let e : i.count ≡ 32 - c.args.first = ⊎_elim (λ t. omega arith) (λ t. omega arith) i.branch-raw in let told = (right-all _ _ _ _ _ _ (omega arith) c.loop-k.invariant.0) in record {
+      rows = rw (← e) told.0;
+      read = rw (← e) told.1;
+    }

@@ -1,9 +1,9 @@
 -- `search_match::match_from` meets its contract: where w has a digit before those of the columns that are read, no row equals it, and where it has none, the rows are MATCH's from the right. Assumes nothing.
 use Prim.Native.Nat.{ℕ, ◌-◌, ◌/◌, ◌^◌}
 use borrow.Author.Rules.{rules}
-use borrow.Author.Tests.{eqb-true, eqb-false, not-true, not-false}
+use borrow.Author.Tests.{eqb-true, eqb-false}
 use lib.Dec.{eqb}
-use mathlib.Core.Bool.{Bool, true, false, not}
+use mathlib.Core.Bool.{Bool, true, false}
 use mathlib.Core.Path.{◌≡◌, refl, sym, ap, ◌∙◌}
 use Rattle.rowset.specs.Columns.{in_columns}
 use Rattle.rowset.specs.Counts.{equal_right}
@@ -19,18 +19,18 @@ module _ (c : ℕ → ℕ → Bool) (w first : ℕ) (X : ℕ → Bool) (b : Bool
   none_right = refl
 
   -- where w has a digit before those of the columns, no row equals it
-  found_none : not b ≡ true → empty ≡ equal_to (in_columns c first (32 - first)) w X
+  found_none : b ≡ false → empty ≡ equal_to (in_columns c first (32 - first)) w X
   found_none t =
       sym none_right
-      ∙ ap (equal_right c w (32 - first)) (sym (match-start-none _ X (eqb-false _ _ (sym fits ∙ not-true b t))))
+      ∙ ap (equal_right c w (32 - first)) (sym (match-start-none _ X (eqb-false _ _ (sym fits ∙ t))))
       ∙ right-from c w first X
 
   -- where it has none, the rows that equal w are those that equal its last digits
-  found : not b ≡ false → equal_right c w (32 - first) X ≡ equal_to (in_columns c first (32 - first)) w X
-  found t = ap (equal_right c w (32 - first)) (sym (match-start _ X (eqb-true _ _ (sym fits ∙ not-false b t)))) ∙ right-from c w first X
+  found : b ≡ true → equal_right c w (32 - first) X ≡ equal_to (in_columns c first (32 - first)) w X
+  found t = ap (equal_right c w (32 - first)) (sym (match-start _ X (eqb-true _ _ (sym fits ∙ t)))) ∙ right-from c w first X
 
 pub returns-then-not-fits : goal.returns-then-not-fits
-returns-then-not-fits c = c.empty.ensures ∙ found_none _ _ _ _ _ c.fits2.ensures c.if-not-fits.true
+returns-then-not-fits c = c.empty.ensures ∙ found_none _ _ _ _ _ c.fits.ensures c.if-not-fits.true
 
 pub returns : goal.returns
-returns c = c.match_right-matched.ensures.rows ∙ found _ _ _ _ _ c.fits2.ensures c.if-not-fits.false
+returns c = c.match_right-matched.ensures.rows ∙ found _ _ _ _ _ c.fits.ensures c.if-not-fits.false

@@ -18,7 +18,11 @@ pub returns-then-zero : goal.returns-then-zero
 returns-then-zero c =
     let l = c.loop-k in
     let i = c.if-first-lt-WIDTH in
-    let e : i.count ≡ 32 - c.args.first = ⊎_elim (λ t. omega arith) (λ t. omega arith) i.branch-raw in let told = rw (← e) (right-stopped _ _ _ _ _ l.k (omega arith) (not-true _ (sym c.zero.ensures ∙ c.if-zero.true)) l.invariant) in record { rows = told.0; read = told.1 }
+    let e : i.count ≡ 32 - c.args.first = ⊎_elim (λ t. omega arith) (λ t. omega arith) i.branch-raw in
+    let told = right-stopped _ _ _ _ _ l.k (omega arith) (not-true _ (sym c.zero.ensures ∙ c.if-zero.true)) l.invariant in record {
+      rows = rw (← e) told.0;
+      read = rw (← e) told.1;
+    }
 
 pub overflow_sub-k : goal.overflow_sub-k
 overflow_sub-k c = omega (arith, c.loop-k.invariant.most)
@@ -34,4 +38,8 @@ loop-k-preserved c =
 pub returns : goal.returns
 returns c =
     let i = c.if-first-lt-WIDTH in
-    let e : i.count ≡ 32 - c.args.first = ⊎_elim (λ t. omega arith) (λ t. omega arith) i.branch-raw in let told = rw (← e) (right-all _ _ _ _ _ _ (omega arith) c.loop-k.invariant) in record { rows = told.0; read = told.1 }
+    let e : i.count ≡ 32 - c.args.first = ⊎_elim (λ t. omega arith) (λ t. omega arith) i.branch-raw in
+    let told = right-all _ _ _ _ _ _ (omega arith) c.loop-k.invariant in record {
+      rows = rw (← e) told.0;
+      read = rw (← e) told.1;
+    }

@@ -12,4 +12,4 @@ returns c =
     λ z. c.put.ensures.rows z 24 8 refl (omega arith),
     λ z. c.put.ensures.rows z 0 32 refl (omega arith),
   ),
-) in record { columns = told.0; last = told.1; rows = told.2 }
+) in record { columns = told.0; last = told.1.0; rows = told.1.1 }
