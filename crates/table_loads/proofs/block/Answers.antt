@@ -36,7 +36,10 @@ module _ (c : After-shared_slice_known-1) where
   -- the byte that is read
   byte : (let a = c.args in get_or a.column.now (c.loop-l.at - 8 * a.stride) 0 ≡ rows (l - 1))
   unfolding row_byte
-  byte = ap (λ i. get_or c.args.column.now i 0) (index c)
+  byte =
+      let a = c.args in
+      ap (λ i. get_or a.column.now i 0)
+      (omega (arith, c.loop-l.invariant.1, step_less (8 * a.stride) c.loop-l.l c.loop-l-test.true, step_row a.stride a.first (c.loop-l.l - 1)))
 
   -- one byte more
   more : c.loop-l.block * 256 + rows (l - 1) ≡ from_digits 256 rows (l - 1) (count - (l - 1))

@@ -6,10 +6,8 @@ use Rattle.table_loads.proofs.put_ends.Goals as goal
 
 pub returns : goal.returns
 returns c =
-     let told = (
-  c.put.ensures.columns,
-  (
-    λ z. c.put.ensures.rows z 24 8 refl (omega arith),
-    λ z. c.put.ensures.rows z 0 32 refl (omega arith),
-  ),
-) in record { columns = told.0; last = told.1.0; rows = told.1.1 }
+     record {
+      columns = c.put.ensures.columns;
+      last = λ z. c.put.ensures.rows z 24 8 refl (omega arith);
+      rows = λ z. c.put.ensures.rows z 0 32 refl (omega arith);
+    }
