@@ -26,14 +26,14 @@ graph_line-line-requires c =
 
 pub loop-line-smaller : goal.loop-line-smaller
 loop-line-smaller c =
-    left_less c.args.text.now c.loop-line.line c.graph_line-line.result c.loop-line.invariant.1.high c.loop-line-test.true c.graph_line-line.ensures.further.0
+    left_less c.args.text.now c.loop-line.line c.graph_line-line.result c.loop-line.invariant.1.high c.loop-line-test.true c.graph_line-line.ensures.further
 
 pub loop-line-preserved : goal.loop-line-preserved
 loop-line-preserved c =
     let i = c.loop-line.invariant in
     let g = c.graph_line-line.ensures in
-    (g.further.1.1, lies_more i.1 g.further.0, g.further.1.0, i.3 ∙ resumes-more _ _ _ _ c.loop-line-test.true (i.1.sound c.loop-line-test.true) ∙ g.at_value)
+    (g.sized, lies_more i.1 g.further, g.counted, i.3 ∙ resumes-more _ _ _ _ c.loop-line-test.true (i.1.sound c.loop-line-test.true) ∙ g.at_value)
 
 pub returns : goal.returns
 returns c =
-    let i = c.loop-line.invariant in let told = (i.3 ∙ resumes-over _ _ _ _ c.loop-line-test.false, ((i.1.low, i.1.high, i.2), i.0)) in record { at_value = told.0; further = told.1; sized = told.2 }
+    let i = c.loop-line.invariant in record { at_value = i.3 ∙ resumes-over _ _ _ _ c.loop-line-test.false; further = (i.1.low, i.1.high, i.2); sized = i.0 }

@@ -28,9 +28,9 @@ slice_bounds-number_of-end c = (word (goal.at.slice_bounds-number_of-end c).Afte
 pub returns-in-Value : goal.returns-in-Value
 unfolding number_in
 returns-in-Value c =
-    number-taken (word (goal.at.returns-in-Value c).After-next_word-w) c.if-w.false (sym c.number_of_lem.ensures ∙ ap number_in c.in-Value.is)
+    number-taken (word (goal.at.returns-in-Value c).After-next_word-w) c.if-w.false (sym c.number_of-number.ensures ∙ ap number_in c.in-Value.is)
 
 pub returns-in-Missing : goal.returns-in-Missing
 unfolding number_in
 returns-in-Missing c =
-    number-missing (word (goal.at.returns-in-Missing c).After-next_word-w) (sym c.number_of_lem.ensures ∙ ap number_in c.in-Missing.is)
+    number-missing (word (goal.at.returns-in-Missing c).After-next_word-w) (sym c.number_of-number.ensures ∙ ap number_in c.in-Missing.is)

@@ -21,7 +21,7 @@ pub loop-w-smaller : goal.loop-w-smaller
 loop-w-smaller c =
     let w = c.loop-w.w in
     let n = c.loop-w.invariant.2 in
-    omega (arith, n.low, n.high, ltb-true w.from w.to c.if-w.true)
+    omega (arith, n.low, n.high, c.if-w.true)
 
 pub loop-w-preserved : goal.loop-w-preserved
 loop-w-preserved c =
@@ -30,13 +30,13 @@ loop-w-preserved c =
       omega (arith, i.0, n.low, n.order),
       n.high,
       next_word n.high c.next_word-w-in-loop-w.ensures,
-      λ r. i.3 r ∙ heading-on n r (not-true _ c.loop-w-test.true) (ltb-true _ _ c.if-w.true),
+      λ r. i.3 r ∙ heading-on n r (not-true _ c.loop-w-test.true) c.if-w.true,
     )
 
 pub returns-else-w : goal.returns-else-w
 returns-else-w c =
     let i = c.loop-w.invariant in record {
-      at_value = (λ r. i.3 r ∙ heading-end i.2 r (ltb-false _ _ c.if-w.false));
+      at_value = (λ r. i.3 r ∙ heading-end i.2 r c.if-w.false);
       further = (i.0, i.1);
     }
 

@@ -23,14 +23,14 @@ pub returns-then-not-head : goal.returns-then-not-head
 returns-then-not-head c =
     let n = word (goal.at.returns-then-not-head c).After-next_word-head in
     let y = c.broken.ensures in record {
-      at_value = (λ r. name-line-on n r c.if-not-head.true ∙ step-stops _ _ _ r _ y.0 y.1);
+      at_value = (λ r. name-line-on n r (not-true _ c.if-not-head.true) ∙ step-stops _ _ _ r _ y.0 y.1);
       further = (omega (arith, y.1, n.low), omega (arith, y.1, n.order, n.high));
     }
 
 pub loop-line-init : goal.loop-line-init
 unfolding line_resumed resumed
 loop-line-init c =
-    (record { low = omega arith; high = c.requires; sound = λ _. refl }, λ r. name-line-over (word (goal.at.loop-line-init c).After-next_word-head) r c.if-not-head.false)
+    (record { low = omega arith; high = c.requires; sound = λ _. refl }, λ r. name-line-over (word (goal.at.loop-line-init c).After-next_word-head) r (not-false _ c.if-not-head.false))
 
 pub skip_word-line-requires : goal.skip_word-line-requires
 skip_word-line-requires c = c.loop-line.invariant.0.high
