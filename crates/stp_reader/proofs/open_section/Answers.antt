@@ -1,12 +1,11 @@
 -- `stp_reader::open_section` meets its contract, by the cases of the next word. Assumes nothing.
-use borrow.Author.Rules.{rules}
 use mathlib.Core.Bool.{false, false≢true}
 use mathlib.Core.Logic.{inl, inr, ⊎_elim}
-use mathlib.Core.Path.{refl, sym, ap, ◌∙◌}
+use mathlib.Core.Path.{sym, ◌∙◌}
 use native.Mathlib.Omega.{arith}
 use Rattle.stp_words.specs.Bytes.{bytes}
 use Rattle.stp_reader.proofs.Reading.{NextWord, next_word}
-use Rattle.stp_reader.proofs.Sections.{Unopened, unopened-step, finished-broken, section-begun, section-taken, eof-taken, section-refused}
+use Rattle.stp_reader.proofs.Sections.{unopened-step, finished-broken, section-begun, section-taken, eof-taken, section-refused}
 use Rattle.stp_reader.proofs.open_section.Goals as goal
 use Rattle.stp_reader.proofs.open_section.Goals.{After-next_word-w}
 

@@ -5,7 +5,6 @@ use mathlib.Core.Path.{refl}
 use mir.Syntax.{w32}
 use mir.Val.{Fits}
 use native.Mathlib.Omega.{arith}
-use Rattle.stp_reader.specs.Readings.{Sized}
 use Rattle.stp_reader.proofs.Texts.{place-small, text-told, text-kept, text-sized}
 use Rattle.stp_reader.proofs.read.Goals as goal
 

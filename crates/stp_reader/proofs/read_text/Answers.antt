@@ -1,10 +1,8 @@
 -- `stp_reader::read_text` meets its contract: the length of the text, its first line, and the sections. Assumes nothing.
-use borrow.Author.Rules.{rules}
-use lib.ListN.{replicate}
 use mathlib.Core.Path.{◌≡◌, refl, sym, ap, ◌∙◌}
 use native.Mathlib.Omega.{arith}
 use Rattle.stp_spec.specs.Reader.{nothing_read}
-use Rattle.stp_reader.specs.Readings.{read_of, rows_of}
+use Rattle.stp_reader.specs.Readings.{rows_of}
 use Rattle.stp_reader.proofs.Sections.{text-long, text-short, nothing_read_lem, finished-broken, resumed-broken, resumed-on}
 use Rattle.stp_reader.proofs.read_text.Goals as goal
 use Rattle.stp_reader.proofs.read_text.Goals.{Start}

@@ -1,5 +1,4 @@
 -- `stp_reader::section_lines` meets its contract, by whether the section is Graph. Assumes nothing.
-use borrow.Author.Rules.{rules}
 use native.Mathlib.Omega.{arith}
 use Rattle.stp_reader.specs.Steps.Reading.{line_stand, line_read}
 use Rattle.stp_reader.proofs.section_lines.Goals as goal

@@ -1,9 +1,8 @@
 -- `stp_reader::section_name` meets its contract, by the cases of the next word. Assumes nothing.
-use borrow.Author.Rules.{rules}
 use borrow.Author.Tests.{eqb-true, eqb-false}
 use mathlib.Core.Bool.{false}
 use mathlib.Core.Logic.{⊎_elim}
-use mathlib.Core.Path.{refl, sym, ap, ◌∙◌}
+use mathlib.Core.Path.{sym, ◌∙◌}
 use native.Mathlib.Omega.{arith}
 use Rattle.stp_words.specs.Bytes.{bytes}
 use Rattle.stp_reader.specs.Steps.Sections.{headed}

@@ -1,6 +1,5 @@
 -- `stp_reader::count_line` meets its contract: the next word does not begin a line of the name, or it does and a number may follow.
 -- Assumes nothing.
-use borrow.Author.Rules.{rules}
 use borrow.Author.Tests.{not-true, not-false}
 use mathlib.Core.Bool.{false}
 use mathlib.Core.Path.{sym, ◌∙◌}

@@ -1,14 +1,12 @@
 -- `stp_reader::edge` meets its contract: an end or the price is missing, or a row is stored.
 -- Assumes nothing.
-use borrow.Author.Rules.{rules}
 use lib.ListN.{length-set}
 use lib.Seq.{get_or-set_same}
-use mathlib.Core.Path.{refl, ap, ◌∙◌}
+use mathlib.Core.Path.{ap, ◌∙◌}
 use native.Mathlib.Omega.{arith}
 use Rattle.stp_spec.specs.Reader.{Read, lines}
 use Rattle.stp_reader.proofs.Counts.{stopped}
 use Rattle.stp_reader.proofs.Graphs.{left-stops, right-stops, price-stops, price-leads, row_read}
-use Rattle.stp_reader.specs.Readings.{rows_of}
 use Rattle.stp_reader.specs.Steps.Reading.{read_on, resumed}
 use Rattle.stp_reader.proofs.lines.edge.Goals as goal
 
@@ -38,9 +36,13 @@ returns c =
     let p = c.price_at-w.ensures in
     let l = c.store_end.ensures in
     let r = c.store_end-2.ensures in
-    let w = c.store_weight.ensures in record { at_value = price-leads _ m c.if-a.false o c.if-b.false p c.if-w.false
-          ∙ ap (λ (r : Read). read_on c.args.text.now lines r c.price_at-w.result.at) (row_read c.args.found.now _ _ _ _ _ _ _ _ _ c.requires.sized.numbers l.column_after r.column_after w.column_after); further = (
-          omega (arith, m.reached.low, o.reached.low, p.reached.low),
-          p.reached.high,
-          rw (get_or-set_same c.args.found.now 3 _ 0 (omega (arith, c.requires.sized.numbers))) (omega (arith, c.requires.at_in_bounds.2, m.reached.on c.if-a.false, o.reached.low, p.reached.low)),
-        ); sized = record { numbers = simp length-set c.requires.sized.numbers; lefts = l.sized; rights = r.sized; weights = w.sized } }
+    let w = c.store_weight.ensures in record {
+      at_value = price-leads _ m c.if-a.false o c.if-b.false p c.if-w.false
+          ∙ ap (λ (r : Read). read_on c.args.text.now lines r c.price_at-w.result.at) (row_read c.args.found.now _ _ _ _ _ _ _ _ _ c.requires.sized.numbers l.column_after r.column_after w.column_after);
+      further = (
+        omega (arith, m.reached.low, o.reached.low, p.reached.low),
+        p.reached.high,
+        rw (get_or-set_same c.args.found.now 3 _ 0 (omega (arith, c.requires.sized.numbers))) (omega (arith, c.requires.at_in_bounds.2, m.reached.on c.if-a.false, o.reached.low, p.reached.low)),
+      );
+      sized = record { numbers = simp length-set c.requires.sized.numbers; lefts = l.sized; rights = r.sized; weights = w.sized };
+    }

@@ -1,14 +1,11 @@
 -- `stp_reader::edge_lines` meets its contract. The loop's invariant: reading from where the loop began comes to reading on from the last line.
 -- The measure is what is left of the text.
 -- Assumes nothing.
-use Prim.Native.Nat.{◌≤◌}
-use mathlib.Core.Path.{◌≡◌, refl, ◌∙◌}
+use mathlib.Core.Path.{refl, ◌∙◌}
 use native.Mathlib.Omega.{arith}
-use Rattle.stp_spec.specs.Reader.{lines}
-use Rattle.stp_reader.proofs.Loops.{Lies, lies_more, left_over, left_less, resumes-more, resumes-over}
-use Rattle.stp_reader.specs.Readings.{Sized, read_of, rows_of}
+use Rattle.stp_reader.proofs.Loops.{lies_more, left_less, resumes-more, resumes-over}
 use Rattle.stp_reader.specs.Steps.Lines.{line_resumed}
-use Rattle.stp_reader.specs.Steps.Reading.{read_on, resumed}
+use Rattle.stp_reader.specs.Steps.Reading.{resumed}
 use Rattle.stp_reader.proofs.lines.edge_lines.Goals as goal
 
 pub loop-line-init : goal.loop-line-init

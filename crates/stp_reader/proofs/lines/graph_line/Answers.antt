@@ -1,6 +1,5 @@
 -- `stp_reader::graph_line` meets its contract, by the first word of the line.
 -- Assumes nothing.
-use borrow.Author.Rules.{rules}
 use borrow.Author.Tests.{not-true, not-false}
 use mathlib.Core.Bool.{false}
 use mathlib.Core.Path.{refl, sym, ◌∙◌}
@@ -65,5 +64,10 @@ pub returns : goal.returns
 returns c =
     let n = word (goal.at.returns c).After-next_word-w in
     let p = c.requires in
-    let y = c.broken.ensures in record { at_value = line_other n _ (not-false _ c.if-not-w.false) (sym c.same.ensures ∙ c.if-same.false) (sym c.same-2.ensures ∙ c.if-same-2.false)
-          ∙ line-stops _ _ _ _ _ y.0 y.1; further = onward_stops n _ y.1; counted = omega (arith, y.1, n.low, p.at_in_bounds.2); sized = p.sized }
+    let y = c.broken.ensures in record {
+      at_value = line_other n _ (not-false _ c.if-not-w.false) (sym c.same.ensures ∙ c.if-same.false) (sym c.same-2.ensures ∙ c.if-same-2.false)
+          ∙ line-stops _ _ _ _ _ y.0 y.1;
+      further = onward_stops n _ y.1;
+      counted = omega (arith, y.1, n.low, p.at_in_bounds.2);
+      sized = p.sized;
+    }

@@ -1,10 +1,8 @@
 -- `stp_reader::graph_lines` meets its contract: a count is missing, or the lines of E follow.
 -- Assumes nothing.
-use borrow.Author.Rules.{rules}
 use mathlib.Core.Path.{refl, sym, ◌∙◌}
 use native.Mathlib.Omega.{arith}
 use Rattle.stp_reader.proofs.Sections.{resumed-broken, resumed-on}
-use Rattle.stp_reader.specs.Readings.{Sized}
 use Rattle.stp_reader.proofs.lines.graph_lines.Goals as goal
 
 pub returns-then-s : goal.returns-then-s

@@ -1,6 +1,5 @@
 -- `stp_reader::number_at` meets its contract: the next word is first on its line, no number, or a number.
 -- Assumes nothing.
-use borrow.Author.Rules.{rules}
 use mathlib.Core.Bool.{false}
 use mathlib.Core.Path.{sym, ap, ◌∙◌}
 use Rattle.stp_reader.proofs.Counts.{number-first, number-missing, number-taken}

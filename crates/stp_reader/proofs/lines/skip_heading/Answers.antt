@@ -1,17 +1,11 @@
 -- `stp_reader::skip_heading` meets its contract. The loop's invariant: w is the next word at or after p, and the first line goes on up to p.
 -- The measure is what is left of the text.
 -- Assumes nothing.
-use Prim.Native.Nat.{◌-◌, ◌≤◌}
-use borrow.Author.Rules.{rules}
-use borrow.Author.Tests.{ltb-true, ltb-false, not-true, not-false}
-use lib.ListN.{length}
-use mathlib.Core.Bool.{false}
-use mathlib.Core.Path.{◌≡◌, refl, ◌∙◌}
+use borrow.Author.Tests.{not-true, not-false}
+use mathlib.Core.Path.{refl, ◌∙◌}
 use native.Mathlib.Omega.{arith}
-use Rattle.stp_spec.specs.Reader.{Read, heading}
-use Rattle.stp_reader.proofs.Reading.{NextWord, next_word}
+use Rattle.stp_reader.proofs.Reading.{next_word}
 use Rattle.stp_reader.proofs.Skips.{heading-on, heading-over, heading-end}
-use Rattle.stp_reader.specs.Steps.Reading.{read_on}
 use Rattle.stp_reader.proofs.lines.skip_heading.Goals as goal
 
 pub loop-w-init : goal.loop-w-init

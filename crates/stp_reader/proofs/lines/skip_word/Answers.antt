@@ -1,6 +1,5 @@
 -- `stp_reader::skip_word` meets its contract, by the next word and, after END, by the one that follows it.
 -- Assumes nothing.
-use borrow.Author.Rules.{rules}
 use borrow.Author.Tests.{not-true, not-false}
 use mathlib.Core.Bool.{false}
 use mathlib.Core.Path.{refl, sym, ◌∙◌}
