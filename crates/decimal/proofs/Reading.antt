@@ -1,16 +1,15 @@
 -- What is printed in decimal reads back. Assumes nothing.
 use Prim.Native.Nat.{ℕ, zero, suc, ◌+◌, ◌*◌, ◌-◌, ◌/◌, ◌%◌, ◌≤◌, ◌<◌}
 use borrow.Author.Tests.{ltb-true, ltb-false, le-leb, ne_eqb}
-use lib.Dec.{ltb, leb, eqb}
+use lib.Dec.{ltb}
 use lib.IntN.{ℤ, pos, negsuc}
-use lib.ListN.{length}
-use mathlib.Core.Bool.{Bool, true, false, cond, not, ◌&&◌, false≢true}
+use mathlib.Core.Bool.{Bool, true, false, ◌&&◌, false≢true}
 use mathlib.Core.List.{List, [], ◌∷◌, ◌++◌}
-use mathlib.Core.Option.{Option, none, some, map}
-use mathlib.Core.Path.{◌≡◌, refl, sym, ap, ◌∙◌}
+use mathlib.Core.Option.{some}
+use mathlib.Core.Path.{◌≡◌, refl, ◌∙◌}
 use native.Mathlib.Omega.{arith}
 use Rattle.decimal.proofs.Laws.{natural-digit, natural-more}
-use Rattle.decimal.specs.Decimal.{digits_by, natural, integer}
+use Rattle.decimal.specs.Decimal.{natural, integer}
 use Rattle.decimal.specs.Reading.{read_natural, read_integer, ReadsBack}
 use Rattle.stp_words.specs.Bytes.{within}
 use Rattle.stp_words.specs.Numbers.{all_digits, is_empty, decimal, opens_below, below}

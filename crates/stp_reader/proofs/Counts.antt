@@ -9,7 +9,7 @@ use mathlib.Core.Option.{none, some}
 use mathlib.Core.Path.{◌≡◌, refl, ◌∙◌}
 use native.Mathlib.Omega.{arith}
 use Rattle.rowset.specs.Integers.{to_bits}
-use Rattle.stp_spec.specs.Reader.{Read, Stand, broken, price, when, counted, number_then, price_then, next, is_closed}
+use Rattle.stp_spec.specs.Reader.{Read, Stand, price, when, counted, number_then, price_then, next, is_closed}
 use Rattle.stp_reader.specs.declared.lines.Counted.{Counted}
 use Rattle.stp_reader.specs.declared.lines.Step.{Step}
 use Rattle.stp_reader.specs.Steps.Lines.{Expects, Reached, NumberRead, PriceRead, CountRead, numbered}

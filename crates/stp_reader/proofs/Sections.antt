@@ -1,17 +1,17 @@
 -- Laws of the first line, the lines between sections and the end of the text, by the next word.
 -- Assumes nothing.
-use Prim.Native.Nat.{ℕ, zero, suc, ◌-◌, ◌≤◌, ◌<◌}
+use Prim.Native.Nat.{ℕ, ◌≤◌, ◌<◌}
 use borrow.Author.Tests.{lt-ltb, le-ltb}
 use lib.Dec.{ltb}
-use lib.ListN.{length, take, drop, replicate}
+use lib.ListN.{length, replicate}
 use mathlib.Core.Bool.{Bool, true, false, not, cond, ◌&&◌, ◌||◌, false≢true}
-use mathlib.Core.List.{List, [], ◌∷◌}
+use mathlib.Core.List.{List}
 use mathlib.Core.Logic.{◌≢◌, ◌⊎◌, inl, inr, ⊎_elim}
 use mathlib.Core.Option.{none, some}
-use mathlib.Core.Path.{◌≡◌, refl, sym, ap, ◌∙◌}
+use mathlib.Core.Path.{◌≡◌, refl, sym, ◌∙◌}
 use native.Mathlib.Omega.{arith}
 use Rattle.stp_spec.specs.Import.{max_text, bounded, read_text}
-use Rattle.stp_spec.specs.Reader.{Read, Stand, Next, Reading, broken, whole, nothing_read, opening, heading, sections, naming, skipping, nodes, closed, is_closed, with_graph, when, next_section, named, next, follow, read_from}
+use Rattle.stp_spec.specs.Reader.{Read, Stand, Next, broken, whole, nothing_read, opening, heading, sections, naming, skipping, nodes, closed, is_closed, with_graph, when, next_section, named, next, follow, read_from}
 use Rattle.stp_words.specs.Bytes.{bytes}
 use Rattle.stp_words.specs.Names.{same, is}
 use Rattle.stp_words.specs.Text.{words, words_at}

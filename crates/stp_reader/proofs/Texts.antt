@@ -4,14 +4,14 @@
 use Prim.Native.Nat.{ℕ, zero, suc, ◌*◌, ◌-◌, ◌≤◌}
 use lib.Dec.{eqb}
 use lib.ListN.{length, take, get_or, set, replicate, length-take, length-append, length-replicate}
-use lib.Seq.{take_all, take_at, take-take, length-take-le}
+use lib.Seq.{take_at, take-take, length-take-le}
 use mathlib.Core.Bool.{Bool, true, false, cond}
 use mathlib.Core.List.{List, [], ◌∷◌, ◌++◌, append-nil}
 use mathlib.Core.Path.{◌≡◌, refl, sym, ap, ◌∙◌}
 use mir.Val.{bool_byte}
 use native.Mathlib.Omega.{arith}
 use Rattle.stp_spec.specs.Import.{columns_of}
-use Rattle.stp_spec.specs.Reader.{Read, Reading, broken, whole, nothing_read}
+use Rattle.stp_spec.specs.Reader.{Reading, nothing_read}
 use Rattle.stp_reader.specs.Readings.{Sized, read_of, rows_of, finished}
 use Rattle.stp_reader.specs.Texts.{padded, numbers_of, step_of, text_of}
 use Rattle.stp_reader.specs.declared.Text.{Text}

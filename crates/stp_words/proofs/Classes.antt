@@ -2,20 +2,16 @@
 -- Assumes nothing.
 use Prim.Native.Nat.{ℕ, ◌-◌, ◌≤◌, ◌<◌}
 use borrow.Author.Tests.{le-leb, lt-leb, ne_eqb}
-use denote.Enum.Declared.{tag_of}
 use lib.Dec.{leb, eqb}
 use mathlib.Core.Bool.{Bool, true, false, cond, ◌&&◌, ◌||◌, true≢false, false≢true}
-use mathlib.Core.List.{List}
 use mathlib.Core.Logic.{◌⊎◌, inl, inr}
 use mathlib.Core.Path.{◌≡◌, refl}
 use native.Mathlib.Omega.{arith}
-use borrow.Enum.Refused.{Among}
 use Rattle.stp_words.specs.Bytes.{within, class_of, of_words, upper}
 use Rattle.stp_words.specs.Spans.{first_after}
 use Rattle.stp_words.specs.Text.{Before, at_start, in_gap, in_word, after, begins, is_first}
 use Rattle.stp_words.specs.declared.Class.{Class}
 use Rattle.stp_words.specs.declared.Class.TheVariants.{Digit, Letter, Blank, LineEnd, Other}
-use Rattle.stp_words.specs.contracts.Class.{the_type}
 
 module _ (first last b : ℕ) where
   pub within_in : first ≤ b → b ≤ last → within first last b ≡ true
@@ -84,10 +80,6 @@ digit-class b = go (within 48 57 b) (within 65 90 b || within 97 122 b) (eqb b 9
     go false false true e = refl
     go false false false true = refl
     go false false false false = refl
-
--- a class by its number among the classes
-abbrev pub numbered : List ℕ → Class → Type 0
-numbered keys k = Among keys (tag_of the_type k)
 
 -- what stands before the next byte where no word goes on
 abbrev pub before : Bool → Before

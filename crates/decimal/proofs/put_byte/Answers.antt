@@ -1,5 +1,4 @@
 -- `decimal::put_byte` meets its contract: past the column's end nothing is written. Assumes nothing.
-use borrow.Author.Rules.{rules}
 use lib.Seq.{set_out}
 use mathlib.Core.Path.{refl, sym}
 use native.Mathlib.Omega.{arith}

@@ -1,5 +1,4 @@
 -- `decimal::put_integer` meets its contract. Assumes nothing.
-use borrow.Author.Rules.{rules}
 use native.Mathlib.Omega.{arith}
 use Rattle.decimal.proofs.Laws.{puts-append, print-above, print-below}
 use Rattle.decimal.proofs.put_integer.Goals as goal

@@ -1,5 +1,4 @@
 -- `decimal::put_price` meets its contract. Assumes nothing.
-use borrow.Author.Rules.{rules}
 use native.Mathlib.Omega.{arith}
 use Rattle.decimal.proofs.Laws.{print-above, wider}
 use Rattle.decimal.proofs.put_price.Goals as goal

@@ -1,6 +1,5 @@
 -- `decimal::put_text` meets its contract. The loop's invariant: the first i bytes of the text were put. Assumes nothing.
-use Prim.Native.Nat.{ℕ, ◌+◌, ◌-◌, ◌≤◌, ◌<◌}
-use borrow.Author.Rules.{rules}
+use Prim.Native.Nat.{ℕ, ◌+◌, ◌≤◌, ◌<◌}
 use lib.ListN.{length, take, get_or}
 use lib.Seq.{take-suc, take_all}
 use mathlib.Core.List.{List, [], ◌∷◌}

@@ -1,14 +1,6 @@
 -- `decimal::put_text` meets its contract. The loop's invariant: the first i bytes of the text were put. Assumes nothing.
-use Prim.Native.Nat.{ℕ, ◌+◌, ◌-◌, ◌≤◌, ◌<◌}
-use borrow.Author.Rules.{rules}
-use lib.ListN.{length, take, get_or}
-use lib.Seq.{take-suc, take_all}
-use mathlib.Core.List.{List, [], ◌∷◌}
-use mathlib.Core.Logic.{⊎_elim}
-use mathlib.Core.Path.{refl}
-use native.Mathlib.Numerals.{add-one}
-use native.Mathlib.Omega.{arith}
-use Rattle.decimal.proofs.Laws.{puts-append, puts-length}
+use Prim.Native.Nat.{◌-◌, ◌≤◌}
+use lib.ListN.{length, take}
 use Rattle.decimal.specs.Puts.{Puts}
 use Rattle.decimal.proofs.put_text.Given as goal
 

@@ -1,6 +1,4 @@
 -- `stp_reader::close` meets its contract: after EOF no word may stand. Assumes nothing.
-use borrow.Author.Rules.{rules}
-use mathlib.Core.Path.{refl}
 use native.Mathlib.Omega.{arith}
 use Rattle.stp_reader.specs.Readings.{finished}
 use Rattle.stp_reader.proofs.Reading.{next_word}

@@ -1,5 +1,4 @@
 -- `stp_reader::numbers` meets its contract. Assumes nothing.
-use borrow.Author.Rules.{rules}
 use Rattle.stp_reader.proofs.Texts.{numbers-none, numbers-read}
 use Rattle.stp_reader.proofs.numbers.Goals as goal
 

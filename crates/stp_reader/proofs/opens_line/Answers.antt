@@ -1,5 +1,4 @@
 -- `stp_reader::opens_line` meets its contract. Assumes nothing.
-use borrow.Author.Rules.{rules}
 use Rattle.stp_reader.proofs.opens_line.Goals as goal
 
 pub returns-then-w : goal.returns-then-w

@@ -5,7 +5,6 @@ use mathlib.Core.Path.{refl}
 use mir.Syntax.{w32}
 use mir.Val.{Fits}
 use native.Mathlib.Omega.{arith}
-use Rattle.stp_reader.specs.Readings.{Sized}
 use Rattle.stp_reader.proofs.Texts.{place-small, text-told, text-kept, text-sized}
 use Rattle.stp_reader.proofs.read.Goals as goal
 
@@ -21,10 +20,12 @@ overflow_mul-rows c =
 pub returns : goal.returns
 returns c =
     let p = c.read_text-step in
-    let z = p.ensures.further.1 in
+    let z = p.ensures.sized in
     let told = text-told p.result _ _ _ _ z _ _ _ _ _ c.place.ensures c.numbers-own.ensures
     c.clear_from.ensures
-    c.clear_from-2.ensures c.clear_from-3.ensures in let told = rw p.ensures.text_value (
-      told,
-      (text-kept p.result _ _ _ _ z _ told, (rw c.place.ensures (place-small p.result.broken _ _ p.ensures.further.0), text-sized p.result _ _ _ _ z _ told)),
-    ) in record { value = told.0; kept = told.1; further = told.2; sized = told.3 }
+    c.clear_from-2.ensures c.clear_from-3.ensures in record {
+      value = rw p.ensures.text_value told;
+      kept = rw p.ensures.text_value (text-kept p.result _ _ _ _ z _ told);
+      further = rw c.place.ensures (place-small p.result.broken _ _ p.ensures.further);
+      sized = text-sized p.result _ _ _ _ z _ told;
+    }

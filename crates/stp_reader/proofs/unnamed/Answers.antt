@@ -1,5 +1,4 @@
 -- `stp_reader::unnamed` meets its contract. Assumes nothing.
-use borrow.Author.Rules.{rules}
 use Rattle.stp_reader.proofs.unnamed.Goals as goal
 
 pub returns-else-w : goal.returns-else-w

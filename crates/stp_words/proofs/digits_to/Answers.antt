@@ -1,9 +1,7 @@
 -- `stp_words::digits_to` meets its contract. The loop's invariant: v is not too large, and what is left of the word, read after v, decides.
 -- The measure is what is left of the word. Assumes nothing.
 use Prim.Native.Nat.{◌+◌, ◌-◌, ◌*◌, ◌≤◌}
-use borrow.Author.Rules.{rules}
-use borrow.Author.Tests.{not-true, not-false}
-use lib.ListN.{length, get_or, drop}
+use lib.ListN.{get_or, drop}
 use mathlib.Core.Bool.{true}
 use mathlib.Core.Path.{◌≡◌, sym, ◌∙◌}
 use native.Mathlib.Omega.{arith}

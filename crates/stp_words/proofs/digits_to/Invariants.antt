@@ -1,16 +1,10 @@
 -- `stp_words::digits_to` meets its contract. The loop's invariant: v is not too large, and what is left of the word, read after v, decides.
 -- The measure is what is left of the word. Assumes nothing.
-use Prim.Native.Nat.{◌+◌, ◌-◌, ◌*◌, ◌≤◌}
-use borrow.Author.Rules.{rules}
-use borrow.Author.Tests.{not-true, not-false}
-use lib.ListN.{length, get_or, drop}
-use mathlib.Core.Bool.{true}
-use mathlib.Core.Path.{◌≡◌, sym, ◌∙◌}
-use native.Mathlib.Omega.{arith}
-use Rattle.stp_words.specs.Answers.{number_in}
-use Rattle.stp_words.specs.Bytes.{within}
+use Prim.Native.Nat.{◌-◌, ◌≤◌}
+use lib.ListN.{length, drop}
+use mathlib.Core.Path.{◌≡◌}
 use Rattle.stp_words.specs.Numbers.{digits_to}
-use Rattle.stp_words.proofs.Loops.{reading, number-empty, number-start, reading-more, reading-stop, reading-large, reading-last, digit-bounds}
+use Rattle.stp_words.proofs.Loops.{reading}
 use Rattle.stp_words.proofs.digits_to.Given as goal
 
 abbrev pub invariant-loop-i : goal.invariant-loop-i

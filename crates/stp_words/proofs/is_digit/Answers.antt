@@ -1,12 +1,9 @@
 -- `stp_words::is_digit` meets its contract: the digits are a class. Assumes nothing.
-use borrow.Author.Rules.{rules}
 use mathlib.Core.Bool.{false}
-use mathlib.Core.List.{[], ◌∷◌}
 use mathlib.Core.Path.{◌≡◌, refl}
-use types.Run.{miss}
 use Rattle.stp_words.specs.declared.Class.{Class}
 use Rattle.stp_words.specs.declared.Class.TheVariants.{Digit, Letter, Blank, LineEnd, Other}
-use Rattle.stp_words.proofs.Classes.{numbered, is_digit, digit-class}
+use Rattle.stp_words.proofs.Classes.{is_digit, digit-class}
 use Rattle.stp_words.proofs.is_digit.Goals as goal
 
 pub returns-in-Digit : goal.returns-in-Digit
@@ -16,10 +13,10 @@ returns-in-Digit c = rw (← digit-class c.args.b, ← c.class_of.ensures, c.in-
 pub returns-in_default : goal.returns-in_default
 unfolding is_digit
 returns-in_default c =
-    rw (← digit-class c.args.b, ← c.class_of.ensures) (go c.class_of.result c.in_default.in_default-own.keys2)
+    rw (← digit-class c.args.b, ← c.class_of.ensures) (go c.class_of.result c.in_default.not-Digit)
   where
-    go : (k : Class) → numbered (1 ∷ 2 ∷ 3 ∷ 4 ∷ []) k → false ≡ is_digit k
-    go Digit h = absurd (miss (1 ∷ 2 ∷ 3 ∷ 4 ∷ []) 0 tt h)
+    go : (k : Class) → (k ≡ Digit → ⊥) → false ≡ is_digit k
+    go Digit h = absurd (h refl)
     go Letter h = refl
     go Blank h = refl
     go LineEnd h = refl

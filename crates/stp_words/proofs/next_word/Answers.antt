@@ -1,5 +1,4 @@
 -- `stp_words::next_word` meets its contract: the place, clamped to the text's length, then the word's start and its end. Assumes nothing.
-use borrow.Author.Rules.{rules}
 use mathlib.Core.Logic.{⊎_elim}
 use native.Mathlib.Omega.{arith}
 use Rattle.stp_words.proofs.Spans.{span-made}

@@ -1,6 +1,4 @@
 -- `stp_words::opens_below` meets its contract: the first byte decides, if there is one. Assumes nothing.
-use borrow.Author.Rules.{rules}
-use native.Mathlib.Omega.{arith}
 use Rattle.stp_words.proofs.Loops.{below-empty, below-first}
 use Rattle.stp_words.proofs.opens_below.Goals as goal
 

@@ -1,5 +1,4 @@
 -- `stp_words::price_of` meets its contract: the digits after -, or those of the whole word. Assumes nothing.
-use borrow.Author.Rules.{rules}
 use mathlib.Core.Path.{sym, ap, ◌∙◌}
 use Rattle.stp_words.specs.Answers.{number_in, price_in}
 use Rattle.stp_words.proofs.Loops.{price-below, price-above}

@@ -1,11 +1,7 @@
 -- `stp_words::same` meets its contract. The loop's invariant: what is left of the word and the name decides. The measure is what is left of the word.
 -- Assumes nothing.
-use Prim.Native.Nat.{◌-◌, ◌≤◌}
-use borrow.Author.Rules.{rules}
-use lib.ListN.{length, drop}
-use mathlib.Core.Path.{◌≡◌, refl, sym, ◌∙◌}
+use mathlib.Core.Path.{refl, sym, ◌∙◌}
 use native.Mathlib.Omega.{arith}
-use Rattle.stp_words.specs.Names.{same}
 use Rattle.stp_words.proofs.Loops.{same-lengths, same_more, same_stop, same-last}
 use Rattle.stp_words.proofs.same.Goals as goal
 
@@ -21,8 +17,7 @@ returns-then-upper c =
     (λ e. c.if-upper.true (c.upper.ensures ∙ e ∙ sym c.upper-in-loop-i.ensures))
 
 pub loop-i-preserved : goal.loop-i-preserved
-loop-i-preserved c =
-    (
+loop-i-preserved c = (
   omega arith,
   same_more _ _ c.loop-i.i c.loop-i.invariant.1 (omega arith) (omega arith)
       (sym c.upper.ensures ∙ c.if-upper.false ∙ c.upper-in-loop-i.ensures),

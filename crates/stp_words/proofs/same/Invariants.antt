@@ -1,12 +1,9 @@
 -- `stp_words::same` meets its contract. The loop's invariant: what is left of the word and the name decides. The measure is what is left of the word.
 -- Assumes nothing.
 use Prim.Native.Nat.{◌-◌, ◌≤◌}
-use borrow.Author.Rules.{rules}
 use lib.ListN.{length, drop}
-use mathlib.Core.Path.{◌≡◌, refl, sym, ◌∙◌}
-use native.Mathlib.Omega.{arith}
+use mathlib.Core.Path.{◌≡◌}
 use Rattle.stp_words.specs.Names.{same}
-use Rattle.stp_words.proofs.Loops.{same-lengths, same_more, same_stop, same-last}
 use Rattle.stp_words.proofs.same.Given as goal
 
 abbrev pub invariant-loop-i : goal.invariant-loop-i

@@ -1,14 +1,9 @@
 -- `stp_words::word_end` meets its contract. The loop's invariant: the end is the same from `to` on. The measure is what is left of the text.
 -- Assumes nothing.
 use Prim.Native.Nat.{◌-◌}
-use borrow.Author.Rules.{rules}
-use borrow.Author.Tests.{not-true, not-false}
 use lib.ListN.{length, drop}
-use mathlib.Core.Path.{◌≡◌, refl, sym, ap, ◌∙◌}
-use native.Mathlib.Omega.{arith}
-use Rattle.stp_words.specs.Bytes.{of_words}
+use mathlib.Core.Path.{◌≡◌}
 use Rattle.stp_words.specs.Spans.{end_from}
-use Rattle.stp_words.proofs.Loops.{end-stop, end_more, end-last}
 use Rattle.stp_words.proofs.word_end.Given as goal
 
 abbrev pub invariant-loop-to : goal.invariant-loop-to

@@ -1,12 +1,8 @@
 -- `stp_words::word_start` meets its contract. The loop's invariant: the gap leads to the same place from `from` on. The measure is what is left of the text.
 -- Assumes nothing.
-use Prim.Native.Nat.{◌-◌}
-use borrow.Author.Rules.{rules}
-use lib.ListN.{length, drop}
-use mathlib.Core.Path.{◌≡◌, refl, sym, ap, ◌∙◌}
+use mathlib.Core.Path.{sym, ap, ◌∙◌}
 use native.Mathlib.Omega.{arith}
 use Rattle.stp_words.specs.Bytes.{of_words}
-use Rattle.stp_words.specs.Spans.{gap_from}
 use Rattle.stp_words.proofs.Loops.{gap-stop, gap_more, gap-last}
 use Rattle.stp_words.proofs.word_start.Goals as goal
 

@@ -1,6 +1,5 @@
 -- `stp_reader::counts` meets its contract: a count is missing, or both are found.
 -- Assumes nothing.
-use borrow.Author.Rules.{rules}
 use lib.ListN.{length-set}
 use mathlib.Core.Path.{refl, ap, ◌∙◌}
 use native.Mathlib.Omega.{arith}

@@ -1,14 +1,11 @@
 -- `stp_reader::edge_lines` meets its contract. The loop's invariant: reading from where the loop began comes to reading on from the last line.
 -- The measure is what is left of the text.
 -- Assumes nothing.
-use Prim.Native.Nat.{◌≤◌}
-use mathlib.Core.Path.{◌≡◌, refl, ◌∙◌}
+use mathlib.Core.Path.{refl, ◌∙◌}
 use native.Mathlib.Omega.{arith}
-use Rattle.stp_spec.specs.Reader.{lines}
-use Rattle.stp_reader.proofs.Loops.{Lies, lies_more, left_over, left_less, resumes-more, resumes-over}
-use Rattle.stp_reader.specs.Readings.{Sized, read_of, rows_of}
+use Rattle.stp_reader.proofs.Loops.{lies_more, left_less, resumes-more, resumes-over}
 use Rattle.stp_reader.specs.Steps.Lines.{line_resumed}
-use Rattle.stp_reader.specs.Steps.Reading.{read_on, resumed}
+use Rattle.stp_reader.specs.Steps.Reading.{resumed}
 use Rattle.stp_reader.proofs.lines.edge_lines.Goals as goal
 
 pub loop-line-init : goal.loop-line-init
@@ -26,14 +23,14 @@ graph_line-line-requires c =
 
 pub loop-line-smaller : goal.loop-line-smaller
 loop-line-smaller c =
-    left_less c.args.text.now c.loop-line.line c.graph_line-line.result c.loop-line.invariant.1.high c.loop-line-test.true c.graph_line-line.ensures.further.0
+    left_less c.args.text.now c.loop-line.line c.graph_line-line.result c.loop-line.invariant.1.high c.loop-line-test.true c.graph_line-line.ensures.further
 
 pub loop-line-preserved : goal.loop-line-preserved
 loop-line-preserved c =
     let i = c.loop-line.invariant in
     let g = c.graph_line-line.ensures in
-    (g.further.1.1, lies_more i.1 g.further.0, g.further.1.0, i.3 ∙ resumes-more _ _ _ _ c.loop-line-test.true (i.1.sound c.loop-line-test.true) ∙ g.at_value)
+    (g.sized, lies_more i.1 g.further, g.counted, i.3 ∙ resumes-more _ _ _ _ c.loop-line-test.true (i.1.sound c.loop-line-test.true) ∙ g.at_value)
 
 pub returns : goal.returns
 returns c =
-    let i = c.loop-line.invariant in let told = (i.3 ∙ resumes-over _ _ _ _ c.loop-line-test.false, ((i.1.low, i.1.high, i.2), i.0)) in record { at_value = told.0; further = told.1; sized = told.2 }
+    let i = c.loop-line.invariant in record { at_value = i.3 ∙ resumes-over _ _ _ _ c.loop-line-test.false; further = (i.1.low, i.1.high, i.2); sized = i.0 }

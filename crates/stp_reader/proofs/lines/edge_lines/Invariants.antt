@@ -2,13 +2,12 @@
 -- The measure is what is left of the text.
 -- Assumes nothing.
 use Prim.Native.Nat.{◌≤◌}
-use mathlib.Core.Path.{◌≡◌, refl, ◌∙◌}
-use native.Mathlib.Omega.{arith}
+use mathlib.Core.Path.{◌≡◌}
 use Rattle.stp_spec.specs.Reader.{lines}
-use Rattle.stp_reader.proofs.Loops.{Lies, lies_more, left_over, left_less, resumes-more, resumes-over}
+use Rattle.stp_reader.proofs.Loops.{Lies, left_over}
 use Rattle.stp_reader.specs.Readings.{Sized, read_of, rows_of}
 use Rattle.stp_reader.specs.Steps.Lines.{line_resumed}
-use Rattle.stp_reader.specs.Steps.Reading.{read_on, resumed}
+use Rattle.stp_reader.specs.Steps.Reading.{read_on}
 use Rattle.stp_reader.proofs.lines.edge_lines.Given as goal
 
 abbrev pub invariant-loop-line : goal.invariant-loop-line

@@ -1,6 +1,5 @@
 -- `stp_reader::end_of` meets its contract.
 -- Assumes nothing.
-use borrow.Author.Rules.{rules}
 use borrow.Author.Tests.{le-leb, lt-leb}
 use Rattle.stp_spec.specs.Reader.{end_of}
 use Rattle.stp_reader.proofs.lines.end_of.Goals as goal

@@ -1,6 +1,5 @@
 -- `stp_reader::number_at` meets its contract: the next word is first on its line, no number, or a number.
 -- Assumes nothing.
-use borrow.Author.Rules.{rules}
 use mathlib.Core.Bool.{false}
 use mathlib.Core.Path.{sym, ap, ◌∙◌}
 use Rattle.stp_reader.proofs.Counts.{number-first, number-missing, number-taken}
@@ -28,9 +27,9 @@ slice_bounds-number_of-end c = (word (goal.at.slice_bounds-number_of-end c).Afte
 pub returns-in-Value : goal.returns-in-Value
 unfolding number_in
 returns-in-Value c =
-    number-taken (word (goal.at.returns-in-Value c).After-next_word-w) c.if-w.false (sym c.number_of_lem.ensures ∙ ap number_in c.in-Value.is)
+    number-taken (word (goal.at.returns-in-Value c).After-next_word-w) c.if-w.false (sym c.number_of-number.ensures ∙ ap number_in c.in-Value.is)
 
 pub returns-in-Missing : goal.returns-in-Missing
 unfolding number_in
 returns-in-Missing c =
-    number-missing (word (goal.at.returns-in-Missing c).After-next_word-w) (sym c.number_of_lem.ensures ∙ ap number_in c.in-Missing.is)
+    number-missing (word (goal.at.returns-in-Missing c).After-next_word-w) (sym c.number_of-number.ensures ∙ ap number_in c.in-Missing.is)

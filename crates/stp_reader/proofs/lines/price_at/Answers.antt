@@ -1,6 +1,5 @@
 -- `stp_reader::price_at` meets its contract: the next word is first on its line, no price, or a price, which opens with - or not.
 -- Assumes nothing.
-use borrow.Author.Rules.{rules}
 use mathlib.Core.Bool.{false}
 use mathlib.Core.Path.{refl, sym, ap, ◌∙◌}
 use Rattle.rowset.specs.Integers.{to_bits}

@@ -1,17 +1,11 @@
 -- `stp_reader::skip_heading` meets its contract. The loop's invariant: w is the next word at or after p, and the first line goes on up to p.
 -- The measure is what is left of the text.
 -- Assumes nothing.
-use Prim.Native.Nat.{◌-◌, ◌≤◌}
-use borrow.Author.Rules.{rules}
-use borrow.Author.Tests.{ltb-true, ltb-false, not-true, not-false}
-use lib.ListN.{length}
-use mathlib.Core.Bool.{false}
-use mathlib.Core.Path.{◌≡◌, refl, ◌∙◌}
+use borrow.Author.Tests.{not-true, not-false}
+use mathlib.Core.Path.{refl, ◌∙◌}
 use native.Mathlib.Omega.{arith}
-use Rattle.stp_spec.specs.Reader.{Read, heading}
-use Rattle.stp_reader.proofs.Reading.{NextWord, next_word}
+use Rattle.stp_reader.proofs.Reading.{next_word}
 use Rattle.stp_reader.proofs.Skips.{heading-on, heading-over, heading-end}
-use Rattle.stp_reader.specs.Steps.Reading.{read_on}
 use Rattle.stp_reader.proofs.lines.skip_heading.Goals as goal
 
 pub loop-w-init : goal.loop-w-init
@@ -21,7 +15,7 @@ pub loop-w-smaller : goal.loop-w-smaller
 loop-w-smaller c =
     let w = c.loop-w.w in
     let n = c.loop-w.invariant.2 in
-    omega (arith, n.low, n.high, ltb-true w.from w.to c.if-w.true)
+    omega (arith, n.low, n.high, c.if-w.true)
 
 pub loop-w-preserved : goal.loop-w-preserved
 loop-w-preserved c =
@@ -30,13 +24,13 @@ loop-w-preserved c =
       omega (arith, i.0, n.low, n.order),
       n.high,
       next_word n.high c.next_word-w-in-loop-w.ensures,
-      λ r. i.3 r ∙ heading-on n r (not-true _ c.loop-w-test.true) (ltb-true _ _ c.if-w.true),
+      λ r. i.3 r ∙ heading-on n r (not-true _ c.loop-w-test.true) c.if-w.true,
     )
 
 pub returns-else-w : goal.returns-else-w
 returns-else-w c =
     let i = c.loop-w.invariant in record {
-      at_value = (λ r. i.3 r ∙ heading-end i.2 r (ltb-false _ _ c.if-w.false));
+      at_value = (λ r. i.3 r ∙ heading-end i.2 r c.if-w.false);
       further = (i.0, i.1);
     }
 

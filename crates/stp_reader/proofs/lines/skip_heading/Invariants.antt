@@ -2,15 +2,11 @@
 -- The measure is what is left of the text.
 -- Assumes nothing.
 use Prim.Native.Nat.{◌-◌, ◌≤◌}
-use borrow.Author.Rules.{rules}
-use borrow.Author.Tests.{ltb-true, ltb-false, not-true, not-false}
 use lib.ListN.{length}
 use mathlib.Core.Bool.{false}
-use mathlib.Core.Path.{◌≡◌, refl, ◌∙◌}
-use native.Mathlib.Omega.{arith}
+use mathlib.Core.Path.{◌≡◌}
 use Rattle.stp_spec.specs.Reader.{Read, heading}
-use Rattle.stp_reader.proofs.Reading.{NextWord, next_word}
-use Rattle.stp_reader.proofs.Skips.{heading-on, heading-over, heading-end}
+use Rattle.stp_reader.proofs.Reading.{NextWord}
 use Rattle.stp_reader.specs.Steps.Reading.{read_on}
 use Rattle.stp_reader.proofs.lines.skip_heading.Given as goal
 

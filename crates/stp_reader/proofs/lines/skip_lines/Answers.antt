@@ -1,17 +1,15 @@
 -- `stp_reader::skip_lines` meets its contract. The loop's invariant: reading from the name on comes to reading on from the last word.
 -- The measure is what is left of the text.
 -- Assumes nothing.
-use borrow.Author.Rules.{rules}
 use borrow.Author.Tests.{not-true, not-false}
 use mathlib.Core.Bool.{false}
-use mathlib.Core.Path.{◌≡◌, refl, ◌∙◌}
+use mathlib.Core.Path.{refl, ◌∙◌}
 use native.Mathlib.Omega.{arith}
-use Rattle.stp_spec.specs.Reader.{Read, skipping, skipped}
-use Rattle.stp_reader.proofs.Loops.{Lies, lies_more, left_over, left_less, resumes-more, resumes-over, step-stops}
+use Rattle.stp_reader.proofs.Loops.{lies_more, left_less, resumes-more, resumes-over, step-stops}
 use Rattle.stp_reader.proofs.Reading.{NextWord, next_word}
 use Rattle.stp_reader.proofs.Skips.{name-line-on, name-line-over}
 use Rattle.stp_reader.specs.Steps.Lines.{line_resumed}
-use Rattle.stp_reader.specs.Steps.Reading.{read_on, resumed}
+use Rattle.stp_reader.specs.Steps.Reading.{resumed}
 use Rattle.stp_reader.proofs.lines.skip_lines.Goals as goal
 use Rattle.stp_reader.proofs.lines.skip_lines.Goals.{After-next_word-head}
 
@@ -23,14 +21,14 @@ pub returns-then-not-head : goal.returns-then-not-head
 returns-then-not-head c =
     let n = word (goal.at.returns-then-not-head c).After-next_word-head in
     let y = c.broken.ensures in record {
-      at_value = (λ r. name-line-on n r c.if-not-head.true ∙ step-stops _ _ _ r _ y.0 y.1);
+      at_value = (λ r. name-line-on n r (not-true _ c.if-not-head.true) ∙ step-stops _ _ _ r _ y.0 y.1);
       further = (omega (arith, y.1, n.low), omega (arith, y.1, n.order, n.high));
     }
 
 pub loop-line-init : goal.loop-line-init
 unfolding line_resumed resumed
 loop-line-init c =
-    (record { low = omega arith; high = c.requires; sound = λ _. refl }, λ r. name-line-over (word (goal.at.loop-line-init c).After-next_word-head) r c.if-not-head.false)
+    (record { low = omega arith; high = c.requires; sound = λ _. refl }, λ r. name-line-over (word (goal.at.loop-line-init c).After-next_word-head) r (not-false _ c.if-not-head.false))
 
 pub skip_word-line-requires : goal.skip_word-line-requires
 skip_word-line-requires c = c.loop-line.invariant.0.high

@@ -1,17 +1,11 @@
 -- `stp_reader::skip_lines` meets its contract. The loop's invariant: reading from the name on comes to reading on from the last word.
 -- The measure is what is left of the text.
 -- Assumes nothing.
-use borrow.Author.Rules.{rules}
-use borrow.Author.Tests.{not-true, not-false}
-use mathlib.Core.Bool.{false}
-use mathlib.Core.Path.{◌≡◌, refl, ◌∙◌}
-use native.Mathlib.Omega.{arith}
+use mathlib.Core.Path.{◌≡◌}
 use Rattle.stp_spec.specs.Reader.{Read, skipping, skipped}
-use Rattle.stp_reader.proofs.Loops.{Lies, lies_more, left_over, left_less, resumes-more, resumes-over, step-stops}
-use Rattle.stp_reader.proofs.Reading.{NextWord, next_word}
-use Rattle.stp_reader.proofs.Skips.{name-line-on, name-line-over}
+use Rattle.stp_reader.proofs.Loops.{Lies, left_over}
 use Rattle.stp_reader.specs.Steps.Lines.{line_resumed}
-use Rattle.stp_reader.specs.Steps.Reading.{read_on, resumed}
+use Rattle.stp_reader.specs.Steps.Reading.{read_on}
 use Rattle.stp_reader.proofs.lines.skip_lines.Given as goal
 
 abbrev pub invariant-loop-line : goal.invariant-loop-line

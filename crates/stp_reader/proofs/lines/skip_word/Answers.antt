@@ -1,6 +1,5 @@
 -- `stp_reader::skip_word` meets its contract, by the next word and, after END, by the one that follows it.
 -- Assumes nothing.
-use borrow.Author.Rules.{rules}
 use borrow.Author.Tests.{not-true, not-false}
 use mathlib.Core.Bool.{false}
 use mathlib.Core.Path.{refl, sym, ◌∙◌}
@@ -19,13 +18,13 @@ word c =
 -- the word after END
 after : (c : After-next_word-after) → NextWord c.args.text.now c.next_word-w.result.to false c.next_word-after.result
 after c =
-    next_word (word c).high c.next_word-after.ensures
+    next_word (next_word c.requires c.next_word-w.ensures).high c.next_word-after.ensures
 
-part-same-start : tie.Need-slice-bounds-same-start
-part-same-start c = (word c.before.before.before).order
+pub slice_bounds-same-start : goal.slice_bounds-same-start
+slice_bounds-same-start c = (word (goal.at.slice_bounds-same-start c).After-next_word-w).order
 
-part-same-end : tie.Need-slice-bounds-same-end
-part-same-end c = (word c.before.before.before).high
+pub slice_bounds-same-end : goal.slice_bounds-same-end
+slice_bounds-same-end c = (word (goal.at.slice_bounds-same-end c).After-next_word-w).high
 
 pub returns-then-from-to : goal.returns-then-from-to
 returns-then-from-to c =
@@ -40,7 +39,7 @@ unfolding line_resumed resumed
 returns-then-not-w c =
     let n = word (goal.at.returns-then-not-w c).After-next_word-w in
     let h = begun-word n c.if-from-to.false in record {
-      at_value = (λ r. skipped-later n r h c.if-not-w.true);
+      at_value = (λ r. skipped-later n r h (not-true _ c.if-not-w.true));
       further = onward-more n _ h refl refl;
     }
 
@@ -50,17 +49,17 @@ slice_bounds-same-count c = (word (goal.at.slice_bounds-same-count c).After-next
 pub returns-then-not-same : goal.returns-then-not-same
 unfolding line_resumed resumed
 returns-then-not-same c =
-    let n = word (goal.at.returns-then-not-same c).Else-from-to in
+    let n = word (goal.at.returns-then-not-same c).After-next_word-w in
     let h = begun-word n c.if-from-to.false in record {
-      at_value = (λ r. skipped-other n r h c.if-not-w.false (sym c.same.ensures ∙ c.if-not-same.true));
+      at_value = (λ r. skipped-other n r h (not-false _ c.if-not-w.false) (sym c.same.ensures ∙ c.if-not-same.true));
       further = onward-more n _ h refl refl;
     }
 
 pub returns-then-after : goal.returns-then-after
 unfolding line_resumed resumed
 returns-then-after c =
-    let n = word (goal.at.returns-then-after c).Else-from-to in record {
-      at_value = (λ r. skipped-ending n r c.if-not-w.false (sym c.same.ensures ∙ c.if-not-same.false)
+    let n = word (goal.at.returns-then-after c).After-next_word-w in record {
+      at_value = (λ r. skipped-ending n r (not-false _ c.if-not-w.false) (sym c.same.ensures ∙ c.if-not-same.false)
           ∙ ending-alone (after (goal.at.returns-then-after c).After-next_word-after) r c.if-after.true);
       further = onward-over n _ refl;
     }
@@ -68,8 +67,8 @@ returns-then-after c =
 pub returns-then-after-2 : goal.returns-then-after-2
 unfolding line_resumed resumed
 returns-then-after-2 c =
-    let n = word (goal.at.returns-then-after-2 c).Else-from-to in record {
-      at_value = (λ r. skipped-ending n r c.if-not-w.false (sym c.same.ensures ∙ c.if-not-same.false)
+    let n = word (goal.at.returns-then-after-2 c).After-next_word-w in record {
+      at_value = (λ r. skipped-ending n r (not-false _ c.if-not-w.false) (sym c.same.ensures ∙ c.if-not-same.false)
           ∙ ending-more (after (goal.at.returns-then-after-2 c).After-next_word-after) r c.if-after.false);
       further = onward-more n _ (begun-word n c.if-from-to.false) refl refl;
     }
@@ -77,8 +76,8 @@ returns-then-after-2 c =
 pub returns : goal.returns
 unfolding line_resumed resumed
 returns c =
-    let n = word (goal.at.returns c).Else-from-to in record {
-      at_value = (λ r. skipped-ending n r c.if-not-w.false (sym c.same.ensures ∙ c.if-not-same.false)
+    let n = word (goal.at.returns c).After-next_word-w in record {
+      at_value = (λ r. skipped-ending n r (not-false _ c.if-not-w.false) (sym c.same.ensures ∙ c.if-not-same.false)
           ∙ ending-last (after (goal.at.returns c).After-next_word-after) r c.if-after-2.false);
       further = onward-over n _ refl;
     }

@@ -1,6 +1,5 @@
 -- `stp_reader::store_end` meets its contract: a byte is stored, or the column has no such row.
 -- Assumes nothing.
-use borrow.Author.Rules.{rules}
 use lib.ListN.{length-set}
 use mathlib.Core.List.{[], ◌∷◌}
 use mathlib.Core.Path.{refl}

@@ -1,7 +1,6 @@
 -- `stp_reader::store_weight` meets its contract: four bytes are stored, or the column has no such row.
 -- Assumes nothing.
 use Prim.Native.Nat.{◌+◌, ◌*◌}
-use borrow.Author.Rules.{rules}
 use lib.ListN.{length-set}
 use mathlib.Core.Path.{◌≡◌}
 use native.Mathlib.Omega.{arith}
