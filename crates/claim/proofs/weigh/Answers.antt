@@ -30,5 +30,5 @@ returns c =
     let x = c.args in
     let a = l.invariant.1 in
     let all : 64 * l.k ≡ size = omega arith in
-    wrapped l.sums.above l.sums.taken c.wrapping_sub_u64.result (omega (arith, a.small)) (omega (arith, a.few)) (omega arith) c.wrapping_sub_u64.ensures
+    wrapped l.sums.above l.sums.taken c.wrapping_sub_u64.result (omega (arith, a.small)) (omega (arith, a.few)) (omega arith) c.wrapping_sub_u64.ensures.value
     ∙ rw (a.total, a.rows, all) (sym (total-flipped size (in_row 4 x.weight.now) (component x.rows)))

@@ -1,7 +1,6 @@
 -- `table_checks::claim_check` meets its contract: the table is refused, or the claim decides. The place fits 32 bits since an accepted table has at most 1,024 rows.
 -- Assumes nothing.
 use Prim.Native.Nat.{◌≤◌}
-use borrow.Author.Rules.{rules}
 use mathlib.Core.Path.{sym, ap, ◌∙◌}
 use native.Mathlib.Omega.{arith}
 use Rattle.refusal.specs.Outcomes.{refusal_of}

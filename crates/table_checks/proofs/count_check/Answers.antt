@@ -1,15 +1,15 @@
 -- `table_checks::count_check` meets its contract, by its two tests. Assumes nothing.
 use Prim.Native.Nat.{ℕ, zero, suc, ◌-◌}
-use borrow.Author.Rules.{rules}
 use borrow.Author.Tests.{eq-eqb, ne_eqb}
 use lib.Dec.{eqb, eqb-suc-suc}
-use mathlib.Core.Logic.{◌≢◌, ⊎_elim}
+use mathlib.Core.Logic.{◌≢◌}
 use mathlib.Core.Path.{◌≡◌, refl, sym}
 use native.Mathlib.Omega.{arith}
 use Rattle.star_spec.specs.Call.{used, claimed}
 use Rattle.star_spec.specs.Refusals.{bad_count}
 use Rattle.table_checks.proofs.Laws.{marks-within}
 use Rattle.table_checks.proofs.count_check.Goals as goal
+use Rattle.table_checks.proofs.count_check.Goals.{then-n-eq0, else-n-eq0}
 
 -- k is n − 1 exactly where its successor is n
 one_less : (k n : ℕ) → n ≢ 0 → eqb k (n - 1) ≡ eqb (suc k) n
@@ -22,6 +22,7 @@ pub returns : goal.returns
 unfolding bad_count claimed used
 returns c whole left right weight =
     rw (c.refused_if.ensures, ← marks-within _ _ _, ← c.count_marks-marks.ensures)
-    (⊎_elim (λ w. rw (w.1, eq-eqb _ _ w.0.true, ne_eqb (suc c.count_marks-marks.result) c.args.n (λ e. omega (arith, w.0.true, e))))
-    (λ w. rw (w.1, one_less _ _ w.0.false))
-    c.if-n-eq0.branch-raw)
+    (elim c.if-n-eq0.branch [
+      | then-n-eq0 w ↦ rw (w.refused_if-is, eq-eqb _ _ w.if-n-eq0.true, ne_eqb (suc c.count_marks-marks.result) c.args.n (λ e. omega (arith, w.if-n-eq0.true, e)))
+      | else-n-eq0 w ↦ rw (w.refused_if-is, one_less _ _ w.if-n-eq0.false)
+    ])

@@ -1,15 +1,10 @@
 -- `table_checks::count_marks` meets its contract. The loop's invariant: `marks` is the number of marked rows of 1 to i.
 -- The measure is what is left of the rows. Assumes nothing.
 use Prim.Native.Nat.{◌-◌, ◌≤◌}
-use mathlib.Core.Logic.{⊎_elim}
-use mathlib.Core.Path.{◌≡◌, sym, ◌∙◌}
-use native.Mathlib.Omega.{arith}
+use mathlib.Core.Path.{◌≡◌}
 use Rattle.rowset.specs.Sets.{both, count}
-use Rattle.rowset.proofs.Laws.{count-bound}
-use Rattle.slice_words.proofs.Laws.{component-words}
 use Rattle.rowset.specs.Words.{in_words}
 use Rattle.star_spec.specs.Call.{marked}
-use Rattle.table_checks.proofs.Laws.{count-zero, count-in, count-out}
 use Rattle.table_checks.proofs.count_marks.Given as goal
 
 abbrev pub invariant-loop-i : goal.invariant-loop-i

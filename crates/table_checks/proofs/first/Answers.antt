@@ -1,7 +1,6 @@
 -- `table_checks::first` meets its contract, in each of its cases. Assumes nothing.
 use Rattle.refusal.specs.Outcomes.{refusal_of}
 use Rattle.star_spec.specs.Refusals.{or_else}
-use borrow.Author.Rules.{rules}
 use Rattle.table_checks.proofs.first.Goals as goal
 
 pub returns-in_default : goal.returns-in_default

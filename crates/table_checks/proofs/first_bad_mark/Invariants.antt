@@ -1,11 +1,9 @@
 -- `table_checks::first_bad_mark` meets its contract. The loop's invariant: none of the rows above row `at` has a byte other than 0 and 1.
 -- The measure is what is left of the rows. Assumes nothing.
 use Prim.Native.Nat.{◌+◌, ◌-◌, ◌≤◌}
-use native.Mathlib.Omega.{arith}
-use Rattle.slice_words.proofs.Laws.{component-words}
 use Rattle.rowset.specs.Words.{in_words}
 use Rattle.star_spec.specs.Refusals.{wrong_byte}
-use Rattle.table_checks.proofs.Laws.{Passed, passed_none, passed-more, passed-found, passed-all}
+use Rattle.table_checks.proofs.Laws.{Passed}
 use Rattle.table_checks.proofs.first_bad_mark.Given as goal
 
 abbrev pub invariant-loop-at : goal.invariant-loop-at

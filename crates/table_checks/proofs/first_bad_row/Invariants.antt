@@ -1,11 +1,9 @@
 -- `table_checks::first_bad_row` meets its contract. The loop's invariant: none of the rows above row i has wrong ends.
 -- The measure is what is left of the rows. Assumes nothing.
 use Prim.Native.Nat.{◌+◌, ◌-◌, ◌≤◌}
-use native.Mathlib.Omega.{arith}
-use Rattle.slice_words.proofs.Laws.{component-words}
 use Rattle.rowset.specs.Words.{in_words}
 use Rattle.star_spec.specs.Refusals.{wrong_row}
-use Rattle.table_checks.proofs.Laws.{Passed, passed_none, passed-more, passed-found, passed-all}
+use Rattle.table_checks.proofs.Laws.{Passed}
 use Rattle.table_checks.proofs.first_bad_row.Given as goal
 
 abbrev pub invariant-loop-i : goal.invariant-loop-i

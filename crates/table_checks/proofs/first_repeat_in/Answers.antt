@@ -1,6 +1,6 @@
 -- `table_checks::first_repeat_in` meets its contract. The loop's invariant: none of the rows above `row` repeats one above it, and the set has exactly their pairs.
 -- The measure is what is left of the rows. Assumes nothing.
-use Prim.Native.Nat.{ℕ, ◌+◌, ◌/◌, ◌-◌, ◌≤◌, ◌<◌}
+use Prim.Native.Nat.{ℕ, ◌+◌, ◌/◌, ◌<◌}
 use lib.ListN.{length}
 use mathlib.Core.Bool.{true}
 use mathlib.Core.List.{List}
@@ -11,36 +11,32 @@ use Rattle.pairs.specs.Pairs.{pair_at}
 use Rattle.rowset.specs.Bytes.{in_row}
 use Rattle.rowset.specs.Words.{in_words}
 use Rattle.star_spec.specs.Refusals.{repeats_above}
-use Rattle.table_checks.proofs.Laws.{Passed, passed_none, passed-more, passed-found, passed-all}
+use Rattle.table_checks.proofs.Laws.{passed_none, passed-more, passed-found, passed-all}
 use Rattle.table_checks.proofs.Repeats.{Above, above-none, above_more, above-repeats}
 use Rattle.table_checks.proofs.first_repeat_in.Goals as goal
 use Rattle.table_checks.proofs.first_repeat_in.Goals.{After-repeated}
-
--- what was handed in, where the row's pair has been put in the set
-abbrev start : tie.After-repeated invariant-loop decreases-loop → tie.Start invariant-loop decreases-loop
-start c = c.before.before.before.before.before.before.before.before.before.before.before.before
 
 -- what the set says of the row, and the set of the rows above the next one
 module _ (c : After-repeated) where
   abbrev at : ℕ
   at = c.loop-row.row
 
-  repeats : c.repeated.result ≡ repeats_above (in_words (start c).args.t3.words) (start c).args.left.now (start c).args.right.now at
+  repeats : c.repeated.result ≡ repeats_above (in_words c.args.rows.words) c.args.left.now c.args.right.now at
   repeats =
       c.repeated.ensures.seen
       ∙ above-repeats _ _ _ _ _ _ _ _ c.row_byte.ensures c.row_byte-in-loop-row.ensures (omega arith) (omega arith) c.loop-row.invariant.3
 
   -- the word of the row's pair is there
-  room : in_words (start c).args.t3.words at ≡ true → pair_at (in_row 1 (start c).args.left.now at) (in_row 1 (start c).args.right.now at) / 64 < length (start c).args.above.now
-  room = rw component-words at (start c).requires.1.1 at (omega arith) (omega arith)
+  room : in_words c.args.rows.words at ≡ true → pair_at (in_row 1 c.args.left.now at) (in_row 1 c.args.right.now at) / 64 < length c.args.above.now
+  room = rw component-words at c.requires.room at (omega arith) (omega arith)
 
-  next : Above (in_words (start c).args.t3.words) (start c).args.left.now (start c).args.right.now (length (start c).args.above.now) c.repeated.new.0 (at + 1)
+  next : Above (in_words c.args.rows.words) c.args.left.now c.args.right.now (length c.args.above.now) c.repeated.new.above (at + 1)
   next =
-      subst (λ (l : List ℕ). Above (in_words (start c).args.t3.words) (start c).args.left.now (start c).args.right.now (length (start c).args.above.now) l (at + 1)) (sym c.repeated.ensures.after)
+      subst (λ (l : List ℕ). Above (in_words c.args.rows.words) c.args.left.now c.args.right.now (length c.args.above.now) l (at + 1)) (sym c.repeated.ensures.after)
       (above_more _ _ _ _ _ _ _ _ c.row_byte.ensures c.row_byte-in-loop-row.ensures (omega arith) (omega arith) c.loop-row.invariant.3 (omega arith) room)
 
 pub loop-row-init : goal.loop-row-init
-loop-row-init c = (omega arith, omega arith, passed_none _, above-none _ _ _ _ c.requires.empty.0)
+loop-row-init c = (omega arith, omega arith, passed_none _, above-none _ _ _ _ c.requires.empty)
 
 pub row_byte-requires : goal.row_byte-requires
 row_byte-requires c = tt

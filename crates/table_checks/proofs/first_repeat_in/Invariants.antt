@@ -1,18 +1,11 @@
 -- `table_checks::first_repeat_in` meets its contract. The loop's invariant: none of the rows above `row` repeats one above it, and the set has exactly their pairs.
 -- The measure is what is left of the rows. Assumes nothing.
-use Prim.Native.Nat.{ℕ, ◌+◌, ◌/◌, ◌-◌, ◌≤◌, ◌<◌}
+use Prim.Native.Nat.{◌+◌, ◌-◌, ◌≤◌}
 use lib.ListN.{length}
-use mathlib.Core.Bool.{true}
-use mathlib.Core.List.{List}
-use mathlib.Core.Path.{◌≡◌, sym, subst, ◌∙◌}
-use native.Mathlib.Omega.{arith}
-use Rattle.slice_words.proofs.Laws.{component-words}
-use Rattle.pairs.specs.Pairs.{pair_at}
-use Rattle.rowset.specs.Bytes.{in_row}
 use Rattle.rowset.specs.Words.{in_words}
 use Rattle.star_spec.specs.Refusals.{repeats_above}
-use Rattle.table_checks.proofs.Laws.{Passed, passed_none, passed-more, passed-found, passed-all}
-use Rattle.table_checks.proofs.Repeats.{Above, above-none, above_more, above-repeats}
+use Rattle.table_checks.proofs.Laws.{Passed}
+use Rattle.table_checks.proofs.Repeats.{Above}
 use Rattle.table_checks.proofs.first_repeat_in.Given as goal
 
 abbrev pub invariant-loop-row : goal.invariant-loop-row

@@ -1,5 +1,4 @@
 -- `table_checks::lengths_check` meets its contract, by what its callees ensure. Assumes nothing.
-use borrow.Author.Rules.{rules}
 use mathlib.Core.Path.{◌∙◌}
 use Rattle.table_checks.proofs.lengths_check.Goals as goal
 

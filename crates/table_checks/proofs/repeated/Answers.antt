@@ -1,6 +1,4 @@
 -- `table_checks::repeated` meets its contract, by what its callees ensure. Assumes nothing.
-use borrow.Author.Rules.{rules}
-use borrow.Author.Tests.{not-true, not-false}
 use mathlib.Core.Path.{sym, ◌∙◌}
 use Rattle.table_checks.specs.Steps.Seen.{seen_pair, with_seen}
 use Rattle.table_checks.proofs.repeated.Goals as goal

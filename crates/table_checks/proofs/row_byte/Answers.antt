@@ -1,6 +1,5 @@
 -- `table_checks::row_byte` meets its contract. Assumes nothing.
 use Prim.Native.Nat.{suc, ◌-◌}
-use borrow.Author.Rules.{rules}
 use mathlib.Core.Path.{◌≡◌}
 use native.Mathlib.Omega.{arith}
 use Rattle.rowset.specs.Bytes.{in_row}

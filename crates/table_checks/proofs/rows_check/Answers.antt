@@ -1,5 +1,4 @@
 -- `table_checks::rows_check` meets its contract. The places fit 32 bits since there are at most 1,024 rows; where no row is refused for its ends, none has wrong ends. Assumes nothing.
-use borrow.Author.Rules.{rules}
 use mathlib.Core.Path.{◌≡◌, sym, ap, ◌∙◌}
 use native.Mathlib.Omega.{arith}
 use Rattle.refusal.specs.Outcomes.{refusal_of}
@@ -21,7 +20,7 @@ told c =
 right-ends : (c : In-Done) → let x = c.args in uppermost x.m (wrong_row (component x.rows) x.n x.left.now x.right.now) ≡ 0
 unfolding refusal_of
 right-ends c =
-    cause_at-none 4 _ (sym (told c) ∙ ap refusal_of c.in-Done.is)
+    cause_at-none 4 _ (sym (c.refused_at-ends.ensures ∙ ap (cause_at 4) c.first_bad_row.ensures) ∙ ap refusal_of c.in-Done.is)
 
 pub overflow_cast-first_bad_row : goal.overflow_cast-first_bad_row
 overflow_cast-first_bad_row c =
@@ -35,7 +34,11 @@ returns-in_default c whole weight mark =
 
 pub first_repeat-requires : goal.first_repeat-requires
 first_repeat-requires c =
-     let told = (c.requires.vertices, (c.requires.rows, right-ends (goal.at.first_repeat-requires c).In-Done)) in record { vertices = told.0; rows = told.1; ends = told.2 }
+    record {
+      vertices = c.requires.vertices;
+      rows = c.requires.rows;
+      ends = right-ends (goal.at.first_repeat-requires c).In-Done;
+    }
 
 pub overflow_cast-first_repeat : goal.overflow_cast-first_repeat
 overflow_cast-first_repeat c =

@@ -1,13 +1,12 @@
 -- `table_checks::size_check` meets its contract, by its two tests. Assumes nothing.
-use borrow.Author.Rules.{rules}
 use borrow.Author.Tests.{eq-eqb, ne_eqb}
-use mathlib.Core.Logic.{⊎_elim}
 use Rattle.star_spec.specs.Refusals.{bad_vertices, too_many_rows}
 use Rattle.table_checks.proofs.Laws.{refusal-two}
 use Rattle.table_checks.proofs.size_check.Goals as goal
+use Rattle.table_checks.proofs.size_check.Goals.{then-n-eq0, else-n-eq0}
 
 pub returns : goal.returns
 unfolding bad_vertices too_many_rows
 returns c =
     rw (refusal-two, c.first.ensures, c.refused_if-vertices.ensures, c.refused_if.ensures)
-    (⊎_elim (λ w. rw (w.1, eq-eqb _ _ w.0.true)) (λ w. rw (w.1, ne_eqb _ _ w.0.false)) c.if-n-eq0.branch-raw)
+    (elim c.if-n-eq0.branch [ then-n-eq0 w ↦ rw (w.refused_if-is, eq-eqb _ _ w.if-n-eq0.true) | else-n-eq0 w ↦ rw (w.refused_if-is, ne_eqb _ _ w.if-n-eq0.false) ])

@@ -1,5 +1,4 @@
 -- `table_checks::table_check` meets its contract: the sizes are refused, or the lengths and the rows decide in their order. Assumes nothing.
-use borrow.Author.Rules.{rules}
 use mathlib.Core.List.{[], ◌∷◌}
 use mathlib.Core.Option.{none}
 use mathlib.Core.Path.{◌≡◌, sym, ap, ◌∙◌}

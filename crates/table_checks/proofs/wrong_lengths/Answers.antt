@@ -1,8 +1,5 @@
 -- `table_checks::wrong_lengths` meets its contract: the first test that holds decides. Assumes nothing.
-use borrow.Author.Rules.{rules}
 use borrow.Author.Tests.{eq-eqb, ne_eqb}
-use lib.Dec.{eqb}
-use mathlib.Core.Path.{refl}
 use Rattle.table_checks.proofs.wrong_lengths.Goals as goal
 
 pub returns-then-not-whole : goal.returns-then-not-whole

@@ -1,5 +1,4 @@
 -- `table_checks::wrong_mark` meets its contract, by what its callees ensure. Assumes nothing.
-use borrow.Author.Rules.{rules}
 use borrow.Author.Tests.{le-ltb, lt-ltb}
 use lib.Dec.{ltb}
 use mathlib.Core.Path.{sym, ap, ◌∙◌}

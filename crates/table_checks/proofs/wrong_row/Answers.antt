@@ -1,6 +1,4 @@
 -- `table_checks::wrong_row` meets its contract, by what its callees ensure. Assumes nothing.
-use borrow.Author.Rules.{rules}
-use borrow.Author.Tests.{not-true, not-false}
 use mathlib.Core.Path.{sym, ◌∙◌}
 use Rattle.star_spec.specs.Refusals.{wrong_row}
 use Rattle.rowset.specs.Words.{in_words}
