@@ -13,10 +13,10 @@ returns-in-Refused c = call-refused _ _ _ c.call_check.ensures c.in-Refused.is
 
 pub returns-then-not-city : goal.returns-then-not-city
 unfolding answer_of
-returns-then-not-city c = city-refused _ _ _ c.call_check.ensures c.in_default.is c.city_of-city.ensures c.if-not-city.true
+returns-then-not-city c = city-refused _ _ _ c.call_check.ensures c.in_default.is c.city_of-city.ensures (not-true _ c.if-not-city.true)
 
 pub returns : goal.returns
 unfolding answer_of
 returns c =
-    let (answer, forests, marks) = city-built _ _ _ c.call_check.ensures c.in_default.is c.city_of-city.ensures c.if-not-city.false _ c.weigh.ensures in
+    let (answer, forests, marks) = city-built _ _ _ c.call_check.ensures c.in_default.is c.city_of-city.ensures (not-false _ c.if-not-city.false) _ c.weigh.ensures in
     (answer, c.write_claim.ensures ∙ forests, c.write_claim-2.ensures ∙ marks)

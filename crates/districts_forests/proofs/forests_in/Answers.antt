@@ -16,13 +16,13 @@ pub loop-j-init : goal.loop-j-init
 loop-j-init c = (omega arith, gathered_none _ _ _ c.empty-all.ensures)
 
 pub overflow_cast-q : goal.overflow_cast-q
-overflow_cast-q c = omega (arith, c.shared_slice_known-in-loop-j-1.given c.loop-j.j)
+overflow_cast-q c = omega arith
 
 pub forest_of-forest-requires : goal.forest_of-forest-requires
 forest_of-forest-requires c = c.requires
 
 pub overflow_add-j : goal.overflow_add-j
-overflow_add-j c = omega (arith, c.loop-j-test.true, c.well_formed)
+overflow_add-j c = omega arith
 
 pub loop-j-smaller : goal.loop-j-smaller
 loop-j-smaller c = omega (arith, c.loop-j-test.true)

@@ -4,4 +4,4 @@ use Rattle.table_loads.proofs.Numbers.{zeros}
 use Rattle.districts_forests.proofs.forests_of.Goals as goal
 
 pub forests_in-requires : goal.forests_in-requires
-forests_in-requires c = (c.put_ends.ensures.last.0 zeros, c.put_ends-2.ensures.last.0 zeros)
+forests_in-requires c = (c.put_ends.ensures.last zeros, c.put_ends-2.ensures.last zeros)

@@ -7,7 +7,6 @@ use lib.Dec.{eqb}
 use lib.ListN.{length, get_or}
 use mathlib.Core.Bool.{Bool}
 use mathlib.Core.List.{List}
-use mathlib.Core.Logic.{⊎_elim}
 use mathlib.Core.Path.{◌≡◌, sym, ◌∙◌, ap}
 use native.Mathlib.Omega.{arith}
 use Rattle.outlets_swaps.specs.Steps.Columns.{given_of}
@@ -15,6 +14,7 @@ use Rattle.outlets_swaps.specs.Steps.Exchanges.{kept_as, dearest, costs}
 use Rattle.outlets_swaps.proofs.Fills.{Filling, filling-none, filling-more, filling-all}
 use Rattle.slice.specs.Slices.{component}
 use Rattle.outlets_swaps.proofs.find_again.Goals as goal
+use Rattle.outlets_swaps.proofs.find_again.Goals.{then-out-j, else-out-j}
 
 -- the test is that of the number as it was before the loop
 same_test : (old l : List ℕ) (e j : ℕ) (b : Bool) → get_or l j 0 ≡ get_or old j 0 → eqb (get_or l j 0) e ≡ b → b ≡ kept_as old e (j + 1)
@@ -41,14 +41,22 @@ loop-j-preserved c =
     let a = c.args in
     let low = c.loop-j-test.true in
     let old = l.invariant.0.rest l.j (omega arith) in
-    ⊎_elim
-    (λ w.
-    let test = same_test a.out.now l.out a.e l.j _ old (eq-eqb _ _ w.0.true) in
-    (filling-more _ _ _ _ _ _ _ l.invariant.0 (omega (arith, low, l.invariant.0.full)) test (w.8 ∙ w.3.ensures.0), filling-more _ _ _ _ _ _ _ l.invariant.1 (omega (arith, low, l.invariant.0.full, l.invariant.2)) test (w.9 ∙ w.3.ensures.1), l.invariant.2))
-    (λ w.
-    let test = same_test a.out.now l.out a.e l.j _ old (ne_eqb _ _ w.0.false) in
-    (filling-more _ _ _ _ _ _ _ l.invariant.0 (omega (arith, low, l.invariant.0.full)) test w.1, filling-more _ _ _ _ _ _ _ l.invariant.1 (omega (arith, low, l.invariant.0.full, l.invariant.2)) test w.2, l.invariant.2))
-    c.if-out-j.branch-raw
+    elim c.if-out-j.branch [
+      then-out-j w ↦
+        let test = same_test a.out.now l.out a.e l.j _ old (eq-eqb _ _ w.if-out-j.true) in
+        (
+          filling-more _ _ _ _ _ _ _ l.invariant.0 (omega (arith, low, l.invariant.0.full)) test (w.out-is ∙ w.find.ensures.out),
+          filling-more _ _ _ _ _ _ _ l.invariant.1 (omega (arith, low, l.invariant.0.full, l.invariant.2)) test (w.cost-is ∙ w.find.ensures.cost),
+          l.invariant.2,
+        )
+      | else-out-j w ↦
+        let test = same_test a.out.now l.out a.e l.j _ old (ne_eqb _ _ w.if-out-j.false) in
+        (
+          filling-more _ _ _ _ _ _ _ l.invariant.0 (omega (arith, low, l.invariant.0.full)) test w.out-is,
+          filling-more _ _ _ _ _ _ _ l.invariant.1 (omega (arith, low, l.invariant.0.full, l.invariant.2)) test w.cost-is,
+          l.invariant.2,
+        )
+    ]
 
 pub shape_of-out : goal.shape_of-out
 shape_of-out c = c.loop-j.invariant.0.full

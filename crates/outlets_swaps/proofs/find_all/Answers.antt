@@ -3,7 +3,6 @@
 use Prim.Native.Nat.{◌-◌}
 use borrow.Author.Rules.{rules}
 use lib.ListN.{length}
-use mathlib.Core.Logic.{⊎_elim}
 use mathlib.Core.Path.{◌≡◌, sym, ◌∙◌}
 use native.Mathlib.Omega.{arith}
 use Rattle.outlets_swaps.specs.Steps.Columns.{given_of}
@@ -11,6 +10,7 @@ use Rattle.outlets_swaps.specs.Steps.Exchanges.{dearest, costs}
 use Rattle.outlets_swaps.proofs.Fills.{Filling, filling-none, filling-more, filling-all}
 use Rattle.slice.specs.Slices.{component}
 use Rattle.outlets_swaps.proofs.find_all.Goals as goal
+use Rattle.outlets_swaps.proofs.find_all.Goals.{then-get, else-get}
 
 pub loop-j-init : goal.loop-j-init
 loop-j-init c = (filling-none _ _ _, filling-none _ _ _, c.requires)
@@ -30,14 +30,22 @@ loop-j-preserved c =
     let l = c.loop-j in
     let low = c.loop-j-test.true in
     let is = c.get.ensures in
-    ⊎_elim
-    (λ w.
-    let test = sym w.0.true ∙ is in
-    (filling-more _ _ _ _ _ _ _ l.invariant.0 (omega (arith, low, l.invariant.0.full)) test (w.8 ∙ w.3.ensures.0), filling-more _ _ _ _ _ _ _ l.invariant.1 (omega (arith, low, l.invariant.0.full, l.invariant.2)) test (w.9 ∙ w.3.ensures.1), l.invariant.2))
-    (λ w.
-    let test = sym w.0.false ∙ is in
-    (filling-more _ _ _ _ _ _ _ l.invariant.0 (omega (arith, low, l.invariant.0.full)) test w.1, filling-more _ _ _ _ _ _ _ l.invariant.1 (omega (arith, low, l.invariant.0.full, l.invariant.2)) test w.2, l.invariant.2))
-    c.if-get.branch-raw
+    elim c.if-get.branch [
+      then-get w ↦
+        let test = sym w.if-get.true ∙ is in
+        (
+          filling-more _ _ _ _ _ _ _ l.invariant.0 (omega (arith, low, l.invariant.0.full)) test (w.out-is ∙ w.find.ensures.out),
+          filling-more _ _ _ _ _ _ _ l.invariant.1 (omega (arith, low, l.invariant.0.full, l.invariant.2)) test (w.cost-is ∙ w.find.ensures.cost),
+          l.invariant.2,
+        )
+      | else-get w ↦
+        let test = sym w.if-get.false ∙ is in
+        (
+          filling-more _ _ _ _ _ _ _ l.invariant.0 (omega (arith, low, l.invariant.0.full)) test w.out-is,
+          filling-more _ _ _ _ _ _ _ l.invariant.1 (omega (arith, low, l.invariant.0.full, l.invariant.2)) test w.cost-is,
+          l.invariant.2,
+        )
+    ]
 
 pub shape_of-out : goal.shape_of-out
 shape_of-out c = c.loop-j.invariant.0.full

@@ -6,4 +6,5 @@ use Rattle.outlets_swaps.proofs.reduce.Goals as goal
 pub returns : goal.returns
 unfolding first_state found
 returns c =
-     let told = rw (← c.find_all.ensures.out, ← c.find_all.ensures.cost) c.exchanges.ensures in record { left = told.0; own = told.1 }
+    let told = rw (c.find_all.ensures.out, c.find_all.ensures.cost) at c.exchanges.ensures in
+    record { left = told.left; own = told.own }
