@@ -1,12 +1,13 @@
-// Whole texts read, with errors told apart from ends, and the start of a buffer. What a clause knows of the bytes that are read is what the reader says of them: nothing of standard input.
+// Whole texts read, with errors told apart from ends, the start of a buffer, and whole texts written. What a clause knows of the bytes that are read and written is what the reader and the writer
+// say of them: standard input and standard output say nothing.
 
 #![tactic(auto)]
 
-ghost use Rattle.std.specs.Prelude.{◌≡◌, ◌<◌, length, take, None};
-ghost use Rattle.std.specs.Io.KnownBytes.{Consumes, IsAtEnd};
+ghost use Rattle.std.specs.Prelude.{◌≡◌, ◌<◌, length, take, None, OnOk};
+ghost use Rattle.std.specs.Io.KnownBytes.{Appends, Consumes, IsAtEnd};
 ghost use Rattle.io.specs.Counts.{IsPrefixLen};
 
-use std::io::{Error, Read};
+use std::io::{Eprint, Error, Read, Result, Write};
 
 // What was read: the number of bytes at the buffer's start, and the error that ended the reading, if one did.
 #[derive(Clone, Copy)]
@@ -59,4 +60,17 @@ pub fn first(buffer: &[u8], size: usize) -> &[u8]
         return &buffer[..size];
     }
     buffer
+}
+
+// Writes all the bytes, or answers an error, after which some of them may have been written.
+pub fn write_text<W: Write>(output: &mut W, bytes: &[u8]) -> Result<()>
+    ensures { OnOk result (Appends (W.contents output.old) (W.contents output.new) bytes.now) }
+{
+    output.write_all(bytes)?;
+    output.flush()
+}
+
+// Tells an error in a line, after what it kept from being done. Where it cannot be told, nothing is.
+pub fn tell<E: Eprint>(errors: &E, what: &str, error: Error) {
+    let _ = errors.eprintln(format_args!("{what}: {error}"));
 }
