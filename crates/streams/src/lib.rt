@@ -3,7 +3,7 @@
 
 #![tactic(auto)]
 
-ghost use Rattle.std.specs.Prelude.{◌≡◌, ◌<◌, length, take, None, OnOk};
+ghost use Rattle.std.specs.Prelude.{◌≡◌, ◌<◌, length, take, None, IfSome, OnOk};
 ghost use Rattle.std.specs.Io.KnownBytes.{Appends, Consumes, IsAtEnd};
 ghost use Rattle.io.specs.Counts.{IsPrefixLen};
 
@@ -31,12 +31,13 @@ fn read_piece<R: Read>(reader: &mut R, buffer: &mut [u8]) -> Input
     }
 }
 
-// Reads in pieces until the input ends, the buffer is full or an error occurs. Where the reader says which bytes it has, those at the buffer's start are the ones that it gave; and a reading that
-// ended before the buffer was full, with no error, has all of them.
+// Reads in pieces until the input ends, the buffer is full or an error occurs. Where the reader says which bytes it has, those at the buffer's start are the ones that it gave, and a reading
+// that no error ended has as many of them as the buffer holds.
 pub fn read_text<R: Read>(reader: &mut R, buffer: &mut [u8]) -> Input
     ensures counts { IsPrefixLen result.size buffer.new }
     ensures consumes { Consumes (R.remaining reader.old) (R.remaining reader.new) (take result.size buffer.new) }
     ensures whole { result.error ≡ None → result.size < length buffer.new → IsAtEnd (R.remaining reader.new) }
+    ensures text { result.error ≡ None → IfSome (R.remaining reader.old) (λ text. take result.size buffer.new ≡ take (length buffer.new) text) }
 {
     let mut size = 0;
     while size < buffer.len() {
