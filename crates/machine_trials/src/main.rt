@@ -3,78 +3,80 @@
 
 #![tactic(auto)]
 
-use libc::{STDIN_FILENO, STDOUT_FILENO};
 use refusal::Refusal;
 use search_great::Compared;
 use search_match::Matched;
 use slice::Slice;
+use std::io;
+use std::io::Read;
 use table::Table;
 
-fn text(s: &[u8]) {
-    io::write_all(STDOUT_FILENO, s);
+fn text(rt: &impl Print, s: &[u8]) -> io::Result<()> {
+    rt.write_all(s)
 }
 
 // A number after a blank.
-fn number(x: usize) {
-    text(b" ");
-    io::print_decimal(STDOUT_FILENO, x as u64);
+fn number(rt: &impl Print, x: usize) -> io::Result<()> {
+    text(rt, b" ")?;
+    print!(rt; "{x}")
 }
 
 // The next line of standard input, without its end.
-fn label() {
+fn label(rt: &(impl Input + Print)) -> io::Result<()> {
     let mut byte = [0u8; 1];
     let mut left: usize = 100;
     while 0 < left {
-        io::read_full(STDIN_FILENO, &mut byte);
+        rt.reader().read(&mut byte)?;
         if byte[0] == b'\n' {
-            return;
+            return Ok(());
         }
-        text(&byte);
+        text(rt, &byte)?;
         left -= 1;
     }
+    Ok(())
 }
 
 // The number of the components that are 1; their positions, one after the other by STEP, are printed where they are asked for.
-fn positions(x: Slice, printed: bool) -> usize {
+fn positions(rt: &impl Print, x: Slice, printed: bool) -> io::Result<usize> {
     let mut rest = x;
     let mut n: usize = 0;
     while n < 1024 {
         let s = slice::step_own(rest);
         let at = s.at;
         if at == 0 {
-            return n;
+            return Ok(n);
         }
         if printed {
-            number(at);
+            number(rt, at)?;
         }
         rest = s.slice;
         n += 1;
     }
-    n
+    Ok(n)
 }
 
-fn value(x: usize) {
-    label();
-    number(x);
-    text(b"\n");
+fn value(rt: &(impl Input + Print), x: usize) -> io::Result<()> {
+    label(rt)?;
+    number(rt, x)?;
+    text(rt, b"\n")
 }
 
-fn show(x: Slice) {
-    label();
-    positions(x, true);
-    text(b"\n");
+fn show(rt: &(impl Input + Print), x: Slice) -> io::Result<()> {
+    label(rt)?;
+    positions(rt, x, true)?;
+    text(rt, b"\n")
 }
 
 // A slice with many components: how many, the uppermost, and whether component 1024 is 1.
-fn summary(x: Slice) {
-    label();
-    number(positions(x, false));
-    text(b" from");
-    number(slice::fnd(x));
+fn summary(rt: &(impl Input + Print), x: Slice) -> io::Result<()> {
+    label(rt)?;
+    number(rt, positions(rt, x, false)?)?;
+    text(rt, b" from")?;
+    number(rt, slice::fnd(x))?;
     if slice::get(x, 1024) {
-        text(b" with 1024\n");
+        text(rt, b" with 1024\n")
     } else {
-        text(b" without 1024\n");
+        text(rt, b" without 1024\n")
     }
 }
 
@@ -123,18 +125,18 @@ fn rows_right(t: Table, taken: usize, four: bool) -> usize {
 }
 
 // Whether a load was taken: its refusal has number 0 then.
-fn taken_or_not(refusal: Refusal) {
+fn taken_or_not(rt: &impl Print, refusal: Refusal) -> io::Result<()> {
     if refusal.number == 0 {
-        text(b" taken");
+        text(rt, b" taken")
     } else {
-        text(b" refused");
-        number(refusal.number as usize);
-        number(refusal.place as usize);
+        text(rt, b" refused")?;
+        number(rt, refusal.number as usize)?;
+        number(rt, refusal.place as usize)
     }
 }
 
 // A load of a column, of whose bytes the first `taken` are in the table afterwards: all, or none where the load is refused.
-fn report(column: &[u8], taken: usize, four: bool) {
+fn report(rt: &(impl Input + Print), column: &[u8], taken: usize, four: bool) -> io::Result<()> {
     let loaded = if four {
         table::load_quads(column)
     } else {
@@ -142,54 +144,55 @@ fn report(column: &[u8], taken: usize, four: bool) {
     };
     let refusal = loaded.refusal;
     let t = loaded.table;
-    label();
-    taken_or_not(refusal);
-    text(b", rows read back");
-    number(rows_right(t, taken, four));
-    text(b", row 1");
-    number(table::row_of(t, 1) as usize);
-    text(b", row 1024");
-    number(table::row_of(t, 1024) as usize);
-    text(b"\n");
+    label(rt)?;
+    taken_or_not(rt, refusal)?;
+    text(rt, b", rows read back")?;
+    number(rt, rows_right(t, taken, four))?;
+    text(rt, b", row 1")?;
+    number(rt, table::row_of(t, 1) as usize)?;
+    text(rt, b", row 1024")?;
+    number(rt, table::row_of(t, 1024) as usize)?;
+    text(rt, b"\n")
 }
 
-fn load_case(len: usize, taken: usize, four: bool) {
+fn load_case(rt: &(impl Input + Print), len: usize, taken: usize, four: bool) -> io::Result<()> {
     let mut column = [0u8; 4200];
     fill(&mut column);
     if len <= 4200 {
-        report(&column[..len], taken, four);
+        report(rt, &column[..len], taken, four)?;
     }
+    Ok(())
 }
 
-fn loads() {
-    text(b"one byte a row\n");
-    load_case(0, 0, false);
-    load_case(1, 1, false);
-    load_case(63, 63, false);
-    load_case(64, 64, false);
-    load_case(65, 65, false);
-    load_case(1023, 1023, false);
-    load_case(1024, 1024, false);
-    load_case(1025, 0, false);
-    text(b"four bytes a row\n");
-    load_case(0, 0, true);
-    load_case(4, 4, true);
-    load_case(4092, 4092, true);
-    load_case(4096, 4096, true);
-    load_case(4097, 0, true);
-    load_case(4095, 0, true);
-    load_case(2, 0, true);
+fn loads(rt: &(impl Input + Print)) -> io::Result<()> {
+    text(rt, b"one byte a row\n")?;
+    load_case(rt, 0, 0, false)?;
+    load_case(rt, 1, 1, false)?;
+    load_case(rt, 63, 63, false)?;
+    load_case(rt, 64, 64, false)?;
+    load_case(rt, 65, 65, false)?;
+    load_case(rt, 1023, 1023, false)?;
+    load_case(rt, 1024, 1024, false)?;
+    load_case(rt, 1025, 0, false)?;
+    text(rt, b"four bytes a row\n")?;
+    load_case(rt, 0, 0, true)?;
+    load_case(rt, 4, 4, true)?;
+    load_case(rt, 4092, 4092, true)?;
+    load_case(rt, 4096, 4096, true)?;
+    load_case(rt, 4097, 0, true)?;
+    load_case(rt, 4095, 0, true)?;
+    load_case(rt, 2, 0, true)
 }
 
-fn corners(t: Table) {
-    label();
-    number(table::row_of(t, 0) as usize);
-    value(table::row_of(t, 1025) as usize);
-    show(table::col(t, 0));
-    show(table::col(t, 33));
-    show(table::col(t, 32));
-    show(table::col(t, 30));
-    show(table::col(t, 1));
+fn corners(rt: &(impl Input + Print), t: Table) -> io::Result<()> {
+    label(rt)?;
+    number(rt, table::row_of(t, 0) as usize)?;
+    value(rt, table::row_of(t, 1025) as usize)?;
+    show(rt, table::col(t, 0))?;
+    show(rt, table::col(t, 33))?;
+    show(rt, table::col(t, 32))?;
+    show(rt, table::col(t, 30))?;
+    show(rt, table::col(t, 1))
 }
 
 // Rows 5, 3, 5, 4, 4294967295, 3 and unloaded rows after them.
@@ -213,111 +216,129 @@ fn six() -> Slice {
 }
 
 // GREAT whole: the rows that it found greater, and those that it found equal.
-fn compared(c: Compared) {
-    label();
-    positions(c.greater, true);
-    text(b", equal");
-    positions(c.equal, true);
-    text(b"\n");
+fn compared(rt: &(impl Input + Print), c: Compared) -> io::Result<()> {
+    label(rt)?;
+    positions(rt, c.greater, true)?;
+    text(rt, b", equal")?;
+    positions(rt, c.equal, true)?;
+    text(rt, b"\n")
 }
 
-fn searches(t: Table, x: Slice) {
-    show(search::match_rows(t, 5, x));
-    show(search::match_rows(t, 4294967295, x));
-    show(search::match_rows(t, 2, x));
-    show(search::min(t, x));
-    show(search::max(t, x));
-    compared(search::great(t, 0, x));
-    compared(search::great(t, 3, x));
-    compared(search::great(t, 4, x));
-    compared(search::great(t, 5, x));
-    compared(search::great(t, 4294967295, x));
+fn searches(rt: &(impl Input + Print), t: Table, x: Slice) -> io::Result<()> {
+    show(rt, search::match_rows(t, 5, x))?;
+    show(rt, search::match_rows(t, 4294967295, x))?;
+    show(rt, search::match_rows(t, 2, x))?;
+    show(rt, search::min(t, x))?;
+    show(rt, search::max(t, x))?;
+    compared(rt, search::great(t, 0, x))?;
+    compared(rt, search::great(t, 3, x))?;
+    compared(rt, search::great(t, 4, x))?;
+    compared(rt, search::great(t, 5, x))?;
+    compared(rt, search::great(t, 4294967295, x))
 }
 
 // MATCH whole: the number of columns that it read, and the rows that it found.
-fn counted(m: Matched) {
-    label();
-    number(m.read);
-    text(b", rows");
-    positions(m.rows, true);
-    text(b"\n");
+fn counted(rt: &(impl Input + Print), m: Matched) -> io::Result<()> {
+    label(rt)?;
+    number(rt, m.read)?;
+    text(rt, b", rows")?;
+    positions(rt, m.rows, true)?;
+    text(rt, b"\n")
 }
 
-fn counts(t: Table, x: Slice) {
-    counted(search::match_count(t, 5, slice::clr()));
-    counted(search::match_count(t, 5, x));
-    counted(search::match_count(t, 3, slice::put(slice::clr(), 4, true)));
-    counted(search::match_count(t, 65541, x));
-    counted(search::match_count(t, 2147483653, x));
-    counted(search::match_count(t, 0, slice::put(slice::clr(), 1000, true)));
-    counted(search::match_count(t, 8, slice::put(slice::clr(), 1000, true)));
+fn counts(rt: &(impl Input + Print), t: Table, x: Slice) -> io::Result<()> {
+    counted(rt, search::match_count(t, 5, slice::clr()))?;
+    counted(rt, search::match_count(t, 5, x))?;
+    counted(
+        rt,
+        search::match_count(t, 3, slice::put(slice::clr(), 4, true)),
+    )?;
+    counted(rt, search::match_count(t, 65541, x))?;
+    counted(rt, search::match_count(t, 2147483653, x))?;
+    counted(
+        rt,
+        search::match_count(t, 0, slice::put(slice::clr(), 1000, true)),
+    )?;
+    counted(
+        rt,
+        search::match_count(t, 8, slice::put(slice::clr(), 1000, true)),
+    )
 }
 
 // All rows are selected, unloaded ones too.
-fn all_selected(t: Table, x: Slice) {
-    summary(search::match_rows(t, 0, x));
-    summary(search::min(t, x));
-    show(search::max(t, x));
+fn all_selected(rt: &(impl Input + Print), t: Table, x: Slice) -> io::Result<()> {
+    summary(rt, search::match_rows(t, 0, x))?;
+    summary(rt, search::min(t, x))?;
+    show(rt, search::max(t, x))?;
     let c = search::great(t, 0, x);
-    show(c.greater);
-    summary(c.equal);
+    show(rt, c.greater)?;
+    summary(rt, c.equal)
 }
 
-fn operations(x: Slice, y: Slice) {
-    show(slice::and(x, y));
-    show(slice::or(x, y));
-    show(slice::xor(x, y));
-    summary(slice::not(x));
-    summary(slice::set());
-    show(slice::clr());
-    value(slice::some(x) as usize);
-    value(slice::zero(x) as usize);
-    value(slice::some(slice::clr()) as usize);
-    value(slice::zero(slice::clr()) as usize);
+fn operations(rt: &(impl Input + Print), x: Slice, y: Slice) -> io::Result<()> {
+    show(rt, slice::and(x, y))?;
+    show(rt, slice::or(x, y))?;
+    show(rt, slice::xor(x, y))?;
+    summary(rt, slice::not(x))?;
+    summary(rt, slice::set())?;
+    show(rt, slice::clr())?;
+    value(rt, slice::some(x) as usize)?;
+    value(rt, slice::zero(x) as usize)?;
+    value(rt, slice::some(slice::clr()) as usize)?;
+    value(rt, slice::zero(slice::clr()) as usize)
 }
 
-fn places(x: Slice) {
-    value(slice::get(slice::set(), 0) as usize);
-    value(slice::get(slice::set(), 1025) as usize);
-    show(slice::put(slice::put(x, 0, true), 1025, true));
-    show(slice::put(x, 2, false));
-    value(slice::fnd(slice::clr()));
-    value(slice::fnd(slice::put(slice::clr(), 1024, true)));
+fn places(rt: &(impl Input + Print), x: Slice) -> io::Result<()> {
+    value(rt, slice::get(slice::set(), 0) as usize)?;
+    value(rt, slice::get(slice::set(), 1025) as usize)?;
+    show(rt, slice::put(slice::put(x, 0, true), 1025, true))?;
+    show(rt, slice::put(x, 2, false))?;
+    value(rt, slice::fnd(slice::clr()))?;
+    value(rt, slice::fnd(slice::put(slice::clr(), 1024, true)))
 }
 
 // STEP: the position that it gives, and the components that are left in the slice.
-fn stepped(x: Slice) {
-    label();
+fn stepped(rt: &(impl Input + Print), x: Slice) -> io::Result<()> {
+    label(rt)?;
     let s = slice::step_own(x);
-    number(s.at);
-    text(b", left");
-    positions(s.slice, true);
-    text(b"\n");
+    number(rt, s.at)?;
+    text(rt, b", left")?;
+    positions(rt, s.slice, true)?;
+    text(rt, b"\n")
 }
 
-fn steps(x: Slice) {
-    stepped(x);
-    stepped(slice::put(slice::clr(), 1024, true));
-    stepped(slice::clr());
+fn steps(rt: &(impl Input + Print), x: Slice) -> io::Result<()> {
+    stepped(rt, x)?;
+    stepped(rt, slice::put(slice::clr(), 1024, true))?;
+    stepped(rt, slice::clr())
 }
 
-fn main() {
-    loads();
+fn main(rt: HostRuntime) -> io::Result<()> {
+    let rt = &rt;
+    loads(rt)?;
     let t = small();
     let x = six();
-    corners(t);
-    text(b"rows 1 to 6 selected\n");
-    searches(t, x);
-    text(b"rows 2 and 4 selected\n");
-    searches(t, slice::put(slice::put(slice::clr(), 2, true), 4, true));
-    text(b"no row selected\n");
-    searches(t, slice::clr());
-    text(b"every row selected\n");
-    all_selected(t, slice::set());
-    text(b"columns read by MATCH\n");
-    counts(t, x);
-    text(b"slices\n");
-    operations(x, slice::put(slice::put(slice::clr(), 3, true), 1024, true));
-    places(x);
-    steps(x);
+    corners(rt, t)?;
+    text(rt, b"rows 1 to 6 selected\n")?;
+    searches(rt, t, x)?;
+    text(rt, b"rows 2 and 4 selected\n")?;
+    searches(
+        rt,
+        t,
+        slice::put(slice::put(slice::clr(), 2, true), 4, true),
+    )?;
+    text(rt, b"no row selected\n")?;
+    searches(rt, t, slice::clr())?;
+    text(rt, b"every row selected\n")?;
+    all_selected(rt, t, slice::set())?;
+    text(rt, b"columns read by MATCH\n")?;
+    counts(rt, t, x)?;
+    text(rt, b"slices\n")?;
+    operations(
+        rt,
+        x,
+        slice::put(slice::put(slice::clr(), 3, true), 1024, true),
+    )?;
+    places(rt, x)?;
+    steps(rt, x)
 }

@@ -1,8 +1,8 @@
-// The programs diglist and readstp as functions that give their exit status, since a program of the kit has none: `programs_door` hands them to C, which ends with it.
-// An error of reading or of writing is told on standard error. What the kit's contracts say of C's read and write ends here: no contract says which bytes were read, nor what C does with those that are handed to it.
+// The programs diglist and readstp as functions that give their exit status: the programs of these names end with it, and `programs_door` hands them to C.
+// An error of reading or of writing is told on the handle for errors. Where the reader and the writer say which bytes they have, a contract says what is printed; standard input and output say
+// nothing, and what is known of them ends here: no contract says which bytes were read, nor what the system does with those that are written.
 
 #![tactic(auto)]
 
 pub mod diglist; // diglist.rt: the dig list of a text
-mod output; // output.rt: bytes handed to C
 pub mod readstp; // readstp.rt: what a text holds

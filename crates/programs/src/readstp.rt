@@ -1,17 +1,17 @@
 // Reads an STP text on standard input and prints what the import answers: n and m on one line, and then a line a row with its ends and its weight; or the refusal's number and place.
 // The page is made whole before a byte is printed; specs/Readstp.antt says what it is.
-ghost use Rattle.std.specs.Prelude.{[], ◌∷◌, ◌++◌, ◌⊎◌, ◌≡◌, ◌+◌, ◌*◌, ◌≤◌, length, take};
+ghost use Rattle.std.specs.Prelude.{[], ◌∷◌, ◌++◌, ◌⊎◌, ◌≡◌, ◌≢◌, ◌+◌, ◌*◌, ◌≤◌, IfSome, length, take};
+ghost use Rattle.std.specs.Io.KnownBytes.{Appends};
 ghost use Rattle.decimal.specs.Decimal.{natural};
 ghost use Rattle.decimal.specs.Puts.{Puts};
 ghost use Rattle.programs.specs.Readstp.{sizes_line, ends_line, table_text, read_page, read_status};
 
-use crate::output::write_bytes;
 use decimal::{put_byte, put_natural, put_price};
 use digs::Page;
 use digs_lines::put_refused;
-use libc::STDIN_FILENO;
+use std::io::{Eprint, Read, Write};
 use stp::{Imported, Sizes};
-use streams::first;
+use streams::{first, tell, write_text};
 
 // One byte more than the longest text that is taken, so that a longer one is noticed.
 const TEXT_BYTES: usize = 65537;
@@ -102,41 +102,53 @@ fn import(text: &[u8], out: &mut [u8]) -> Page
     }
 }
 
-// Writes the page of a text and gives the exit status: 2 where it is not written, else that of the page. The bytes that are handed to C are those that are to be printed of the text.
-fn write_page(text: &[u8], page: &[u8], status: u32) -> u32
+// Writes the page of a text and gives the exit status: 2 where it is not written, else that of the page. The bytes that are handed on are those that are to be printed of the text.
+fn write_page<W: Write, E: Eprint>(
+    output: &mut W,
+    errors: &E,
+    text: &[u8],
+    page: &[u8],
+    status: u32,
+) -> u32
     requires { (page.now ≡ read_page text.now) × (status ≡ read_status text.now) × (status ≤ 1) }
     ensures status { (result ≡ read_status text.now) ⊎ (result ≡ 2) }
     ensures few { result ≤ 2 }
+    ensures written { result ≢ 2 → Appends (W.contents output.old) (W.contents output.new) (read_page text.now) }
 {
-    if !write_bytes(page) {
-        os::fail(b"readstp: the answer is not printed whole");
+    if let Err(error) = write_text(output, page) {
+        tell(errors, "readstp: the answer is not printed whole", error);
         return 2;
     }
     status
 }
 
 // Prints what the import of the text answers, and gives the exit status.
-fn print(text: &[u8]) -> u32
+fn print<W: Write, E: Eprint>(output: &mut W, errors: &E, text: &[u8]) -> u32
     ensures status { (result ≡ read_status text.now) ⊎ (result ≡ 2) }
     ensures few { result ≤ 2 }
+    ensures written { result ≢ 2 → Appends (W.contents output.old) (W.contents output.new) (read_page text.now) }
 {
     let mut bytes = [0u8; PRINTED];
     let page = import(text, &mut bytes);
     let status = page.status;
     let size = page.size;
-    write_page(text, first(&bytes, size), status)
+    write_page(output, errors, text, first(&bytes, size), status)
 }
 
-// The program: its exit status is 0 for a table, 1 for a refusal, 2 where the text cannot be read or the answer not be written.
-pub fn run() -> u32
-    ensures { result ≤ 2 }
+// The program: its exit status is 0 for a table, 1 for a refusal, 2 where the text cannot be read or the answer not be written. Of a text that the reader says, it is the page of the first 65,537
+// bytes that is written, and the status is that of this page.
+pub fn run<R: Read, W: Write, E: Eprint>(input: &mut R, output: &mut W, errors: &E) -> u32
+    ensures few { result ≤ 2 }
+    ensures status { IfSome (R.remaining input.old) (λ text. (result ≡ read_status (take 65537 text)) ⊎ (result ≡ 2)) }
+    ensures written { IfSome (R.remaining input.old) (λ text. result ≢ 2 →
+        Appends (W.contents output.old) (W.contents output.new) (read_page (take 65537 text))) }
 {
     let mut buffer = [0u8; TEXT_BYTES];
-    let input = streams::read_text(STDIN_FILENO, &mut buffer);
-    if input.failed {
-        os::fail(b"readstp: standard input is not read");
+    let got = streams::read_text(input, &mut buffer);
+    if let Some(error) = got.error {
+        tell(errors, "readstp: standard input is not read", error);
         return 2;
     }
-    let size = input.size;
-    print(&buffer[..size])
+    let size = got.size;
+    print(output, errors, &buffer[..size])
 }

@@ -8,10 +8,10 @@ ghost use Rattle.std.specs.Prelude.{◌≤◌, length};
 
 use cst::{Checked, Pass, Verdict};
 use in_use::InUse;
-use libc::{STDIN_FILENO, STDOUT_FILENO};
 use mst1::Built;
 use refusal::{Outcome, Refusal};
 use slice::Slice;
+use std::io;
 
 // A number that was read, and where reading goes on.
 #[derive(Clone, Copy)]
@@ -20,128 +20,129 @@ struct Parsed {
     next: usize,
 }
 
-fn text(s: &[u8]) {
-    io::write_all(STDOUT_FILENO, s);
+fn text(rt: &impl Print, s: &[u8]) -> io::Result<()> {
+    rt.write_all(s)
 }
 
-fn number(x: u64) {
-    io::print_decimal(STDOUT_FILENO, x);
+fn number(rt: &impl Print, x: u64) -> io::Result<()> {
+    print!(rt; "{x}")
 }
 
 // The integer that 64 bits stand for.
-fn integer(x: u64) {
+fn integer(rt: &impl Print, x: u64) -> io::Result<()> {
     if 9223372036854775808 <= x {
-        text(b"-");
-        number(18446744073709551615 - x + 1);
-        return;
+        text(rt, b"-")?;
+        return number(rt, 18446744073709551615 - x + 1);
     }
-    number(x);
+    number(rt, x)
 }
 
-fn refused(r: Refusal) {
-    text(b"refused ");
-    number(r.number as u64);
-    text(b", place ");
-    number(r.place as u64);
-    text(b"\n");
+fn refused(rt: &impl Print, r: Refusal) -> io::Result<()> {
+    text(rt, b"refused ")?;
+    number(rt, r.number as u64)?;
+    text(rt, b", place ")?;
+    number(rt, r.place as u64)?;
+    text(rt, b"\n")
 }
 
-fn lighter(x: cst::Exchange) {
-    text(b"lighter, out ");
-    number(x.out as u64);
-    text(b", in ");
-    number(x.into as u64);
-    text(b", saving ");
-    number(x.saving as u64);
-    text(b"\n");
+fn lighter(rt: &impl Print, x: cst::Exchange) -> io::Result<()> {
+    text(rt, b"lighter, out ")?;
+    number(rt, x.out as u64)?;
+    text(rt, b", in ")?;
+    number(rt, x.into as u64)?;
+    text(rt, b", saving ")?;
+    number(rt, x.saving as u64)?;
+    text(rt, b"\n")
 }
 
-fn passed(x: Pass) {
-    text(b"passed, ");
-    integer(x.weight);
+fn passed(rt: &impl Print, x: Pass) -> io::Result<()> {
+    text(rt, b"passed, ")?;
+    integer(rt, x.weight)?;
     if x.only {
-        text(b", yes\n");
+        text(rt, b", yes\n")
     } else {
-        text(b", no\n");
+        text(rt, b", no\n")
     }
 }
 
-fn verdict(v: Verdict) {
+fn verdict(rt: &impl Print, v: Verdict) -> io::Result<()> {
     match v {
-        Verdict::Passed(x) => passed(x),
-        Verdict::Lighter(x) => lighter(x),
-        Verdict::Refused(r) => refused(r),
+        Verdict::Passed(x) => passed(rt, x),
+        Verdict::Lighter(x) => lighter(rt, x),
+        Verdict::Refused(r) => refused(rt, r),
     }
 }
 
 // A verdict, and the rows of the exchange beside it.
-fn checked(x: Checked) {
+fn checked(rt: &impl Print, x: Checked) -> io::Result<()> {
     let v = x.verdict;
-    verdict(v);
-    text(b"    another tree: out ");
-    number(x.out as u64);
-    text(b", in ");
-    number(x.into as u64);
-    text(b"\n");
+    verdict(rt, v)?;
+    text(rt, b"    another tree: out ")?;
+    number(rt, x.out as u64)?;
+    text(rt, b", in ")?;
+    number(rt, x.into as u64)?;
+    text(rt, b"\n")
 }
 
 // The marked rows of a claim, each after a blank.
-fn rows(mark: &[u8]) {
+fn rows(rt: &impl Print, mark: &[u8]) -> io::Result<()> {
     let mut i: usize = 0;
     while i < mark.len() {
         if mark[i] == 1 {
-            text(b" ");
-            number((i + 1) as u64);
+            text(rt, b" ")?;
+            number(rt, (i + 1) as u64)?;
         }
         i += 1;
     }
+    Ok(())
 }
 
 // The weight of a tree that was built, and its rows where the table has at most 16.
-fn tree(weight: u64, mark: &[u8]) {
-    text(b"tree of weight ");
-    integer(weight);
+fn tree(rt: &impl Print, weight: u64, mark: &[u8]) -> io::Result<()> {
+    text(rt, b"tree of weight ")?;
+    integer(rt, weight)?;
     if mark.len() <= 16 {
-        text(b", rows");
-        rows(mark);
+        text(rt, b", rows")?;
+        rows(rt, mark)?;
     }
-    text(b"\n");
+    text(rt, b"\n")
 }
 
-fn built(b: Built, mark: &[u8]) {
+fn built(rt: &impl Print, b: Built, mark: &[u8]) -> io::Result<()> {
     match b {
-        Built::Tree(weight) => tree(weight, mark),
-        Built::Refused(r) => refused(r),
+        Built::Tree(weight) => tree(rt, weight, mark),
+        Built::Refused(r) => refused(rt, r),
     }
 }
 
 // The positions of a slice, each after a blank.
-fn positions(x: Slice) {
+fn positions(rt: &impl Print, x: Slice) -> io::Result<()> {
     let mut rest = x;
     let mut left: usize = 1024;
     while 0 < left {
         let s = slice::step_value(rest);
         let at = s.at;
         if at == 0 {
-            return;
+            return Ok(());
         }
-        text(b" ");
-        number(at as u64);
+        text(rt, b" ")?;
+        number(rt, at as u64)?;
         rest = s.slice;
         left -= 1;
     }
+    Ok(())
 }
 
 // The columns of a path matrix.
-fn columns(matrix: &[u64], n: usize) {
+fn columns(rt: &impl Print, matrix: &[u64], n: usize) -> io::Result<()> {
     let mut j: usize = 0;
     while j < n {
-        text(b" {");
-        positions(path_matrix::read_column(matrix, j + 1));
-        text(b" }");
+        text(rt, b" {")?;
+        positions(rt, path_matrix::read_column(matrix, j + 1))?;
+        text(rt, b" }")?;
         j += 1;
     }
-    text(b"\n");
+    text(rt, b"\n")
 }
 
 // How many words of R are 7, as they were beforehand.
@@ -157,17 +158,17 @@ fn sevens(matrix: &[u64]) -> usize {
     k
 }
 
-fn filled(answer: Outcome, matrix: &[u64], n: u32) {
+fn filled(rt: &impl Print, answer: Outcome, matrix: &[u64], n: u32) -> io::Result<()> {
     match answer {
         Outcome::Done => {
-            text(b"columns");
-            columns(matrix, (n % 256) as usize);
+            text(rt, b"columns")?;
+            columns(rt, matrix, (n % 256) as usize)?;
         }
-        Outcome::Refused(r) => refused(r),
+        Outcome::Refused(r) => refused(rt, r)?,
     }
-    text(b"    words as they were: ");
-    number(sevens(matrix) as u64);
-    text(b"\n");
+    text(rt, b"    words as they were: ")?;
+    number(rt, sevens(matrix) as u64)?;
+    text(rt, b"\n")
 }
 
 // The place of the next digit.
@@ -284,31 +285,61 @@ fn prices(s: &[u8], from: usize, room: &mut [u8]) -> Column
 }
 
 // MatrixPath on a matrix of 112 words, all 7 beforehand.
-fn walk(n: u32, left: &[u8], right: &[u8], weight: &[u8], mark: &[u8], s: u32) {
+fn walk(
+    rt: &impl Print,
+    n: u32,
+    left: &[u8],
+    right: &[u8],
+    weight: &[u8],
+    mark: &[u8],
+    s: u32,
+) -> io::Result<()> {
     let mut matrix = [7u64; 112];
     let table = InUse::plain(left.len());
     let answer = path::matrix_path(n, table, left, right, weight, mark, s, &mut matrix);
-    filled(answer, &matrix, n);
+    filled(rt, answer, &matrix, n)
 }
 
 // CST, with the rows of an exchange that gives another tree of the same weight where they are asked for.
-fn check(n: u32, left: &[u8], right: &[u8], weight: &[u8], mark: &[u8], other: bool) {
+fn check(
+    rt: &impl Print,
+    n: u32,
+    left: &[u8],
+    right: &[u8],
+    weight: &[u8],
+    mark: &[u8],
+    other: bool,
+) -> io::Result<()> {
     let x = cst::cst(n, InUse::plain(left.len()), left, right, weight, mark);
     if other {
-        checked(x);
+        checked(rt, x)
     } else {
         let v = x.verdict;
-        verdict(v);
+        verdict(rt, v)
     }
 }
 
-fn build(n: u32, left: &[u8], right: &[u8], weight: &[u8], mark: &mut [u8]) {
+fn build(
+    rt: &impl Print,
+    n: u32,
+    left: &[u8],
+    right: &[u8],
+    weight: &[u8],
+    mark: &mut [u8],
+) -> io::Result<()> {
     let b = mst1::mst1(n, InUse::plain(left.len()), left, right, weight, mark);
-    built(b, mark);
+    built(rt, b, mark)
 }
 
 // Reads the columns of a trial and runs it; answers where the next begins.
-fn trial(s: &[u8], from: usize, kind: u32, n: u32, source: u32) -> usize {
+fn trial(
+    rt: &impl Print,
+    s: &[u8],
+    from: usize,
+    kind: u32,
+    n: u32,
+    source: u32,
+) -> io::Result<usize> {
     let mut left = [0u8; 1100];
     let mut right = [0u8; 1100];
     let mut weight = [0u8; 4400];
@@ -322,32 +353,41 @@ fn trial(s: &[u8], from: usize, kind: u32, n: u32, source: u32) -> usize {
     let k = w.count;
     let l = m.count;
     if kind == 2 {
-        build(n, &left[..i], &right[..j], &weight[..k], &mut mark[..l]);
+        build(rt, n, &left[..i], &right[..j], &weight[..k], &mut mark[..l])?;
     } else if kind == 3 {
-        walk(n, &left[..i], &right[..j], &weight[..k], &mark[..l], source);
+        walk(
+            rt,
+            n,
+            &left[..i],
+            &right[..j],
+            &weight[..k],
+            &mark[..l],
+            source,
+        )?;
     } else {
         check(
+            rt,
             n,
             &left[..i],
             &right[..j],
             &weight[..k],
             &mark[..l],
             kind == 4,
-        );
+        )?;
     }
-    m.next
+    Ok(m.next)
 }
 
 // The procedure, n and s, and then the columns.
-fn numbers(s: &[u8], from: usize) -> usize {
+fn numbers(rt: &impl Print, s: &[u8], from: usize) -> io::Result<usize> {
     let kind = read(s, from);
     let n = read(s, kind.next);
     let source = read(s, n.next);
-    trial(s, source.next, kind.value, n.value, source.value)
+    trial(rt, s, source.next, kind.value, n.value, source.value)
 }
 
 // Prints the bytes from a place up to a colon, and the colon; answers the place of the colon.
-fn name(s: &[u8], from: usize) -> usize {
+fn name(rt: &impl Print, s: &[u8], from: usize) -> io::Result<usize> {
     let mut at = from;
     while at < s.len() {
         if s[at] == b':' {
@@ -357,25 +397,26 @@ fn name(s: &[u8], from: usize) -> usize {
     }
     if from <= at {
         if at <= s.len() {
-            text(&s[from..at]);
+            text(rt, &s[from..at])?;
         }
     }
-    text(b": ");
-    at
+    text(rt, b": ")?;
+    Ok(at)
 }
 
-fn trials(s: &[u8]) {
+fn trials(rt: &impl Print, s: &[u8]) -> io::Result<()> {
     let mut at: usize = 0;
     let mut k: usize = 0;
     while k < 1000 {
         let next = digit_or_letter(s, at);
         if s.len() <= next {
-            return;
+            return Ok(());
         }
-        let colon = name(s, next);
-        at = numbers(s, colon);
+        let colon = name(rt, s, next)?;
+        at = numbers(rt, s, colon)?;
         k += 1;
     }
+    Ok(())
 }
 
 // The place of the next byte above a blank.
@@ -390,8 +431,12 @@ fn digit_or_letter(s: &[u8], from: usize) -> usize {
     at
 }
 
-fn main() {
-    let mut buffer = io::large_buffer();
-    let n = io::read_full(STDIN_FILENO, &mut buffer);
-    trials(&buffer[..n]);
+fn main(rt: HostRuntime) -> io::Result<()> {
+    let mut buffer = [0u8; 65536];
+    let got = streams::read_text(&mut rt.stdin(), &mut buffer);
+    if let Some(error) = got.error {
+        return Err(error);
+    }
+    let n = got.size;
+    trials(&rt, &buffer[..n])
 }

@@ -1,47 +1,56 @@
-// Whole texts read, with errors told apart from ends, and the start of a buffer. No contract can say which bytes a call of C reads: what is said here is where they stand.
+// Whole texts read, with errors told apart from ends, the start of a buffer, and whole texts written. What a clause knows of the bytes that are read and written is what the reader and the writer
+// say of them: standard input and standard output say nothing.
 
 #![tactic(auto)]
 
-ghost use Rattle.std.specs.Prelude.{take, ◌≡◌};
+ghost use Rattle.std.specs.Prelude.{◌≡◌, ◌<◌, length, take, None, IfSome, OnOk};
+ghost use Rattle.std.specs.Io.KnownBytes.{Appends, Consumes, IsAtEnd};
 ghost use Rattle.io.specs.Counts.{IsPrefixLen};
 
-// What was read: the number of bytes at the buffer's start, and whether an error ended the reading.
+use std::io::{Eprint, Error, Read, Result, Write};
+
+// What was read: the number of bytes at the buffer's start, and the error that ended the reading, if one did.
 #[derive(Clone, Copy)]
 pub struct Input {
     pub size: usize,
-    pub failed: bool,
+    pub error: Option<Error>,
 }
 
-// One piece of an input, as it comes: no bytes at its end.
-fn read_piece(fd: i32, buffer: &mut [u8]) -> Input
-    ensures { IsPrefixLen result.size buffer.new }
+// One piece of an input, as it comes: no bytes at its end, and none with an error.
+fn read_piece<R: Read>(reader: &mut R, buffer: &mut [u8]) -> Input
+    ensures counts { IsPrefixLen result.size buffer.new }
+    ensures consumes { Consumes (R.remaining reader.old) (R.remaining reader.new) (take result.size buffer.new) }
+    ensures whole { result.error ≡ None → result.size ≡ 0 → 0 < length buffer.new → IsAtEnd (R.remaining reader.new) }
 {
-    let got = libc::read(fd, buffer);
-    Input {
-        size: io::count(got, buffer),
-        failed: got < 0,
+    match reader.read(buffer) {
+        Ok(size) => Input { size, error: None },
+        Err(error) => Input {
+            size: 0,
+            error: Some(error),
+        },
     }
 }
 
-// Reads in pieces until the input ends, the buffer is full or an error occurs.
-pub fn read_text(fd: i32, buffer: &mut [u8]) -> Input
-    ensures { IsPrefixLen result.size buffer.new }
+// Reads in pieces until the input ends, the buffer is full or an error occurs. Where the reader says which bytes it has, those at the buffer's start are the ones that it gave, and a reading
+// that no error ended has as many of them as the buffer holds.
+pub fn read_text<R: Read>(reader: &mut R, buffer: &mut [u8]) -> Input
+    ensures counts { IsPrefixLen result.size buffer.new }
+    ensures consumes { Consumes (R.remaining reader.old) (R.remaining reader.new) (take result.size buffer.new) }
+    ensures whole { result.error ≡ None → result.size < length buffer.new → IsAtEnd (R.remaining reader.new) }
+    ensures text { result.error ≡ None → IfSome (R.remaining reader.old) (λ text. take result.size buffer.new ≡ take (length buffer.new) text) }
 {
     let mut size = 0;
     while size < buffer.len() {
-        let piece = read_piece(fd, &mut buffer[size..]);
-        if piece.failed || piece.size == 0 {
+        let piece = read_piece(reader, &mut buffer[size..]);
+        if piece.size == 0 {
             return Input {
-                size: size,
-                failed: piece.failed,
+                size,
+                error: piece.error,
             };
         }
         size += piece.size;
     }
-    Input {
-        size: size,
-        failed: false,
-    }
+    Input { size, error: None }
 }
 
 // The first `size` bytes of a buffer, all of it where it has fewer.
@@ -52,4 +61,17 @@ pub fn first(buffer: &[u8], size: usize) -> &[u8]
         return &buffer[..size];
     }
     buffer
+}
+
+// Writes all the bytes, or answers an error, after which some of them may have been written.
+pub fn write_text<W: Write>(output: &mut W, bytes: &[u8]) -> Result<()>
+    ensures { OnOk result (Appends (W.contents output.old) (W.contents output.new) bytes.now) }
+{
+    output.write_all(bytes)?;
+    output.flush()
+}
+
+// Tells an error in a line, after what it kept from being done. Where it cannot be told, nothing is.
+pub fn tell<E: Eprint>(errors: &E, what: &str, error: Error) {
+    let _ = errors.eprintln(format_args!("{what}: {error}"));
 }

@@ -1,58 +1,35 @@
--- `streams::read_text` is safe, ends and counts bytes of the buffer. The loop's invariant: what was read is inside the buffer. The measure is the room that is left: a piece without bytes ends the reading. Assumes nothing.
-use Prim.Native.Nat.{ℕ, ◌+◌, ◌-◌, ◌≤◌, ◌<◌}
-use borrow.Author.Rules.{rules}
-use borrow.Author.Tests.{eqb-false}
-use borrow.Rule.Slice.PartMut.{mid_of, put_mid, same_len_mid, mid_len}
-use lib.ListN.{length}
-use lib.Seq.{length-take-le}
-use mathlib.Core.List.{List}
-use mathlib.Core.Path.{◌≡◌, sym, ◌∙◌}
-use native.Mathlib.Omega.{arith}
+-- What a piece has stands behind what was read before, and an empty piece leaves that as it is.
+use Rattle.std.proofs.Common.{◌≡◌, ℕ, ◌+◌, ◌-◌, ◌≤◌, List, ◌++◌, rules, arith, length, take, slice_range, sym, ap, ◌∙◌, subst, le_refl, drop_at, length-take-le}
+use Rattle.std.proofs.lemmas.Slice.{take-put_mid_below}
+use Rattle.std.specs.Io.KnownBytes.{Consumes}
+use Rattle.std.proofs.KnownBytes.{Consumes-trans}
+use borrow.Rule.Slice.PartMut.{put_mid, post_of}
+use lib.Seq.{take-add, take-append-le}
 use Rattle.streams.proofs.read_text.Goals as goal
 
--- the buffer after a piece was read into it from index a on keeps its length, and the piece has the room that is left
-back : (a : ℕ) (xs ys : List ℕ) → length ys ≡ length (mid_of a (length xs - a) xs) → length (put_mid a (length xs - a) xs ys) ≡ length xs
-back a xs ys e = same_len_mid a (length xs - a) xs ys e
+take_split : (a b : ℕ) (old new : List ℕ) → a ≤ b → take a new ≡ take a old → take a old ++ slice_range new a b ≡ take b new
+take_split a b old new h front =
+    let same : a + (b - a) ≡ b = omega arith in
+    ap (λ l. l ++ slice_range new a b) (sym front) ∙ sym (take-add a (b - a) new) ∙ ap (λ n. take n new) same
 
-room : (a : ℕ) (xs ys : List ℕ) → length ys ≡ length (mid_of a (length xs - a) xs) → length ys ≡ length xs - a
-room a xs ys e = e ∙ mid_len a (length xs) xs (omega arith)
+slice_range-put_mid : (a k n : ℕ) (xs ys : List ℕ) → a ≤ length xs → n ≤ length ys → slice_range (put_mid a k xs ys) a (a + n) ≡ take n ys
+slice_range-put_mid a k n xs ys within fits =
+    let same : (a + n) - a ≡ n = omega arith in
+    let after = post_of a k xs in
+    ap (take ((a + n) - a)) (drop_at (take a xs) (ys ++ after) a (length-take-le a xs within)) ∙ ap (λ m. take m (ys ++ after)) same ∙ take-append-le n ys after fits
 
--- a piece with bytes leaves less room
-shrink : (a r : ℕ) (xs zs : List ℕ) → length zs ≡ length xs → a < length xs → (r ≡ 0 → ⊥) → length zs - (a + r) < length xs - a
-shrink a r xs zs e h n = omega arith
-
-pub shape_of-buffer-then-piece : goal.shape_of-buffer-then-piece
-shape_of-buffer-then-piece c =
-    let l = c.loop-size in
-    back l.size l.buffer c.read_piece-piece.new.1.0 c.read_piece-piece.auto.1.0 ∙ l.invariant.1
-
-pub returns-then-piece : goal.returns-then-piece
-returns-then-piece c =
-    let l = c.loop-size in
-    let h = back l.size l.buffer c.read_piece-piece.new.1.0 c.read_piece-piece.auto.1.0 in
-    (omega (arith, l.invariant), sym (length-take-le _ _ (omega (arith, l.invariant))))
-
-pub overflow_add-size : goal.overflow_add-size
-overflow_add-size c =
-    let l = c.loop-size in
-    let p = c.read_piece-piece in
-    omega (arith, room l.size l.buffer p.new.1.0 p.auto.1.0, p.ensures.0, l.invariant)
-
-pub loop-size-smaller : goal.loop-size-smaller
-loop-size-smaller c =
-    let l = c.loop-size in
-    let p = c.read_piece-piece in
-    shrink l.size p.result.size l.buffer (put_mid l.size (length l.buffer - l.size) l.buffer p.new.1.0) (back l.size l.buffer p.new.1.0 p.auto.1.0) (omega arith) (eqb-false _ _ c.if-piece-eq0.false)
+-- the bytes before a piece of n bytes, and those of the piece
+joined : (a k n : ℕ) (xs ys : List ℕ) → a ≤ length xs → n ≤ length ys → take a xs ++ take n ys ≡ take (a + n) (put_mid a k xs ys)
+joined a k n xs ys within fits =
+    ap (λ l. take a xs ++ l) (sym (slice_range-put_mid a k n xs ys within fits))
+    ∙ take_split a (a + n) xs (put_mid a k xs ys) (omega arith) (take-put_mid_below _ _ _ _ _ (le_refl _) within)
 
 pub loop-size-preserved : goal.loop-size-preserved
-loop-size-preserved c =
+loop-size-preserved g c =
     let l = c.loop-size in
     let p = c.read_piece-piece in
-    let h = back l.size l.buffer p.new.1.0 p.auto.1.0 in
-    (omega (arith, room l.size l.buffer p.new.1.0 p.auto.1.0, p.ensures.0, l.invariant), h ∙ l.invariant.1)
-
-pub shape_of-buffer : goal.shape_of-buffer
-shape_of-buffer c = c.loop-size.invariant.1
-
-pub returns : goal.returns
-returns c = (c.loop-size.invariant.0, sym (length-take-le _ _ c.loop-size.invariant.0))
+    record {
+      same_length = search rules;
+      within = search rules;
+      consumed = subst (Consumes _ _) (joined l.size (length l.buffer - l.size) p.result.size l.buffer p.new.buffer l.invariant.within p.ensures.counts.0) (Consumes-trans _ _ _ _ _ l.invariant.consumed p.ensures.consumes);
+    }

@@ -6,6 +6,6 @@ use native.Mathlib.Omega.{arith}
 use Rattle.verdict_program.proofs.print.Goals as goal
 
 pub write_line-requires : goal.write_line-requires
-write_line-requires c =
+write_line-requires g c =
     let p = c.print_text-line.ensures in
-    (c.first.ensures ∙ puts_whole p.puts (omega (arith, p.few.0)), p.few.1.0, p.few.1.1)
+    (c.first.ensures ∙ puts_whole p.puts (omega (arith, p.few)), p.status.0, p.status.1)

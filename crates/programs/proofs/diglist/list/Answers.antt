@@ -5,6 +5,6 @@ use native.Mathlib.Omega.{arith}
 use Rattle.programs.proofs.diglist.list.Goals as goal
 
 pub write_list-requires : goal.write_list-requires
-write_list-requires c =
+write_list-requires g c =
     let p = c.print_text-page.ensures in
     (c.first.ensures ∙ p.printed.whole (omega arith), p.status.0, p.status.1)

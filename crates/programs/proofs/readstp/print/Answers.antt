@@ -6,6 +6,6 @@ use Rattle.decimal.proofs.Laws.{puts_whole}
 use Rattle.programs.proofs.readstp.print.Goals as goal
 
 pub write_page-requires : goal.write_page-requires
-write_page-requires c =
+write_page-requires g c =
     let p = c.import-page.ensures in
-    (c.first.ensures ∙ puts_whole p.puts (omega (arith, p.few.0)), p.few.1.0, p.few.1.1)
+    (c.first.ensures ∙ puts_whole p.puts (omega (arith, p.few)), p.status.0, p.status.1)
