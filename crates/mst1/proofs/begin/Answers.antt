@@ -30,7 +30,7 @@ returns c lefts rights =
     let v = c.end_at-v.ensures.end in
     let u = c.end_at-u.ensures.end in
     record {
-      left = two-joined _ _ c.match_ends.last.0 c.match_ends-2.last.0 _ _ _ _ _ _ lefts u v c.match_ends.ensures.rows c.match_ends-2.ensures.rows;
-      right = two-joined _ _ c.match_ends-3.last.0 c.match_ends-4.last.0 _ _ _ _ _ _ rights u v c.match_ends-3.ensures.rows c.match_ends-4.ensures.rows;
+      left = two-joined _ _ c.match_ends.new.x c.match_ends-2.new.x _ _ _ _ _ _ lefts u v c.match_ends.ensures.rows c.match_ends-2.ensures.rows;
+      right = two-joined _ _ c.match_ends-3.new.x c.match_ends-4.new.x _ _ _ _ _ _ rights u v c.match_ends-3.ensures.rows c.match_ends-4.ensures.rows;
       one = rw (c.put.ensures, c.empty.ensures);
     }

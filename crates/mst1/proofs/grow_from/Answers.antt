@@ -37,8 +37,8 @@ loop-k-preserved c =
           (cheapest-row _ _ _ rows _ refl c.xor.ensures c.cheapest-i.ensures)
           (omega (arith, c.if-i-eq0.false))
           (⊎_elim
-          (λ w. rw (← c.row_in.ensures, w.0.true) (w.2 ∙ w.1.ensures.0))
-          (λ w. rw (← c.row_in.ensures, w.0.false) (w.2 ∙ w.1.ensures.0))
+          (λ w. rw (← c.row_in.ensures, w.if-row_in.true) (w.far-is ∙ w.end_at-far.ensures.end))
+          (λ w. rw (← c.row_in.ensures, w.if-row_in.false) (w.far-is ∙ w.end_at-far-else-row_in.ensures.end))
           c.if-row_in.branch-raw)
           refl
           refl

@@ -15,10 +15,10 @@ pub returns-then-not-tree : goal.returns-then-not-tree
 unfolding answer_of
 returns-then-not-tree c =
     tree-refused _ c.table_check.ensures c.in_default.is c.tree_of-tree.ensures
-    c.if-not-tree.true
+    (not-true _ c.if-not-tree.true)
 
 pub returns : goal.returns
 unfolding answer_of
 returns c =
-    let (answer, marks) = tree-built _ c.table_check.ensures c.in_default.is c.tree_of-tree.ensures c.if-not-tree.false _ c.weigh.ensures in
+    let (answer, marks) = tree-built _ c.table_check.ensures c.in_default.is c.tree_of-tree.ensures (not-false _ c.if-not-tree.false) _ c.weigh.ensures in
     (answer, c.write_claim.ensures ∙ marks)

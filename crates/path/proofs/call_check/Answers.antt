@@ -9,4 +9,4 @@ use Rattle.path.proofs.call_check.Goals as goal
 pub returns : goal.returns
 returns c =
     rw (refusal-two, c.first.ensures, c.refused_if-source.ensures, c.refused_if.ensures)
-    (⊎_elim (λ w. rw (w.1, eq-eqb _ _ w.0.true)) (λ w. rw (w.1, ne_eqb _ _ w.0.false)) c.if-s-eq0.branch-raw)
+    (⊎_elim (λ w. rw (w.refused_if-is, eq-eqb _ _ w.if-s-eq0.true)) (λ w. rw (w.refused_if-is, ne_eqb _ _ w.if-s-eq0.false)) c.if-s-eq0.branch-raw)

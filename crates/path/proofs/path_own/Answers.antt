@@ -16,4 +16,4 @@ claim_walk-requires c =
 
 pub returns : goal.returns
 returns c =
-    own-walked _ _ _ _ _ c.path_check-checked.ensures c.in let told = -Done.is _ _ c.claim_walk.ensures.answer c.claim_walk.ensures.words in record { answer = told.0; words = told.1 }
+    let told = own-walked _ _ _ _ _ c.path_check-checked.ensures c.in-Done.is _ _ c.claim_walk.ensures.answer c.claim_walk.ensures.words in record { answer = told.0; words = told.1 }

@@ -10,9 +10,15 @@ use Rattle.quote_answer.proofs.of_quoted.Goals as goal
 
 pub returns-in-Totals : goal.returns-in-Totals
 unfolding fields_of quote_fields after_of answer_of
-returns-in-Totals c = rw c.in let told = -Totals.is (refl, refl) in record { first = told.0; after = told.1 }
+returns-in-Totals c = let told = (refl, refl) in record {
+      first = rw c.in-Totals.is told.0;
+      after = rw c.in-Totals.is told.1;
+    }
 
 pub returns-in-Refused : goal.returns-in-Refused
 unfolding quote_fields after_of answer_of from_bits fields
 returns-in-Refused c =
-    rw c.in let told = -Refused.is (c.of_refusal.ensures, refl) in record { first = told.0; after = told.1 }
+    let told = (c.of_refusal.ensures, refl) in record {
+      first = rw c.in-Refused.is told.0;
+      after = rw c.in-Refused.is told.1;
+    }

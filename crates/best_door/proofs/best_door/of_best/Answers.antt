@@ -13,16 +13,25 @@ use Rattle.best_door.proofs.best_door.of_best.Goals as goal
 
 pub returns-in-Stays : goal.returns-in-Stays
 unfolding fields_of best_fields least_of answer_of
-returns-in-Stays c = rw c.in let told = -Stays.is (refl, refl) in record { first = told.0; least = told.1 }
+returns-in-Stays c = let told = (refl, refl) in record {
+      first = rw c.in-Stays.is told.0;
+      least = rw c.in-Stays.is told.1;
+    }
 
 pub returns-in-Saves : goal.returns-in-Saves
 unfolding fields_of best_fields least_of answer_of
 returns-in-Saves c =
     let x = c.in-Saves.x in
     let written : ℤ → Fields = λ a. record { kind = 2; number = 0; out = x.out; into = x.into; only = 0; amount = a } in
-    rw c.in let told = -Saves.is (ap written (natural-bits 63 x.saving (omega arith)), refl) in record { first = told.0; least = told.1 }
+    let told = (ap written (natural-bits 63 x.saving (omega arith)), refl) in record {
+      first = rw c.in-Saves.is told.0;
+      least = rw c.in-Saves.is told.1;
+    }
 
 pub returns-in-Refused : goal.returns-in-Refused
 unfolding best_fields least_of answer_of from_bits fields
 returns-in-Refused c =
-    rw c.in let told = -Refused.is (c.of_refusal.ensures, refl) in record { first = told.0; least = told.1 }
+    let told = (c.of_refusal.ensures, refl) in record {
+      first = rw c.in-Refused.is told.0;
+      least = rw c.in-Refused.is told.1;
+    }
