@@ -12,7 +12,7 @@ unfolding answer_of equal_rows_of refusal_of record_of
 returns-in_default c =
      let told = (refused-own _ c.args.own.now (λ t. c.requires t.few-vertices) _ (ap refusal_of (sym c.in_default.is) ∙ c.path_own-answer.ensures.answer)) in record {
       verdict = rw (c.record_of.ensures, c.in_default.is) told.0;
-      rows = rw (c.record_of.ensures, c.in_default.is) told.1;
+      rows = told.1;
     }
 
 pub judge-requires : goal.judge-requires
