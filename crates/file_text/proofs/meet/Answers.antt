@@ -1,5 +1,4 @@
 -- `file_text::meet` meets its contract: the name was met, it is added, or there is no room. Assumes nothing.
-use borrow.Author.Rules.{rules}
 use lib.ListN.{length-set}
 use native.Mathlib.Omega.{arith}
 use Rattle.file_text.proofs.Meeting.{met-old, met-new, place-old, place-new, within-old, within_new}

@@ -1,11 +1,8 @@
 -- `file_text::put` meets its contract: an empty field is skipped, or one more is stored. Assumes nothing.
-use Prim.Native.Nat.{ℕ, ◌≤◌}
 use borrow.Author.Tests.{eq-eqb, ne_eqb}
 use lib.Dec.{eqb}
-use lib.ListN.{length}
 use mathlib.Core.Bool.{◌&&◌, false}
 use mathlib.Core.Logic.{⊎_elim}
-use mathlib.Core.List.{List}
 use mathlib.Core.Path.{◌≡◌}
 use native.Mathlib.Omega.{arith}
 use Rattle.file_text.proofs.Collects.{put-none, put_one, not-skipped, not-empty}
