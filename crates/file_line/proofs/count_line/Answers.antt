@@ -1,5 +1,4 @@
 -- `file_line::count_line` meets its contract. Assumes nothing.
-use borrow.Author.Rules.{rules}
 use mathlib.Core.Path.{refl, sym, ap, ◌∙◌}
 use native.Mathlib.Omega.{arith}
 use Rattle.stp_words.specs.Answers.{number_in}

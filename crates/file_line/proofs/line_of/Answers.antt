@@ -1,5 +1,4 @@
 -- `file_line::line_of` meets its contract: nothing, a struck trench, the number of junctions, or a trench. Assumes nothing.
-use borrow.Author.Rules.{rules}
 use mathlib.Core.Path.{refl, sym, ◌∙◌}
 use native.Mathlib.Omega.{arith}
 use Rattle.stp_words.specs.Bytes.{bytes}

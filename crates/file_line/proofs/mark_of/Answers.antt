@@ -1,5 +1,4 @@
 -- `file_line::mark_of` meets its contract. Assumes nothing.
-use borrow.Author.Rules.{rules}
 use mathlib.Core.Path.{sym, ap, ◌∙◌}
 use Rattle.stp_words.specs.Answers.{number_in}
 use Rattle.stp_words.specs.Bytes.{bytes}

@@ -1,9 +1,7 @@
 -- `file_line::row` meets its contract: a header, an end, the price or the mark that is none, or a trench. Assumes nothing.
-use borrow.Author.Rules.{rules}
 use borrow.Author.Tests.{not-true, not-false}
 use mathlib.Core.Bool.{not}
 use mathlib.Core.Path.{refl}
-use native.Mathlib.Omega.{arith}
 use Rattle.stp_words.specs.Bytes.{bytes}
 use Rattle.file_text.specs.Steps.Spans.{part}
 use Rattle.file_line.specs.Steps.Seen.{line_in, trench_in, Good}

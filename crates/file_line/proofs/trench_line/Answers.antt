@@ -1,6 +1,5 @@
 -- `file_line::trench_line` meets its contract: too few fields, too many, three, or four. Assumes nothing.
 use Prim.Native.Nat.{◌+◌}
-use borrow.Author.Rules.{rules}
 use mathlib.Core.Path.{refl, ◌∙◌}
 use native.Mathlib.Omega.{arith}
 use Rattle.file_text.specs.Steps.Spans.{part, piece_at}
