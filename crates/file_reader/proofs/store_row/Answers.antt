@@ -6,7 +6,7 @@ pub returns : goal.returns
 returns c =
     record {
       stored = record {
-    lefts = c.IsStore-byte.ensures.0;
+    lefts = c.store_byte.ensures.column_after;
     rights = c.store_byte-2.ensures.column_after;
     weights = c.store_weight.ensures.column_after;
     marks = c.store_byte-3.ensures.column_after;
@@ -14,7 +14,7 @@ returns c =
     places = c.store_place.ensures.column_after;
   };
       sized = record {
-    lefts = c.IsStore-byte.ensures.1;
+    lefts = c.store_byte.ensures.sized;
     rights = c.store_byte-2.ensures.sized;
     weights = c.store_weight.ensures.sized;
     marks = c.store_byte-3.ensures.sized;
