@@ -1,16 +1,13 @@
 -- `file_reader::lay` meets its contract: two kinds, too many rows, too many names, or one row more. Assumes nothing.
-use Prim.Native.Nat.{ℕ, ◌+◌, ◌≤◌, ◌<◌}
-use borrow.Author.Rules.{rules}
-use lib.ListN.{length, take, get_or, set, length-set}
-use lib.Seq.{get_or-set_same, get_or-set_other}
-use mathlib.Core.List.{List}
-use mathlib.Core.Path.{◌≡◌, refl, sym, ap, ◌∙◌}
+use Prim.Native.Nat.{◌+◌}
+use lib.ListN.{take, get_or, length-set}
+use mathlib.Core.Path.{◌≡◌, sym, ap, ◌∙◌}
 use native.Mathlib.Omega.{arith}
 use Rattle.file_text.specs.Steps.Spans.{part, names_of}
-use Rattle.file_spec.specs.Reader.{read, met_end}
-use Rattle.file_line.specs.Steps.Seen.{trench_in, end_in}
+use Rattle.file_spec.specs.Reader.{read}
+use Rattle.file_line.specs.Steps.Seen.{trench_in}
 use Rattle.file_reader.specs.Steps.State.{read_of, resumed}
-use Rattle.file_reader.proofs.Lays.{other-kind, two-kinds, rows-full, left-full, right-full, one_more, left-kept, row_read, kinds, stopped, never, rows-length, numbers_after, met-few, both-many, both-few, both-names, left-number, right-number, both-places}
+use Rattle.file_reader.proofs.Lays.{other-kind, two-kinds, rows-full, left-full, right-full, one_more, row_read, kinds, stopped, never, rows-length, numbers_after, met-few, both-many, both-few, both-names, left-number, right-number, both-places}
 use Rattle.file_reader.proofs.lay.Goals as goal
 
 pub returns-then-both : goal.returns-then-both
@@ -31,8 +28,12 @@ returns-then-a-b c =
     let text = c.args.text.now in
     let t = c.args.t in
     let wl = part text t.left_from t.left_to in
-    let wr = part text t.right_from t.right_to in record { t_value = stopped _ _ _ _ c.broken-then-a-b.ensures
-          (two-kinds _ _ _ (kinds _ (get_or f 0 0) _ _ c.both.ensures (c.kind_of-a.ensures wl)) c.if-both.false (λ e. c.if-a-b.true (c.kind_of-a.ensures wl ∙ e ∙ sym (c.kind_of-b.ensures wr)))); sized = p.sized; sound = λ b. never _ _ _ c.broken-then-a-b.ensures b }
+    let wr = part text t.right_from t.right_to in record {
+      t_value = stopped _ _ _ _ c.broken-then-a-b.ensures
+          (two-kinds _ _ _ (kinds _ (get_or f 0 0) _ _ c.both.ensures (c.kind_of-a.ensures wl)) c.if-both.false (λ e. c.if-a-b.true (c.kind_of-a.ensures wl ∙ e ∙ sym (c.kind_of-b.ensures wr))));
+      sized = p.sized;
+      sound = λ b. never _ _ _ c.broken-then-a-b.ensures b;
+    }
 
 pub returns-then-m-ge1024 : goal.returns-then-m-ge1024
 unfolding read_of trench_in
@@ -42,9 +43,13 @@ returns-then-m-ge1024 c =
     let text = c.args.text.now in
     let t = c.args.t in
     let wl = part text t.left_from t.left_to in
-    let wr = part text t.right_from t.right_to in record { t_value = stopped _ _ _ _ c.broken-then-m-ge1024.ensures
+    let wr = part text t.right_from t.right_to in record {
+      t_value = stopped _ _ _ _ c.broken-then-m-ge1024.ensures
           (rows-full _ _ _ (kinds _ (get_or f 0 0) _ _ c.both.ensures (c.kind_of-a.ensures wl)) c.if-both.false (sym (c.kind_of-a.ensures wl) ∙ c.if-a-b.false ∙ c.kind_of-b.ensures wr)
-          (omega (arith, rows-length (get_or f 2 0) c.args.left.now p.sized.1.lefts p.sound.few-rows, c.if-m-ge1024.true, c.wide-m.ensures))); sized = p.sized; sound = λ b. never _ _ _ c.broken-then-m-ge1024.ensures b }
+          (omega (arith, rows-length (get_or f 2 0) c.args.left.now p.sized.1.lefts p.sound.few-rows, c.if-m-ge1024.true, c.wide-m.ensures)));
+      sized = p.sized;
+      sound = λ b. never _ _ _ c.broken-then-m-ge1024.ensures b;
+    }
 
 pub number_end-x-requires : goal.number_end-x-requires
 number_end-x-requires c =
@@ -60,10 +65,14 @@ returns-then-x-gt255 c =
     let t = c.args.t in
     let wl = part text t.left_from t.left_to in
     let wr = part text t.right_from t.right_to in
-    let m = c.number_end-x.ensures in record { t_value = stopped _ _ _ _ c.broken-then-x-gt255.ensures
+    let m = c.number_end-x.ensures in record {
+      t_value = stopped _ _ _ _ c.broken-then-x-gt255.ensures
           (left-full _ _ _ (kinds _ (get_or f 0 0) _ _ c.both.ensures (c.kind_of-a.ensures wl)) c.if-both.false (sym (c.kind_of-a.ensures wl) ∙ c.if-a-b.false ∙ c.kind_of-b.ensures wr)
           (omega (arith, rows-length (get_or f 2 0) c.args.left.now p.sized.1.lefts p.sound.few-rows, c.if-m-ge1024.false, c.wide-m.ensures))
-          (rw c.wide-n.ensures at (m.end_met.many c.if-x-gt255.true))); sized = (record { numbers = p.sized.0.numbers; starts-sized = m.sized.0; ends-sized = m.sized.1 }, p.sized.1); sound = λ b. never _ _ _ c.broken-then-x-gt255.ensures b }
+          (rw c.wide-n.ensures at (m.end_met.many c.if-x-gt255.true)));
+      sized = (record { numbers = p.sized.0.numbers; starts-sized = m.sized.0; ends-sized = m.sized.1 }, p.sized.1);
+      sound = λ b. never _ _ _ c.broken-then-x-gt255.ensures b;
+    }
 
 pub number_end-y-requires : goal.number_end-y-requires
 number_end-y-requires c =
@@ -81,11 +90,15 @@ returns-then-y-gt255 c =
     let wl = part text t.left_from t.left_to in
     let wr = part text t.right_from t.right_to in
     let m = c.number_end-x.ensures in
-    let o = c.number_end-y.ensures in record { t_value = stopped _ _ _ _ c.broken-then-y-gt255.ensures
+    let o = c.number_end-y.ensures in record {
+      t_value = stopped _ _ _ _ c.broken-then-y-gt255.ensures
           (right-full _ _ _ (kinds _ (get_or f 0 0) _ _ c.both.ensures (c.kind_of-a.ensures wl)) c.if-both.false (sym (c.kind_of-a.ensures wl) ∙ c.if-a-b.false ∙ c.kind_of-b.ensures wr)
           (omega (arith, rows-length (get_or f 2 0) c.args.left.now p.sized.1.lefts p.sound.few-rows, c.if-m-ge1024.false, c.wide-m.ensures))
           (rw (ap (names_of text c.args.starts.now c.args.ends.now) c.wide-n.ensures) at (met-few _ _ _ _ _ _ _ _ m.end_met c.if-x-gt255.false))
-          (both-many _ _ _ _ _ _ _ _ _ _ _ _ _ _ _ _ (ap (names_of text c.args.starts.now c.args.ends.now) c.wide-n.ensures) (ap (λ n. take n c.args.starts.now) c.wide-n.ensures) m.end_met c.if-x-gt255.false o.end_met c.if-y-gt255.true)); sized = (record { numbers = p.sized.0.numbers; starts-sized = o.sized.0; ends-sized = o.sized.1 }, p.sized.1); sound = λ b. never _ _ _ c.broken-then-y-gt255.ensures b }
+          (both-many _ _ _ _ _ _ _ _ _ _ _ _ _ _ _ _ (ap (names_of text c.args.starts.now c.args.ends.now) c.wide-n.ensures) (ap (λ n. take n c.args.starts.now) c.wide-n.ensures) m.end_met c.if-x-gt255.false o.end_met c.if-y-gt255.true));
+      sized = (record { numbers = p.sized.0.numbers; starts-sized = o.sized.0; ends-sized = o.sized.1 }, p.sized.1);
+      sound = λ b. never _ _ _ c.broken-then-y-gt255.ensures b;
+    }
 
 pub row_of-row-requires : goal.row_of-row-requires
 row_of-row-requires c = (c.if-x-gt255.false, c.if-y-gt255.false, omega (arith, c.requires.text_len_bound.1.mark-small))
@@ -119,7 +132,8 @@ returns c =
     let g = c.if-y-gt255.false in
     let z = numbers_after f c.kind_of-a.result c.narrow.result c.narrow-2.result p.sized.0.numbers in
     let n : c.narrow.result ≡ c.number_end-y.result.count = c.narrow.ensures in
-    let k : c.narrow-2.result ≡ c.wide-m.result + 1 = c.narrow-2.ensures in record { t_value = one_more _ _ _ (kinds _ (get_or f 0 0) _ _ c.both.ensures (c.kind_of-a.ensures wl)) c.if-both.false (sym (c.kind_of-a.ensures wl) ∙ c.if-a-b.false ∙ c.kind_of-b.ensures wr)
+    let k : c.narrow-2.result ≡ c.wide-m.result + 1 = c.narrow-2.ensures in record {
+      t_value = one_more _ _ _ (kinds _ (get_or f 0 0) _ _ c.both.ensures (c.kind_of-a.ensures wl)) c.if-both.false (sym (c.kind_of-a.ensures wl) ∙ c.if-a-b.false ∙ c.kind_of-b.ensures wr)
           (omega (arith, rows-length (get_or f 2 0) c.args.left.now p.sized.1.lefts p.sound.few-rows, c.if-m-ge1024.false, c.wide-m.ensures))
           (rw (ap (names_of text c.args.starts.now c.args.ends.now) c.wide-n.ensures) at (met-few _ _ _ _ _ _ _ _ m.end_met c.if-x-gt255.false))
           (both-few _ _ _ _ _ _ _ _ _ _ _ _ _ _ _ _ (ap (names_of text c.args.starts.now c.args.ends.now) c.wide-n.ensures) (ap (λ n. take n c.args.starts.now) c.wide-n.ensures) m.end_met c.if-x-gt255.false o.end_met g)
@@ -134,9 +148,12 @@ returns c =
           (w.2 ∙ c.bits_of.ensures)
           w.3
           w.4
-          w.5)); sized = (record { numbers = simp length-set p.sized.0.numbers; starts-sized = o.sized.0; ends-sized = o.sized.1 }, c.store_row.ensures.sized); sound = λ b.
-            record {
-              few-names = rw (z.0, n) (o.end_met.few g);
-              few-rows = rw (z.1, k) (omega (arith, c.if-m-ge1024.false));
-              kept = rw (z.0, n) (o.end_met.kept g);
-            } }
+          w.5));
+      sized = (record { numbers = simp length-set p.sized.0.numbers; starts-sized = o.sized.0; ends-sized = o.sized.1 }, c.store_row.ensures.sized);
+      sound = λ b.
+          record {
+            few-names = rw (z.0, n) (o.end_met.few g);
+            few-rows = rw (z.1, k) (omega (arith, c.if-m-ge1024.false));
+            kept = rw (z.0, n) (o.end_met.kept g);
+          };
+    }

@@ -1,6 +1,4 @@
 -- `file_reader::number_end` meets its contract: a number, a name without room, or a name. Assumes nothing.
-use borrow.Author.Rules.{rules}
-use borrow.Author.Tests.{not-false}
 use native.Mathlib.Omega.{arith}
 use Rattle.file_reader.proofs.Ends.{kept-number, no_room, met-name, below}
 use Rattle.file_reader.proofs.number_end.Goals as goal

@@ -1,5 +1,4 @@
 -- `file_reader::take_line` meets its contract, by what the line says. Assumes nothing.
-use borrow.Author.Rules.{rules}
 use lib.ListN.{length-set}
 use mathlib.Core.Path.{◌∙◌}
 use Rattle.file_reader.proofs.Lays.{stopped, never}
