@@ -1,19 +1,19 @@
 -- Laws of the fields of a line. Assumes nothing.
-use Prim.Native.Nat.{ℕ, zero, suc, ◌+◌, ◌-◌, ◌≤◌, ◌<◌}
+use Prim.Native.Nat.{ℕ, zero, suc, ◌+◌, ◌≤◌, ◌<◌}
 use lib.ListN.{length, get_or, drop, length-drop, drop_of_length-le}
 use lib.Seq.{drop-cons}
-use mathlib.Core.Bool.{Bool, true, false, cond}
+use mathlib.Core.Bool.{Bool, true, false}
 use mathlib.Core.List.{List, [], ◌∷◌}
-use mathlib.Core.Option.{Option, none, some}
+use mathlib.Core.Option.{Option, some}
 use mathlib.Core.Path.{◌≡◌, refl, sym, ap, ◌∙◌}
 use native.Mathlib.Numerals.{add-one}
 use native.Mathlib.Omega.{arith}
 use Rattle.stp_words.specs.Bytes.{bytes}
 use Rattle.stp_words.specs.Names.{same}
 use Rattle.stp_words.specs.Numbers.{number_of}
-use Rattle.file_spec.specs.Pieces.{Piece, fields}
+use Rattle.file_spec.specs.Pieces.{Piece}
 use Rattle.file_text.specs.Steps.Spans.{part, piece_at, FieldsRead}
-use Rattle.file_spec.specs.Line.{Line, nothing, counting, wrong, not_trench, not_count, says, row, fielded, counted, count, said, line_of, mark_of}
+use Rattle.file_spec.specs.Line.{nothing, wrong, not_trench, not_count, says, row, fielded, counted, count, said, mark_of}
 use Rattle.file_line.specs.Steps.Seen.{Lies}
 
 pub lies : (text : List ℕ) (fs : List Piece) (n : ℕ) (from to : List ℕ) → FieldsRead text fs n from to → Lies text n from to

@@ -1,21 +1,18 @@
 -- Laws of marks and rows. Assumes nothing.
 use Prim.Native.Nat.{ℕ, ◌≤◌, ◌<◌}
 use borrow.Author.Tests.{le-leb, lt-leb}
-use lib.Dec.{eqb, leb}
 use lib.IntN.{ℤ}
-use lib.ListN.{length, get_or}
 use mathlib.Core.Bool.{Bool, true, false, not, cond, ◌&&◌, ◌||◌}
-use mathlib.Core.List.{List, [], ◌∷◌}
-use mathlib.Core.Option.{Option, none, some}
-use mathlib.Core.Path.{◌≡◌, refl, sym, ap, ◌∙◌}
+use mathlib.Core.List.{List}
+use mathlib.Core.Option.{none, some}
+use mathlib.Core.Path.{◌≡◌, sym, ◌∙◌}
 use native.Mathlib.Omega.{arith}
 use Rattle.stp_words.specs.Bytes.{bytes}
 use Rattle.stp_words.specs.Names.{same}
 use Rattle.stp_words.specs.Numbers.{number_of, price_of}
-use Rattle.file_spec.specs.Pieces.{Piece}
 use Rattle.file_text.specs.Steps.Spans.{part, piece_at}
-use Rattle.file_spec.specs.Line.{End, Line, nothing, trench, wrong, not_junction, not_price, not_mark, says, end_of, digit_mark, mark_of, marked, whole, row}
-use Rattle.file_line.specs.Steps.Seen.{end_in, end_seen, mark_seen, amount_in, money_seen, trench_in, line_in}
+use Rattle.file_spec.specs.Line.{End, nothing, trench, wrong, not_junction, not_price, not_mark, says, end_of, digit_mark, mark_of, marked, whole, row}
+use Rattle.file_line.specs.Steps.Seen.{end_in, end_seen, mark_seen, amount_in, money_seen}
 use Rattle.file_line.specs.declared.Money.{Money}
 
 -- a mark by its word

@@ -1,23 +1,22 @@
 -- Laws of the number of an end. Assumes nothing.
-use Prim.Native.Nat.{ℕ, suc, ◌+◌, ◌≤◌, ◌<◌, max}
+use Prim.Native.Nat.{ℕ, ◌+◌, ◌≤◌, ◌<◌, max}
 use borrow.Author.Tests.{ne_eqb, le-ltb, ltb-true, ltb-false}
-use lib.Dec.{eqb, ltb}
+use lib.Dec.{ltb}
 use lib.ListN.{length, take, set, length-append}
 use lib.Seq.{take-suc-set}
-use mathlib.Core.Bool.{Bool, true, false, cond}
+use mathlib.Core.Bool.{Bool, true, false}
 use mathlib.Core.List.{List, [], ◌∷◌, ◌++◌}
-use mathlib.Core.Path.{◌≡◌, refl, sym, ap, ◌∙◌}
+use mathlib.Core.Path.{◌≡◌, refl}
 use native.Mathlib.Numerals.{add-one}
 use native.Mathlib.Omega.{arith}
 use Rattle.file_spec.specs.Names.{position, met, met_at}
-use Rattle.file_text.specs.Steps.Spans.{part, names_from, names_of, Within}
+use Rattle.file_text.specs.Steps.Spans.{names_of, Within}
 use Rattle.file_text.proofs.Found.{names-length}
 use Rattle.file_text.proofs.Meeting.{position-met}
-use Rattle.file_spec.specs.Line.{End, number, name}
-use Rattle.file_spec.specs.Reader.{kind_of, met_end, met_end_at, number_in}
+use Rattle.file_spec.specs.Line.{number, name}
+use Rattle.file_spec.specs.Reader.{met_end, met_end_at, number_in}
 use Rattle.file_line.specs.Steps.Seen.{end_in}
 use Rattle.file_reader.specs.Steps.State.{EndMet}
-use Rattle.file_reader.specs.declared.Met.{Met}
 
 pub end-number : (w : List ℕ) (v : ℕ) → (v ≡ 0 → ⊥) → end_in w v ≡ number v
 unfolding end_in

@@ -1,11 +1,11 @@
 -- Laws of one trench more. Assumes nothing.
 use Prim.Native.Nat.{ℕ, zero, suc, ◌+◌, ◌-◌, ◌*◌, ◌/◌, ◌%◌, ◌≤◌, ◌<◌}
 use borrow.Author.Tests.{eq-eqb, ne_eqb, le-leb, lt-leb, lt-ltb, le-ltb, ltb-true}
-use lib.Dec.{eqb, leb, ltb}
+use lib.Dec.{eqb, ltb}
 use lib.ListN.{length, take, drop, set, get_or, length-append}
 use lib.Seq.{sets, sets-eq, length-take-le, take_at}
 use mathlib.Core.Bool.{Bool, true, false, not, cond, ◌&&◌, true≢false}
-use mathlib.Core.List.{List, [], ◌∷◌, ◌++◌, map, map-append}
+use mathlib.Core.List.{List, [], ◌∷◌, ◌++◌, map-append}
 use mathlib.Core.Path.{◌≡◌, refl, sym, ap, ◌∙◌}
 use native.Mathlib.Omega.{arith}
 use Rattle.rowset.specs.Integers.{to_bits}
@@ -17,7 +17,7 @@ use Rattle.file_spec.specs.Line.{End, number, name, Trench, mixed, many_names, m
 use Rattle.file_spec.specs.Reader.{Read, Reading, broken, read, kind_of, met_end, number_in, met_end_at, with_row, names_after, names_at_after, other_kind, laid}
 use Rattle.stp_words.specs.Numbers.{below}
 use Rattle.file_line.specs.Steps.Seen.{amount_in}
-use Rattle.file_reader.specs.Steps.State.{is_one, told_of, read_of, Stored, EndMet}
+use Rattle.file_reader.specs.Steps.State.{is_one, read_of, Stored, EndMet}
 use Rattle.file_reader.specs.Steps.State.{resumed}
 use Rattle.file_reader.specs.declared.Met.{Met}
 use Rattle.file_reader.specs.declared.Row.{Row}

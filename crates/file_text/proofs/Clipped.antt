@@ -1,5 +1,5 @@
 -- Parts of a text that reach past its end, or begin there. Assumes nothing.
-use Prim.Native.Nat.{ℕ, ◌-◌, ◌≤◌, ◌<◌, min}
+use Prim.Native.Nat.{ℕ, ◌-◌, ◌<◌, min}
 use borrow.Author.Tests.{leb-true, leb-false}
 use lib.Dec.{leb}
 use lib.ListN.{length, take, drop, length-drop}
@@ -8,7 +8,7 @@ use mathlib.Core.Bool.{Bool, true, false}
 use mathlib.Core.List.{List, []}
 use mathlib.Core.Path.{◌≡◌, refl, sym, ap, ◌∙◌, subst}
 use native.Mathlib.Omega.{arith}
-use Rattle.file_spec.specs.Pieces.{Piece, fields, fields_by, content, trimmed, before, back_trimmed, front_trimmed, separator, holds, parted, pieces, field, unquoted, opens_quote, full, unless, is_empty, end_trimmed}
+use Rattle.file_spec.specs.Pieces.{fields, fields_by, content, trimmed, before, back_trimmed, front_trimmed, separator, holds, parted, pieces, field, unquoted, opens_quote, full, unless, is_empty, end_trimmed}
 use Rattle.file_text.specs.Steps.Spans.{part, piece_at, FieldsRead}
 use Rattle.file_text.proofs.Parts.{part-empty}
 

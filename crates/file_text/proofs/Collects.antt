@@ -1,16 +1,15 @@
 -- Laws of the fields collected so far: one more, and the empty ones at the end. Assumes nothing.
-use Prim.Native.Nat.{ℕ, zero, suc, ◌+◌, ◌-◌, ◌≤◌, ◌<◌}
-use borrow.Author.Tests.{eqb-true, eqb-false, ltb-true, ltb-false, eq-eqb, ne_eqb}
+use Prim.Native.Nat.{ℕ, zero, suc, ◌+◌, ◌≤◌, ◌<◌}
+use borrow.Author.Tests.{eqb-true, eqb-false, ltb-true, ltb-false}
 use lib.Dec.{eqb, ltb}
 use lib.ListN.{length, get_or, set, length-append, length-set, get_or-append}
-use lib.Seq.{get_or-set_same, get_or-set_other, get_or_at, set_out}
+use lib.Seq.{get_or-set_same, get_or-set_other, get_or_at}
 use mathlib.Core.Bool.{Bool, true, false, cond, ◌&&◌, true≢false}
-use mathlib.Core.List.{List, [], ◌∷◌, ◌++◌, map, append-nil, append_assoc}
+use mathlib.Core.List.{List, [], ◌∷◌, ◌++◌, append-nil}
 use mathlib.Core.Path.{◌≡◌, refl, sym, ap, ◌∙◌}
-use native.Mathlib.Numerals.{add-one}
 use native.Mathlib.Omega.{arith}
 use Rattle.file_text.specs.Steps.Collected.{Collected, added, nowhere}
-use Rattle.file_spec.specs.Pieces.{Piece, is_empty, unless, full, keep_field, end_trimmed}
+use Rattle.file_spec.specs.Pieces.{Piece, is_empty, unless, keep_field, end_trimmed}
 use Rattle.file_text.specs.Steps.Spans.{part, piece_at}
 use Rattle.file_text.specs.declared.Fields.{Fields}
 use Rattle.file_text.proofs.Parts.{part-empty, part-cons}

@@ -1,14 +1,14 @@
 -- One turn of the loop that collects the fields of a line, and its ends. Assumes nothing.
-use Prim.Native.Nat.{ℕ, suc, ◌+◌, ◌-◌, ◌≤◌, ◌<◌}
+use Prim.Native.Nat.{ℕ, ◌+◌, ◌≤◌}
 use borrow.Author.Tests.{ltb-true, ltb-false}
 use lib.Dec.{eqb, ltb}
-use lib.ListN.{length, get_or}
+use lib.ListN.{length}
 use mathlib.Core.Bool.{Bool, true, false, cond, ◌&&◌}
 use mathlib.Core.List.{List, [], ◌∷◌, ◌++◌, map, append-nil, append_assoc}
 use mathlib.Core.Path.{◌≡◌, refl, sym, ap, ◌∙◌}
 use native.Mathlib.Omega.{arith}
-use Rattle.file_text.specs.Steps.Collected.{Collected, added, nowhere}
-use Rattle.file_spec.specs.Pieces.{Piece, is_byte, first_at, pieces, is_empty, unless, full, keep_field, end_trimmed, field, parted, fields_by, fields, content, separator}
+use Rattle.file_text.specs.Steps.Collected.{Collected, added}
+use Rattle.file_spec.specs.Pieces.{Piece, is_byte, first_at, pieces, is_empty, unless, full, field, parted, fields_by, fields, content, separator}
 use Rattle.file_text.specs.Steps.Spans.{part, piece_at, FieldsRead}
 use Rattle.file_text.specs.declared.Fields.{Fields}
 use Rattle.file_text.proofs.Collects.{end-front}

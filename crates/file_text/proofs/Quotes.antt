@@ -1,16 +1,15 @@
 -- Laws of the quotes around a part. Assumes nothing.
-use Prim.Native.Nat.{ℕ, zero, suc, ◌+◌, ◌-◌, ◌≤◌, ◌<◌}
+use Prim.Native.Nat.{ℕ, suc, ◌+◌, ◌-◌, ◌≤◌, ◌<◌}
 use borrow.Author.Tests.{eq-eqb, ne_eqb}
 use lib.Dec.{eqb}
 use lib.ListN.{length, get_or, drop}
-use mathlib.Core.Bool.{Bool, true, false, cond, ◌&&◌}
+use mathlib.Core.Bool.{Bool, true, false, ◌&&◌}
 use mathlib.Core.List.{List, [], ◌∷◌, ◌++◌}
 use mathlib.Core.Path.{◌≡◌, refl, sym, ap, ◌∙◌}
-use native.Mathlib.Numerals.{add-one}
 use native.Mathlib.Omega.{arith}
 use Rattle.file_spec.specs.Pieces.{Piece, unclosed, closes, opens_quote, unquoted, trimmed, field}
 use Rattle.file_text.specs.Steps.Spans.{part, piece_at}
-use Rattle.file_text.proofs.Parts.{part-empty, part-cons, part-snoc, part_length}
+use Rattle.file_text.proofs.Parts.{part-cons, part-snoc, part_length}
 
 pub closes-last : (l : List ℕ) (b : ℕ) → closes (l ++ (b ∷ [])) ≡ eqb b 34
 unfolding closes

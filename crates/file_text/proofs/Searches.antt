@@ -5,11 +5,10 @@ use lib.Dec.{eqb, ltb}
 use lib.ListN.{length, take, drop}
 use lib.Seq.{take-take, take-nil, drop-drop}
 use mathlib.Core.Bool.{Bool, true, false, cond, ◌||◌}
-use mathlib.Core.List.{List, [], ◌∷◌, ◌++◌}
+use mathlib.Core.List.{List, [], ◌∷◌}
 use mathlib.Core.Path.{◌≡◌, refl, sym, ap, ◌∙◌}
-use native.Mathlib.Numerals.{add-one}
 use native.Mathlib.Omega.{arith}
-use Rattle.file_spec.specs.Pieces.{Piece, is_byte, first_at, before, holds, grow, cut, pieces, separator, trimmed, content}
+use Rattle.file_spec.specs.Pieces.{Piece, is_byte, first_at, before, holds, grow, cut, pieces, trimmed, content}
 use Rattle.file_text.specs.Steps.Spans.{part, piece_at}
 use Rattle.file_text.proofs.Parts.{part_length}
 

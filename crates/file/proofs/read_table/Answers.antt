@@ -17,18 +17,12 @@ returns-then-wrong_sizes c =
 
 pub read_text-s-requires : goal.read_text-s-requires
 read_text-s-requires c =
-     let told = (
-  nothing_yet _ _ _ _ _ _ _ _ _ _ refl refl refl refl,
-  (
-    (record { numbers = refl; starts-sized = refl; ends-sized = refl }, record { lefts = refl; rights = refl; weights = refl; marks = refl; strucks = refl; places = refl }),
-    record { few-names = omega arith; few-rows = omega arith; kept = record { order = λ k h. absurd (omega arith); high = λ k h. absurd (omega arith) } },
-  ),
-) in record { rows_value = told.0; sized = told.1; sound = told.2 }
+     record { rows_value = nothing_yet _ _ _ _ _ _ _ _ _ _ refl refl refl refl; sized = (record { numbers = refl; starts-sized = refl; ends-sized = refl }, record { lefts = refl; rights = refl; weights = refl; marks = refl; strucks = refl; places = refl }); sound = record { few-names = omega arith; few-rows = omega arith; kept = record { order = λ k h. absurd (omega arith); high = λ k h. absurd (omega arith) } } }
 
 pub settle-requires : goal.settle-requires
 unfolding wrong_lent
 settle-requires c =
-    let r = c.read_text-s.ensures in let told = (r.sized.0, (λ b. let o = r.sized.1 b in (o.few-names, o.few-rows), fitting _ (sym c.wrong_sizes.ensures ∙ c.if-wrong_sizes.false))) in record { sized = told.0; few = told.1; lent = told.2 }
+    let r = c.read_text-s.ensures in record { sized = r.sized.0; few = λ b. let o = r.sized.1 b in (o.few-names, o.few-rows); lent = fitting _ (sym c.wrong_sizes.ensures ∙ c.if-wrong_sizes.false) }
 
 pub returns : goal.returns
 unfolding wrong_lent

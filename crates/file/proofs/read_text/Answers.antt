@@ -12,11 +12,11 @@ use Rattle.file.proofs.read_text.Goals as goal
 
 pub returns-then-text-gt-MAX_TEXT : goal.returns-then-text-gt-MAX_TEXT
 returns-then-text-gt-MAX_TEXT c =
-    let p = c.requires in let told = (too_long _ c.if-text-gt-MAX_TEXT.true ∙ told-broken _ _ c.too_long.ensures, (p.sized.0, λ b. never-read _ c.too_long.ensures b)) in record { text_value = told.0; sized = told.1; sound = told.2 }
+    let p = c.requires in record { text_value = too_long _ c.if-text-gt-MAX_TEXT.true ∙ told-broken _ _ c.too_long.ensures; sized = p.sized.0; sound = λ b. never-read _ c.too_long.ensures b }
 
 pub read_lines-requires : goal.read_lines-requires
 read_lines-requires c =
-    let p = c.requires in let told = ((c.if-text-gt-MAX_TEXT.false, c.body_at-from.ensures.1), (p.sized.0, p.sized.1)) in record { text_len_bound = told.0; sized = told.1; sound = told.2 }
+    let p = c.requires in record { text_len_bound = (c.if-text-gt-MAX_TEXT.false, c.body_at-from.ensures.1); sized = p.sized.0; sound = p.sized.1 }
 
 pub returns : goal.returns
 returns c =

@@ -4,4 +4,4 @@ use Rattle.file.proofs.store_places.Goals as goal
 
 pub returns : goal.returns
 returns c =
-     let told = (c.fill_numbers.ensures, (c.fill_numbers-2.ensures, c.fill_numbers-3.ensures)) in record { first = told.0; last = told.1; lines = told.2 }
+     record { first = c.fill_numbers.ensures; last = c.fill_numbers-2.ensures; lines = c.fill_numbers-3.ensures }

@@ -4,4 +4,4 @@ use Rattle.file.proofs.store_rows.Goals as goal
 
 pub returns : goal.returns
 returns c =
-     let told = (c.fill.ensures, (c.fill-2.ensures, (c.fill-3.ensures, c.fill-4.ensures))) in record { ends = told.0; others = told.1; prices = told.2; marked = told.3 }
+     record { ends = c.fill.ensures; others = c.fill-2.ensures; prices = c.fill-3.ensures; marked = c.fill-4.ensures }

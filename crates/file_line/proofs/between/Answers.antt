@@ -1,4 +1,3 @@
-use borrow.Author.Rules.{rules}
 use Rattle.stp_words.specs.Bytes.{within}
 use Rattle.file_line.proofs.between.Goals as goal
 

@@ -1,5 +1,4 @@
 -- `file_line::count_line` meets its contract. Assumes nothing.
-use borrow.Author.Rules.{rules}
 use mathlib.Core.Path.{refl, sym, ap, ◌∙◌}
 use native.Mathlib.Omega.{arith}
 use Rattle.stp_words.specs.Answers.{number_in}
@@ -18,7 +17,7 @@ returns-then-x-ne2 c =
     }
 
 pub slice_bounds-number_of-count : goal.slice_bounds-number_of-count
-slice_bounds-number_of-count c = omega (arith, start (goal.at.slice_bounds-number_of-count c).After-t-1)
+slice_bounds-number_of-count c = omega (arith, c.requires.order 1 (omega arith) (omega arith))
 
 pub slice_bounds-number_of-start : goal.slice_bounds-number_of-start
 slice_bounds-number_of-start c = c.requires.order 1 (omega arith) (omega arith)
@@ -30,7 +29,7 @@ pub returns-in-Value : goal.returns-in-Value
 unfolding line_in Good counted number_in part
 returns-in-Value c =
     record {
-      result_value = λ fs r. count-one _ fs _ _ _ r _ c.if-x-ne2.false _ (sym (ap number_in c.in-Value.is) ∙ c.number_of_lem.ensures);
+      result_value = λ fs r. count-one _ fs _ _ _ r _ c.if-x-ne2.false _ (sym (ap number_in c.in-Value.is) ∙ c.number_of-n.ensures);
       good = refl;
     }
 
@@ -38,6 +37,6 @@ pub returns-in-Missing : goal.returns-in-Missing
 unfolding line_in Good counted number_in part
 returns-in-Missing c =
     record {
-      result_value = λ fs r. count-one _ fs _ _ _ r _ c.if-x-ne2.false _ (sym (ap number_in c.in-Missing.is) ∙ c.number_of_lem.ensures);
+      result_value = λ fs r. count-one _ fs _ _ _ r _ c.if-x-ne2.false _ (sym (ap number_in c.in-Missing.is) ∙ c.number_of-n.ensures);
       good = refl;
     }

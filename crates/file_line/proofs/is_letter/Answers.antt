@@ -1,5 +1,4 @@
 -- `file_line::is_letter` meets its contract. Assumes nothing.
-use borrow.Author.Rules.{rules}
 use Rattle.file_line.proofs.Naming.{letter-made}
 use Rattle.file_line.proofs.is_letter.Goals as goal
 

@@ -1,5 +1,4 @@
 -- `file_line::line_of` meets its contract: nothing, a struck trench, the number of junctions, or a trench. Assumes nothing.
-use borrow.Author.Rules.{rules}
 use mathlib.Core.Path.{refl, sym, ◌∙◌}
 use native.Mathlib.Omega.{arith}
 use Rattle.stp_words.specs.Bytes.{bytes}
@@ -9,17 +8,23 @@ use Rattle.file_line.specs.Steps.Seen.{line_in, Good}
 use Rattle.file_line.proofs.Lined.{lies, positive, said-none, said-struck, said-count, said_plain}
 use Rattle.file_line.proofs.line_of.Goals as goal
 
-start : tie.Need-slice-bounds-same-start
-start c = c.before.before.before.before.fields-of.ensures.order 0 (positive _ c.before.before.if1.false) (omega arith)
+pub slice_bounds-same-count : goal.slice_bounds-same-count
+slice_bounds-same-count c = omega (arith, c.fields_of-x.ensures.order 0 (positive _ c.if-x-eq0.false) (omega arith))
 
-end : tie.Need-slice-bounds-same-end
-end c = c.before.before.before.before.fields-of.ensures.high 0 (positive _ c.before.before.if1.false) (omega arith)
+pub slice_bounds-same-start : goal.slice_bounds-same-start
+slice_bounds-same-start c = c.fields_of-x.ensures.order 0 (positive _ c.if-x-eq0.false) (omega arith)
 
-start-2 : tie.Need-slice-bounds-same-start-2
-start-2 c = c.before.before.before.before.before.before.before.before.fields-of.ensures.order 0 (positive _ c.before.before.before.before.before.before.if1.false) (omega arith)
+pub slice_bounds-same-end : goal.slice_bounds-same-end
+slice_bounds-same-end c = c.fields_of-x.ensures.high 0 (positive _ c.if-x-eq0.false) (omega arith)
 
-end-2 : tie.Need-slice-bounds-same-end-2
-end-2 c = c.before.before.before.before.before.before.before.before.fields-of.ensures.high 0 (positive _ c.before.before.before.before.before.before.if1.false) (omega arith)
+pub slice_bounds-same-count-2 : goal.slice_bounds-same-count-2
+slice_bounds-same-count-2 c = omega (arith, c.fields_of-x.ensures.order 0 (positive _ c.if-x-eq0.false) (omega arith))
+
+pub slice_bounds-same-start-2 : goal.slice_bounds-same-start-2
+slice_bounds-same-start-2 c = c.fields_of-x.ensures.order 0 (positive _ c.if-x-eq0.false) (omega arith)
+
+pub slice_bounds-same-end-3 : goal.slice_bounds-same-end-3
+slice_bounds-same-end-3 c = c.fields_of-x.ensures.high 0 (positive _ c.if-x-eq0.false) (omega arith)
 
 pub returns-then-x-eq0 : goal.returns-then-x-eq0
 unfolding line_in line_of Good

@@ -1,5 +1,4 @@
 -- `file_line::mark_of` meets its contract. Assumes nothing.
-use borrow.Author.Rules.{rules}
 use mathlib.Core.Path.{sym, ap, ◌∙◌}
 use Rattle.stp_words.specs.Answers.{number_in}
 use Rattle.stp_words.specs.Bytes.{bytes}
@@ -13,7 +12,7 @@ unfolding mark_of number_in
 returns-in-Value c =
     λ at.
     let f : Piece = record { at = at; letters = c.args.w.now } in
-    c.mark_number.ensures f ∙ ap (λ n. digit_mark n f) (sym (ap number_in c.in-Value.is) ∙ c.number_of_lem.ensures)
+    c.mark_number.ensures f ∙ ap (λ n. digit_mark n f) (sym (ap number_in c.in-Value.is) ∙ c.number_of-n.ensures)
 
 pub returns-in-Missing : goal.returns-in-Missing
 unfolding number_in bytes
@@ -23,4 +22,4 @@ returns-in-Missing c =
     c.either-one.ensures
     c.either-zero.ensures
     c.mark_word.ensures
-    (sym (ap number_in c.in-Missing.is) ∙ c.number_of_lem.ensures)
+    (sym (ap number_in c.in-Missing.is) ∙ c.number_of-n.ensures)

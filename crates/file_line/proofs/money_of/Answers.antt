@@ -1,5 +1,4 @@
 -- `file_line::money_of` meets its contract. Assumes nothing.
-use borrow.Author.Rules.{rules}
 use mathlib.Core.Path.{sym, ap, ◌∙◌}
 use Rattle.stp_words.specs.Answers.{price_in}
 use Rattle.file_line.specs.Steps.Seen.{money_seen, amount_in}

@@ -1,5 +1,4 @@
 -- `file_line::of_names` meets its contract. Assumes nothing.
-use borrow.Author.Rules.{rules}
 use Rattle.file_line.proofs.Naming.{names-made}
 use Rattle.file_line.proofs.of_names.Goals as goal
 

@@ -1,9 +1,7 @@
 -- `file_line::row` meets its contract: a header, an end, the price or the mark that is none, or a trench. Assumes nothing.
-use borrow.Author.Rules.{rules}
 use borrow.Author.Tests.{not-true, not-false}
 use mathlib.Core.Bool.{not}
 use mathlib.Core.Path.{refl}
-use native.Mathlib.Omega.{arith}
 use Rattle.stp_words.specs.Bytes.{bytes}
 use Rattle.file_text.specs.Steps.Spans.{part}
 use Rattle.file_line.specs.Steps.Seen.{line_in, trench_in, Good}
@@ -41,7 +39,7 @@ returns-then-not-p c =
     let a = c.args in record {
       result_value = no-price _ a.struck _ _ _ _ _ _ _ _ _ _ (and_right (not a.struck) c.both.ensures c.same.ensures) c.if-both.false _ (end-some _ _ c.end_of-x.ensures c.if-x-gt255.false)
           _ (end-some _ _ c.end_of-y.ensures c.if-y-gt255.false)
-          (money-none _ _ c.money_of-p.ensures c.if-not-p.true);
+          (money-none _ _ c.money_of-p.ensures (not-true _ c.if-not-p.true));
       good = refl;
     }
 
@@ -51,7 +49,7 @@ returns-then-mark-gt1 c =
     let a = c.args in record {
       result_value = no-mark _ a.struck _ _ _ _ _ _ _ a.mark _ _ (and_right (not a.struck) c.both.ensures c.same.ensures) c.if-both.false _ (end-some _ _ c.end_of-x.ensures c.if-x-gt255.false)
           _ (end-some _ _ c.end_of-y.ensures c.if-y-gt255.false)
-          _ (money-some _ _ c.money_of-p.ensures c.if-not-p.false)
+          _ (money-some _ _ c.money_of-p.ensures (not-false _ c.if-not-p.false))
           c.if-mark-gt1.true;
       good = refl;
     }
@@ -62,8 +60,8 @@ returns c =
     let a = c.args in record {
       result_value = laid _ a.struck _ _ _ _ _ _ _ a.mark _ _ (and_right (not a.struck) c.both.ensures c.same.ensures) c.if-both.false _ (end-some _ _ c.end_of-x.ensures c.if-x-gt255.false)
           _ (end-some _ _ c.end_of-y.ensures c.if-y-gt255.false)
-          _ (money-some _ _ c.money_of-p.ensures c.if-not-p.false)
+          _ (money-some _ _ c.money_of-p.ensures (not-false _ c.if-not-p.false))
           c.if-mark-gt1.false
           _ c.mark_unless-m.ensures;
-      good = record { at_high = c.requires.second.1.1; left-order = c.requires.from_le_to.0; left-high = c.requires.from_le_to.1; right-order = c.requires.second.0.0; right-high = c.requires.second.0.1; left-small = c.if-x-gt255.false; right-small = c.if-y-gt255.false; mark-small = marked-small a.struck a.mark _ c.mark_unless-m.ensures c.if-mark-gt1.false };
+      good = record { at_high = c.requires.first; left-order = c.requires.from_le_to.0; left-high = c.requires.from_le_to.1; right-order = c.requires.second.0; right-high = c.requires.second.1; left-small = c.if-x-gt255.false; right-small = c.if-y-gt255.false; mark-small = marked-small a.struck a.mark _ c.mark_unless-m.ensures c.if-mark-gt1.false };
     }

@@ -1,6 +1,5 @@
 -- `file_line::trench_line` meets its contract: too few fields, too many, three, or four. Assumes nothing.
 use Prim.Native.Nat.{◌+◌}
-use borrow.Author.Rules.{rules}
 use mathlib.Core.Path.{refl, ◌∙◌}
 use native.Mathlib.Omega.{arith}
 use Rattle.file_text.specs.Steps.Spans.{part, piece_at}
@@ -27,10 +26,7 @@ returns-then-skip-count c =
 pub row-requires : goal.row-requires
 row-requires c =
     let l = c.requires.lies in
-    let k = c.args.skip in let told = (
-      (l.order k (omega arith) (omega arith), l.high k (omega arith) (omega arith)),
-      ((l.order (k + 1) (omega arith) (omega arith), l.high (k + 1) (omega arith) (omega arith)), ((l.order (k + 2) (omega arith) (omega arith), l.high (k + 2) (omega arith) (omega arith)), c.requires.skip_bound.1)),
-    ) in record { from_le_to = told.0; second = told.1; third = told.2; first = told.3 }
+    let k = c.args.skip in record { from_le_to = (l.order k (omega arith) (omega arith), l.high k (omega arith) (omega arith)); second = (l.order (k + 1) (omega arith) (omega arith), l.high (k + 1) (omega arith) (omega arith)); third = (l.order (k + 2) (omega arith) (omega arith), l.high (k + 2) (omega arith) (omega arith)); first = c.requires.skip_bound.1 }
 
 pub returns-then-count-skip-2 : goal.returns-then-count-skip-2
 unfolding mark_seen
@@ -41,7 +37,7 @@ returns-then-count-skip-2 c =
     }
 
 pub slice_bounds-mark_of-count : goal.slice_bounds-mark_of-count
-slice_bounds-mark_of-count c = omega (arith, start-4 (goal.at.slice_bounds-mark_of-count c).Else-count-skip-2)
+slice_bounds-mark_of-count c = omega (arith, c.requires.lies.order (c.args.skip + 3) (omega arith) (omega arith))
 
 pub slice_bounds-mark_of-start : goal.slice_bounds-mark_of-start
 slice_bounds-mark_of-start c = c.requires.lies.order (c.args.skip + 3) (omega arith) (omega arith)
@@ -52,10 +48,7 @@ slice_bounds-mark_of-end c = c.requires.lies.high (c.args.skip + 3) (omega arith
 pub row-requires-2 : goal.row-requires-2
 row-requires-2 c =
     let l = c.requires.lies in
-    let k = c.args.skip in let told = (
-      (l.order k (omega arith) (omega arith), l.high k (omega arith) (omega arith)),
-      ((l.order (k + 1) (omega arith) (omega arith), l.high (k + 1) (omega arith) (omega arith)), ((l.order (k + 2) (omega arith) (omega arith), l.high (k + 2) (omega arith) (omega arith)), c.requires.skip_bound.1)),
-    ) in record { from_le_to = told.0; second = told.1; third = told.2; first = told.3 }
+    let k = c.args.skip in record { from_le_to = (l.order k (omega arith) (omega arith), l.high k (omega arith) (omega arith)); second = (l.order (k + 1) (omega arith) (omega arith), l.high (k + 1) (omega arith) (omega arith)); third = (l.order (k + 2) (omega arith) (omega arith), l.high (k + 2) (omega arith) (omega arith)); first = c.requires.skip_bound.1 }
 
 pub returns : goal.returns
 unfolding piece_at part

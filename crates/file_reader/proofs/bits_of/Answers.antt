@@ -1,5 +1,3 @@
-use borrow.Author.Rules.{rules}
-use borrow.Author.Tests.{not-true, not-false}
 use Rattle.file_reader.proofs.Lays.{bits-plain, bits-zero, bits-some}
 use Rattle.file_reader.proofs.bits_of.Goals as goal
 

@@ -1,6 +1,4 @@
 -- `file_reader::number_end` meets its contract: a number, a name without room, or a name. Assumes nothing.
-use borrow.Author.Rules.{rules}
-use borrow.Author.Tests.{not-false}
 use native.Mathlib.Omega.{arith}
 use Rattle.file_reader.proofs.Ends.{kept-number, no_room, met-name, below}
 use Rattle.file_reader.proofs.number_end.Goals as goal
@@ -8,8 +6,8 @@ use Rattle.file_reader.proofs.number_end.Goals as goal
 pub returns-then-v-ne0 : goal.returns-then-v-ne0
 returns-then-v-ne0 c =
     let p = c.requires in record {
-      end_met = kept-number _ _ _ _ _ _ _ c.if-v-ne0.true p.count_bound.4 p.count_bound.0 p.sized.1;
-      sized = p.sized.0;
+      end_met = kept-number _ _ _ _ _ _ _ c.if-v-ne0.true p.count_bound.4 p.count_bound.0 p.kept;
+      sized = p.sized;
     }
 
 pub returns-then-k-eq-NAMES : goal.returns-then-k-eq-NAMES
@@ -17,7 +15,7 @@ returns-then-k-eq-NAMES c =
     let p = c.requires in
     let m = c.meet-k.ensures in record {
       end_met = no_room _ _ _ _ _ _ _ _ _ c.if-v-ne0.false _ m.value.0 m.value.1 p.count_bound.0 c.if-k-eq-NAMES.true;
-      sized = m.names.1.1.1;
+      sized = m.sized;
     }
 
 pub returns : goal.returns
@@ -25,6 +23,6 @@ returns c =
     let p = c.requires in
     let m = c.meet-k.ensures in
     let l = below c.meet-k.result (omega (arith, m.value.1, p.count_bound.0)) c.if-k-eq-NAMES.false in record {
-      end_met = met-name _ _ _ _ _ _ _ _ _ c.if-v-ne0.false _ m.value.0 m.value.1 p.count_bound.0 l (m.names.0 l) (m.names.1.0 l) (m.names.1.1.0 l) _ c.larger.ensures;
-      sized = m.names.1.1.1;
+      end_met = met-name _ _ _ _ _ _ _ _ _ c.if-v-ne0.false _ m.value.0 m.value.1 p.count_bound.0 l (m.names l) (m.places l) (m.kept l) _ c.larger.ensures;
+      sized = m.sized;
     }

@@ -1,27 +1,21 @@
 -- `file_reader::read_lines` meets its contract. The loop's invariant: reading on from what is read so far gives the same. Assumes nothing.
-use Prim.Native.Nat.{◌+◌, ◌-◌, ◌≤◌}
-use borrow.Author.Rules.{rules}
 use borrow.Author.Tests.{ltb-true}
-use lib.Dec.{ltb}
 use lib.ListN.{length}
-use mathlib.Core.Bool.{true, false, not}
-use mathlib.Core.Path.{◌≡◌, refl, sym, ap, ◌∙◌}
+use mathlib.Core.Bool.{not}
+use mathlib.Core.Path.{sym, ap, ◌∙◌}
 use native.Mathlib.Omega.{arith}
-use Rattle.file_spec.specs.Pieces.{lines}
-use Rattle.file_text.specs.Steps.Spans.{part}
-use Rattle.file_spec.specs.Reader.{next, read_lines}
-use Rattle.file_reader.specs.Steps.State.{read_of, Sized, Columns, Sound}
-use Rattle.file_reader.proofs.Taken.{onto, line-turn, start, over, and_left, and_right}
+use Rattle.file_spec.specs.Reader.{next}
+use Rattle.file_reader.proofs.Taken.{line-turn, start, over, and_left, and_right}
 use Rattle.file_reader.proofs.read_lines.Goals as goal
 
 pub loop-more-init : goal.loop-more-init
 loop-more-init c =
     let p = c.requires in
-    (λ t. p.text_len_bound.1, omega arith, p.sized.0, λ t. p.sized.1, λ t. p.sized.1, sym (start _ _ _ _))
+    (λ t. p.text_len_bound.1, omega arith, p.sized, λ t. p.sound, λ t. p.sound, sym (start _ _ _ _))
 
 pub take_line-s-requires : goal.take_line-s-requires
 take_line-s-requires c =
-    let i = c.loop-more.invariant in let told = ((c.requires.text_len_bound.0, c.line_of-l.ensures.good), (i.2, i.3 c.loop-more-test.true)) in record { text_len_bound = told.0; sized = told.1; sound = told.2 }
+    let i = c.loop-more.invariant in record { text_len_bound = (c.requires.text_len_bound.0, c.line_of-l.ensures.good); sized = i.2; sound = i.3 c.loop-more-test.true }
 
 pub overflow_add-at : goal.overflow_add-at
 overflow_add-at c = omega (arith, c.line_end-e.ensures.bounds, c.loop-more.invariant.1, c.requires.text_len_bound.0)
@@ -39,12 +33,12 @@ loop-more-preserved c =
     let text = c.args.text.now in (
       λ m. let l = ltb-true c.line_end-e.result (length text) (and_right (not a) _ (sym c.both-more.ensures ∙ m)) in omega arith,
       omega (arith, e.bounds, inside),
-      t.sized.0,
-      λ m. t.sized.1 (and_left a _ (sym c.both-more.ensures ∙ m)),
-      λ b. t.sized.1 b,
+      t.sized,
+      λ m. t.sound (and_left a _ (sym c.both-more.ensures ∙ m)),
+      λ b. t.sound b,
       i.5 ∙ line-turn text c.loop-more.at c.line_end-e.result (i.0 c.loop-more-test.true) e.value (omega (arith, e.bounds.1, inside)) _ _ _ (ap (next _) (sym c.line_of-l.ensures.result_value) ∙ t.l_value) _ _ c.loop-more-test.true c.both-more.ensures _,
     )
 
 pub returns : goal.returns
 returns c =
-    let i = c.loop-more.invariant in let told = (i.5 ∙ over _ c.loop-more.at _ _ _ c.loop-more-test.false, (i.2, i.4)) in record { text_value = told.0; sized = told.1; sound = told.2 }
+    let i = c.loop-more.invariant in record { text_value = i.5 ∙ over _ c.loop-more.at _ _ _ c.loop-more-test.false; sized = i.2; sound = i.4 }

@@ -1,17 +1,13 @@
 -- `file_reader::read_lines` meets its contract. The loop's invariant: reading on from what is read so far gives the same. Assumes nothing.
 use Prim.Native.Nat.{◌+◌, ◌-◌, ◌≤◌}
-use borrow.Author.Rules.{rules}
-use borrow.Author.Tests.{ltb-true}
-use lib.Dec.{ltb}
 use lib.ListN.{length}
-use mathlib.Core.Bool.{true, false, not}
-use mathlib.Core.Path.{◌≡◌, refl, sym, ap, ◌∙◌}
-use native.Mathlib.Omega.{arith}
+use mathlib.Core.Bool.{true, false}
+use mathlib.Core.Path.{◌≡◌}
 use Rattle.file_spec.specs.Pieces.{lines}
 use Rattle.file_text.specs.Steps.Spans.{part}
-use Rattle.file_spec.specs.Reader.{next, read_lines}
+use Rattle.file_spec.specs.Reader.{read_lines}
 use Rattle.file_reader.specs.Steps.State.{read_of, Sized, Columns, Sound}
-use Rattle.file_reader.proofs.Taken.{onto, line-turn, start, over, and_left, and_right}
+use Rattle.file_reader.proofs.Taken.{onto}
 use Rattle.file_reader.proofs.read_lines.Given as goal
 
 abbrev pub invariant-loop-more : goal.invariant-loop-more

@@ -1,4 +1,3 @@
-use borrow.Author.Rules.{rules}
 use lib.ListN.{length-set}
 use Rattle.file_reader.proofs.Lays.{stored-weight}
 use Rattle.file_reader.proofs.store_weight.Goals as goal

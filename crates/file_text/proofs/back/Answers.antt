@@ -1,11 +1,6 @@
 -- `file_text::back` meets its contract. Assumes nothing.
-use Prim.Native.Nat.{◌-◌, ◌≤◌}
-use borrow.Author.Rules.{rules}
-use borrow.Author.Tests.{not-true, not-false}
-use mathlib.Core.Path.{◌≡◌, refl, sym, ◌∙◌}
+use mathlib.Core.Path.{refl, sym, ◌∙◌}
 use native.Mathlib.Omega.{arith}
-use Rattle.file_spec.specs.Pieces.{back_trimmed}
-use Rattle.file_text.specs.Steps.Spans.{part}
 use Rattle.file_text.proofs.Trims.{back_more, back-stop, back_last}
 use Rattle.file_text.proofs.back.Goals as goal
 

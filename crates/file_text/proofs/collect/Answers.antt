@@ -1,22 +1,15 @@
 -- `file_text::collect` meets its contract. The loop's invariant: the fields collected and those ahead are all. Assumes nothing.
-use Prim.Native.Nat.{ℕ, ◌+◌, ◌-◌, ◌≤◌, ◌<◌}
-use borrow.Author.Rules.{rules}
 use borrow.Author.Tests.{ltb-true}
-use lib.ListN.{length}
-use mathlib.Core.Bool.{true}
-use mathlib.Core.List.{List, [], ◌++◌}
-use mathlib.Core.Path.{◌≡◌, refl}
+use mathlib.Core.List.{[]}
+use mathlib.Core.Path.{refl}
 use native.Mathlib.Omega.{arith}
-use Rattle.file_text.specs.Steps.Collected.{Collected}
-use Rattle.file_spec.specs.Pieces.{Piece, parted, end_trimmed}
-use Rattle.file_text.specs.Steps.Spans.{piece_at}
-use Rattle.file_text.proofs.Fielding.{kept, ahead, turn, start, collected}
+use Rattle.file_spec.specs.Pieces.{end_trimmed}
+use Rattle.file_text.proofs.Fielding.{turn, start, collected}
 use Rattle.file_text.proofs.collect.Goals as goal
 
 pub loop-more-init : goal.loop-more-init
 unfolding end_trimmed
-loop-more-init c =
-    (
+loop-more-init c = (
   λ t. c.requires.0,
   omega arith,
   omega arith,

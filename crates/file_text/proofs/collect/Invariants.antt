@@ -1,16 +1,13 @@
 -- `file_text::collect` meets its contract. The loop's invariant: the fields collected and those ahead are all. Assumes nothing.
-use Prim.Native.Nat.{ℕ, ◌+◌, ◌-◌, ◌≤◌, ◌<◌}
-use borrow.Author.Rules.{rules}
-use borrow.Author.Tests.{ltb-true}
+use Prim.Native.Nat.{◌+◌, ◌-◌, ◌≤◌}
 use lib.ListN.{length}
 use mathlib.Core.Bool.{true}
-use mathlib.Core.List.{List, [], ◌++◌}
-use mathlib.Core.Path.{◌≡◌, refl}
-use native.Mathlib.Omega.{arith}
+use mathlib.Core.List.{List, ◌++◌}
+use mathlib.Core.Path.{◌≡◌}
 use Rattle.file_text.specs.Steps.Collected.{Collected}
-use Rattle.file_spec.specs.Pieces.{Piece, parted, end_trimmed}
+use Rattle.file_spec.specs.Pieces.{Piece, parted}
 use Rattle.file_text.specs.Steps.Spans.{piece_at}
-use Rattle.file_text.proofs.Fielding.{kept, ahead, turn, start, collected}
+use Rattle.file_text.proofs.Fielding.{kept, ahead}
 use Rattle.file_text.proofs.collect.Given as goal
 
 abbrev pub invariant-loop-more : goal.invariant-loop-more

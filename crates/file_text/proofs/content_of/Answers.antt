@@ -1,5 +1,4 @@
 -- `file_text::content_of` meets its contract. Assumes nothing.
-use borrow.Author.Rules.{rules}
 use native.Mathlib.Omega.{arith}
 use Rattle.file_spec.specs.Pieces.{is_byte}
 use Rattle.file_text.proofs.Searches.{before-part, content-made}

@@ -1,9 +1,6 @@
 -- `file_text::equal` meets its contract. The loop's invariant: what is left of both decides. Assumes nothing.
-use Prim.Native.Nat.{◌-◌, ◌≤◌}
-use lib.ListN.{length, drop}
-use mathlib.Core.Path.{◌≡◌, refl, sym}
+use mathlib.Core.Path.{refl, sym}
 use native.Mathlib.Omega.{arith}
-use Rattle.file_spec.specs.Names.{equal}
 use Rattle.file_text.proofs.Bytewise.{equal-lengths, equal-more, equal-stop, equal-last}
 use Rattle.file_text.proofs.equal.Goals as goal
 

@@ -1,10 +1,8 @@
 -- `file_text::equal` meets its contract. The loop's invariant: what is left of both decides. Assumes nothing.
 use Prim.Native.Nat.{◌-◌, ◌≤◌}
 use lib.ListN.{length, drop}
-use mathlib.Core.Path.{◌≡◌, refl, sym}
-use native.Mathlib.Omega.{arith}
+use mathlib.Core.Path.{◌≡◌}
 use Rattle.file_spec.specs.Names.{equal}
-use Rattle.file_text.proofs.Bytewise.{equal-lengths, equal-more, equal-stop, equal-last}
 use Rattle.file_text.proofs.equal.Given as goal
 
 abbrev pub invariant-loop-i : goal.invariant-loop-i

@@ -1,5 +1,4 @@
 -- `file_text::field_of` meets its contract: too short for quotes, none in front, none behind, or both. Assumes nothing.
-use borrow.Author.Rules.{rules}
 use native.Mathlib.Omega.{arith}
 use Rattle.file_text.proofs.Quotes.{short, no-open, no-close, quoted}
 use Rattle.file_text.proofs.field_of.Goals as goal

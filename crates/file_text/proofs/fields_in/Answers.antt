@@ -1,6 +1,4 @@
 -- `file_text::fields_in` meets its contract. Assumes nothing.
-use borrow.Author.Rules.{rules}
-use native.Mathlib.Omega.{arith}
 use Rattle.file_text.proofs.Fielding.{fields_made}
 use Rattle.file_text.proofs.fields_in.Goals as goal
 

@@ -1,5 +1,4 @@
 -- `file_text::fields_of` meets its contract: a part that begins past its end or the text's has no fields. Assumes nothing.
-use borrow.Author.Rules.{rules}
 use native.Mathlib.Omega.{arith}
 use Rattle.file_text.proofs.Clipped.{none_read, clipped-read}
 use Rattle.file_text.proofs.fields_of.Goals as goal

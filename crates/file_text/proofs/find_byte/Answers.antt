@@ -1,11 +1,8 @@
 -- `file_text::find_byte` meets its contract. Assumes nothing.
-use Prim.Native.Nat.{◌-◌, ◌≤◌}
-use borrow.Author.Rules.{rules}
 use borrow.Author.Tests.{eq-eqb, ne_eqb}
-use mathlib.Core.Path.{◌≡◌, refl, sym, ◌∙◌}
+use mathlib.Core.Path.{refl, sym, ◌∙◌}
 use native.Mathlib.Omega.{arith}
-use Rattle.file_spec.specs.Pieces.{is_byte, first_at}
-use Rattle.file_text.specs.Steps.Spans.{part}
+use Rattle.file_spec.specs.Pieces.{is_byte}
 use Rattle.file_text.proofs.Parts.{first-stop, first_more, first-last}
 use Rattle.file_text.proofs.find_byte.Goals as goal
 

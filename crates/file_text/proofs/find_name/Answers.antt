@@ -1,10 +1,7 @@
 -- `file_text::find_name` meets its contract. The loop's invariant: the names before k are others, so that the position is k and what is found from k on. Assumes nothing.
-use Prim.Native.Nat.{◌+◌, ◌-◌, ◌≤◌}
-use borrow.Author.Rules.{rules}
-use mathlib.Core.Path.{◌≡◌, sym, ◌∙◌}
+use mathlib.Core.Path.{sym, ◌∙◌}
 use native.Mathlib.Omega.{arith}
-use Rattle.file_spec.specs.Names.{position}
-use Rattle.file_text.specs.Steps.Spans.{part, names_from, names_of}
+use Rattle.file_text.specs.Steps.Spans.{part}
 use Rattle.file_text.proofs.Found.{found-start, found_here, found-later, found_none}
 use Rattle.file_text.proofs.find_name.Goals as goal
 
@@ -12,13 +9,13 @@ pub loop-k-init : goal.loop-k-init
 loop-k-init c = (omega arith, found-start _ _ _ _ _)
 
 pub slice_bounds-equal-count-in-loop-k : goal.slice_bounds-equal-count-in-loop-k
-slice_bounds-equal-count-in-loop-k c = omega (arith, start-2 (goal.at.slice_bounds-equal-count-in-loop-k c).After-equal-arg-1)
+slice_bounds-equal-count-in-loop-k c = omega (arith, c.requires.kept.order c.loop-k.k (omega arith), c.wide-s.ensures, c.wide-e.ensures)
 
 pub slice_bounds-equal-start-in-loop-k : goal.slice_bounds-equal-start-in-loop-k
-slice_bounds-equal-start-in-loop-k c = omega (arith, c.requires.sized.1.order c.loop-k.k (omega arith), c.wide-s.ensures, c.wide-e.ensures)
+slice_bounds-equal-start-in-loop-k c = omega (arith, c.requires.kept.order c.loop-k.k (omega arith), c.wide-s.ensures, c.wide-e.ensures)
 
 pub slice_bounds-equal-end-in-loop-k : goal.slice_bounds-equal-end-in-loop-k
-slice_bounds-equal-end-in-loop-k c = omega (arith, c.requires.sized.1.high c.loop-k.k (omega arith), c.wide-e.ensures)
+slice_bounds-equal-end-in-loop-k c = omega (arith, c.requires.kept.high c.loop-k.k (omega arith), c.wide-e.ensures)
 
 pub returns-then-equal : goal.returns-then-equal
 unfolding part

@@ -1,11 +1,8 @@
 -- `file_text::find_name` meets its contract. The loop's invariant: the names before k are others, so that the position is k and what is found from k on. Assumes nothing.
 use Prim.Native.Nat.{◌+◌, ◌-◌, ◌≤◌}
-use borrow.Author.Rules.{rules}
-use mathlib.Core.Path.{◌≡◌, sym, ◌∙◌}
-use native.Mathlib.Omega.{arith}
+use mathlib.Core.Path.{◌≡◌}
 use Rattle.file_spec.specs.Names.{position}
 use Rattle.file_text.specs.Steps.Spans.{part, names_from, names_of}
-use Rattle.file_text.proofs.Found.{found-start, found_here, found-later, found_none}
 use Rattle.file_text.proofs.find_name.Given as goal
 
 abbrev pub invariant-loop-k : goal.invariant-loop-k

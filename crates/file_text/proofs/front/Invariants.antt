@@ -1,12 +1,8 @@
 -- `file_text::front` meets its contract. Assumes nothing.
 use Prim.Native.Nat.{◌-◌, ◌≤◌}
-use borrow.Author.Rules.{rules}
-use borrow.Author.Tests.{not-true, not-false}
-use mathlib.Core.Path.{◌≡◌, refl, sym, ◌∙◌}
-use native.Mathlib.Omega.{arith}
+use mathlib.Core.Path.{◌≡◌}
 use Rattle.file_spec.specs.Pieces.{front_trimmed}
 use Rattle.file_text.specs.Steps.Spans.{part}
-use Rattle.file_text.proofs.Trims.{front-more, front-stop, front-last}
 use Rattle.file_text.proofs.front.Given as goal
 
 abbrev pub invariant-loop-i : goal.invariant-loop-i

@@ -1,12 +1,9 @@
 -- `file_text::line_end` meets its contract. Assumes nothing.
 use Prim.Native.Nat.{◌-◌, ◌≤◌, max}
-use borrow.Author.Rules.{rules}
 use lib.ListN.{length}
-use mathlib.Core.Path.{◌≡◌, refl, sym, ◌∙◌}
-use native.Mathlib.Omega.{arith}
+use mathlib.Core.Path.{◌≡◌}
 use Rattle.file_spec.specs.Pieces.{ends_line, first_at}
 use Rattle.file_text.specs.Steps.Spans.{part}
-use Rattle.file_text.proofs.Parts.{first-stop, first_more, first-last}
 use Rattle.file_text.proofs.line_end.Given as goal
 
 abbrev pub invariant-loop-i : goal.invariant-loop-i

@@ -1,5 +1,4 @@
 -- `file_text::trim` meets its contract. Assumes nothing.
-use borrow.Author.Rules.{rules}
 use native.Mathlib.Omega.{arith}
 use Rattle.file_text.proofs.Trims.{trim-made}
 use Rattle.file_text.proofs.trim.Goals as goal
