@@ -16,15 +16,13 @@ use Rattle.star_meaning.specs.Bytes.{Written}
 use Rattle.path_matrix.proofs.Laws.{length-words_from}
 use Rattle.change_meaning.proofs.Packing.{merging-keeps, adding-keeps}
 use Rattle.change_meaning.specs.Bytes.{IsDone, Declined, RightSizes, StrikeCall, MergeCall, AddMeans, AddCall, CarryCall, StrikeDoorMeans, MergeDoorMeans, AddDoorMeans, CarryDoorMeans}
-use Rattle.change_meaning.specs.Packing.{call_on}
 use Rattle.refusal.specs.declared.Refusal.{Refusal}
 use Rattle.rowset.proofs.Laws.{count-bound}
 use Rattle.rowset.specs.Sets.{count}
 use Rattle.rowset.specs.Words.{column_words, in_words}
 use Rattle.star_spec.proofs.Accepted.{none-head, none_tail, cause-none}
-use Rattle.star_spec.specs.Cst.{cst}
 use Rattle.star_spec.specs.Door.{fields, outcome_fields, read_back, well_lent, door_returns, answer_after}
-use Rattle.star_spec.specs.Refusals.{max_rows, cause, refusal}
+use Rattle.star_spec.specs.Refusals.{max_rows}
 use Rattle.change_spec.proofs.Carrying.{carry-lengths}
 use Rattle.change_spec.proofs.Meaning.{striking-strikes, merging-merges, adding-adds}
 use Rattle.change_spec.proofs.Refusing.{no, strike-absent, strike-wrong, strike-done, unstruck, struck, merge-wrong, merge-done, unmerged, add-full, add-wrong, add_done, unadded-answer, added-answer, unadded-table, carry-wrong, carry-done, uncarried, carried}
@@ -32,7 +30,7 @@ use Rattle.change_spec.proofs.Tables.{same, wrong, sizes-sized}
 use Rattle.change_spec.specs.Carrying.{wrong_carry, carried_claim, carry_refusal, carried_marks}
 use Rattle.change_spec.specs.Changes.{unadded, added_at, add_answer, new_row, room_made, added}
 use Rattle.change_spec.specs.Door.{add_fields, strike_door, strike_door_words, merge_door, merge_door_table, add_door, add_door_table, carry_door, carry_door_marks}
-use Rattle.change_spec.specs.Tables.{Working, in_use, wrong_words, bad_sizes, table_full, not_in_use, strike_refusal, merge_refusal, add_refusal}
+use Rattle.change_spec.specs.Tables.{Working, in_use, bad_sizes, table_full, not_in_use, strike_refusal, merge_refusal, add_refusal}
 
 -- ── What is lent and read back ──
 

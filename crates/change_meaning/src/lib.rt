@@ -2,4 +2,3 @@
 // specs/Bytes.antt says what the doors that strike, add, merge and carry return and leave, and what that means.
 
 #![tactic(auto)]
-

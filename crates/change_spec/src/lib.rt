@@ -2,4 +2,3 @@
 // What they are worth (specs/Meaning.antt) and the trials (specs/Trials.antt) are theorems over them.
 
 #![tactic(auto)]
-

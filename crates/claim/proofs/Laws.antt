@@ -1,7 +1,7 @@
 -- The rows of a claim: for a claim of at most 1,024 bytes they are the rows that it marks; and the words of the marked rows, 64 bytes a word.
 -- Assumes nothing.
-use Rattle.std.proofs.Common.{◌≡◌, ℕ, zero, suc, ◌+◌, ◌-◌, ◌*◌, ◌/◌, ◌%◌, ◌^◌, ◌<◌, ◌≤◌, Bool, true, false, cond, eqb, leb, List, length, get_or, set, replicate, sym, refl, ap, ◌∙◌, ap₂, lt_of_lt_of_le, add-zero, mul_comm, add_comm, one-mul, mul-zero, arith, length-set, get_or-set_other, get_or-set_same, pow_mono, ne_eqb, eqb-true, le-leb}
-use borrow.Author.Tests.{lt-leb, eqb-false}
+use Rattle.std.proofs.Common.{◌≡◌, ℕ, zero, suc, ◌+◌, ◌-◌, ◌*◌, ◌^◌, ◌<◌, ◌≤◌, Bool, true, false, cond, eqb, List, length, get_or, set, replicate, sym, refl, ap, ◌∙◌, ap₂, lt_of_lt_of_le, add-zero, mul_comm, add_comm, one-mul, mul-zero, arith, length-set, get_or-set_other, get_or-set_same, pow_mono, le-leb}
+use borrow.Author.Tests.{lt-leb}
 use lib.ListN.{get_or-eq_default}
 use mathlib.Core.Logic.{by_cases}
 use mir.Val.{bool_byte}

@@ -1,7 +1,7 @@
 -- Laws of a sum of weights: a position more, and what 64 bits hold of a difference.
 -- Assumes nothing.
-use Rattle.std.proofs.Common.{◌≡◌, ℕ, ◌+◌, ◌-◌, ◌*◌, ◌%◌, ◌^◌, ◌<◌, ◌≤◌, Bool, true, false, cond, ltb, ℤ, pos, ◌-ℤ◌, refl, add-zero, add-one, arith, ltb-false, ltb-true}
-use Rattle.rowset.proofs.Integers.{up, down, integers, pos-parts, minus}
+use Rattle.std.proofs.Common.{◌≡◌, ℕ, ◌+◌, ◌*◌, ◌%◌, ◌<◌, Bool, true, false, cond, ltb, pos, ◌-ℤ◌, refl, add-zero, add-one, arith, ltb-false, ltb-true}
+use Rattle.rowset.proofs.Integers.{integers, pos-parts, minus}
 use Rattle.rowset.proofs.Signed.{small-bits}
 use Rattle.rowset.specs.Integers.{from_bits}
 use Rattle.rowset.specs.Sets.{sum}

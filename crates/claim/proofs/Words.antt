@@ -1,6 +1,6 @@
 -- The weights of the rows of one word: the loop takes the rows from the lowest bit on, and what is left of the word is shifted down.
 -- Assumes nothing.
-use Rattle.std.proofs.Common.{◌≡◌, ℕ, zero, suc, ◌+◌, ◌-◌, ◌*◌, ◌/◌, ◌%◌, ◌^◌, ◌<◌, ◌≤◌, Bool, true, false, eqb, List, sym, refl, ap, ◌∙◌, subst, lt_of_lt_of_le, lt_of_le_of_lt, add-zero, add-suc, div-le_self, div-one, add-one, arith, pow_mono, shr-shr}
+use Rattle.std.proofs.Common.{◌≡◌, ℕ, zero, suc, ◌+◌, ◌-◌, ◌*◌, ◌/◌, ◌^◌, ◌<◌, ◌≤◌, Bool, true, false, List, sym, ap, ◌∙◌, subst, lt_of_lt_of_le, lt_of_le_of_lt, add-zero, div-le_self, div-one, arith, pow_mono, shr-shr}
 use lib.Count.{count_trailing_zeros}
 use mathlib.Core.Logic.{by_cases}
 use native.Mathlib.Decide.{dec_lt}
@@ -8,7 +8,6 @@ use native.Mathlib.Nat.{sub_self, div-eq_of_lt}
 use Rattle.table_checks.proofs.Laws.{count-in, count-out}
 use Rattle.rowset.proofs.Laws.{clash}
 use Rattle.rowset.specs.Bytes.{in_row}
-use Rattle.rowset.specs.Sets.{sum, count}
 use Rattle.rowset.specs.Steps.Flipped.{flipped}
 use Rattle.slice.proofs.Bits.{bit-of-zero, bit-below-trailing, bit-at-trailing}
 use Rattle.slice.specs.Slices.{bit}

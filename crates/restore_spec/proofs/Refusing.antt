@@ -1,20 +1,20 @@
 -- Why restoring is refused, case by case, and the words that it leaves.
 -- Assumes nothing.
-use Prim.Native.Nat.{ℕ, ◌^◌, ◌<◌, ◌≤◌}
+use Prim.Native.Nat.{ℕ, ◌≤◌}
 use borrow.Author.Tests.{eq-eqb, ne_eqb, le-ltb, eqb-false, ltb-false}
 use lib.Dec.{eqb, ltb}
-use lib.ListN.{length, get_or}
+use lib.ListN.{length}
 use mathlib.Core.Bool.{Bool, true, false, ◌||◌, false≢true}
 use mathlib.Core.List.{List}
 use mathlib.Core.Logic.{◌≢◌, by_cases}
-use mathlib.Core.Option.{Option, none, some}
+use mathlib.Core.Option.{none, some}
 use mathlib.Core.Path.{◌≡◌, refl, sym, ap, ◌∙◌, fun_ext}
 use native.Mathlib.Decide.{ℕ_discrete}
 use native.Mathlib.Omega.{arith}
 use Rattle.change_spec.proofs.Meaning.{held-inside, striking-strikes}
 use Rattle.change_spec.proofs.Refusing.{no, kept-old, made-new, strike-done, struck}
 use Rattle.change_spec.proofs.Words.{words-hold}
-use Rattle.change_spec.specs.Changes.{afterwards, words_of, struck_words}
+use Rattle.change_spec.specs.Changes.{words_of, struck_words}
 use Rattle.path_matrix.proofs.Laws.{length-words_from, slice-words}
 use Rattle.refusal.specs.declared.Refusal.{Refusal}
 use Rattle.restore_spec.specs.Bytes.{Struck, Sixteen}

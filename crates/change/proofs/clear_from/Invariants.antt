@@ -1,12 +1,9 @@
 -- `change::clear_from` meets its contract. The loop's invariant: the bytes before k are the old ones before `from` and 0 after them. The measure is what is left of the column.
 -- Assumes nothing.
-use Prim.Native.Nat.{ℕ, ◌+◌, ◌-◌, ◌≤◌, ◌<◌}
-use lib.ListN.{length, take, set, replicate, length-set, replicate-append-replicate}
-use lib.Seq.{take-suc-set, take_all}
-use mathlib.Core.List.{List, [], ◌∷◌, ◌++◌, append_assoc, append-nil}
-use mathlib.Core.Path.{◌≡◌, refl, sym, ap, ◌∙◌}
-use native.Mathlib.Numerals.{add-one}
-use native.Mathlib.Omega.{arith}
+use Prim.Native.Nat.{ℕ, ◌-◌, ◌≤◌}
+use lib.ListN.{length, take, replicate}
+use mathlib.Core.List.{List, ◌++◌}
+use mathlib.Core.Path.{◌≡◌}
 use Rattle.change.proofs.clear_from.Given as goal
 
 pub record Clearing (l : List ℕ) (start : ℕ) (column : List ℕ) (k : ℕ) : Type 0 where

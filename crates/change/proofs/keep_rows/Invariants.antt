@@ -1,16 +1,10 @@
 -- `change::keep_rows` meets its contract. The loop's invariant: of the bytes before b those that belong stand at the top, and the bytes from b on are as they were.
 -- The measure is what is left of the column. Assumes nothing.
 use Prim.Native.Nat.{◌-◌}
-use borrow.Author.Rules.{rules}
-use lib.ListN.{length, take}
-use lib.Seq.{take_all}
-use mathlib.Core.Path.{◌≡◌, ap, ◌∙◌}
-use native.Mathlib.Nat.{div-le_self}
-use native.Mathlib.Omega.{arith}
+use lib.ListN.{length}
 use Rattle.slice.specs.Slices.{component}
-use Rattle.change_spec.specs.Packing.{of_rows, kept_from, kept_rows}
-use Rattle.slice_words.proofs.Counts.{bool_small}
-use Rattle.change.proofs.Loops.{Keeping, keeping_none, keeping-more}
+use Rattle.change_spec.specs.Packing.{of_rows}
+use Rattle.change.proofs.Loops.{Keeping}
 use Rattle.change.proofs.keep_rows.Given as goal
 
 abbrev pub invariant-loop-b : goal.invariant-loop-b

@@ -1,11 +1,7 @@
 -- `change::last_row` meets its contract. The loop's invariant: `last` is the greatest row of 1 to i. The measure is what is left of the rows.
 -- Assumes nothing.
-use Prim.Native.Nat.{◌-◌, ◌≤◌}
-use borrow.Author.Rules.{rules}
 use mathlib.Core.Path.{◌≡◌, sym, ◌∙◌}
 use native.Mathlib.Omega.{arith}
-use Rattle.slice.specs.Slices.{component}
-use Rattle.change_spec.specs.Packing.{lowermost}
 use Rattle.change.proofs.Loops.{lowermost-none, lowermost-more}
 use Rattle.change.proofs.last_row.Goals as goal
 

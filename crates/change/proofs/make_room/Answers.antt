@@ -1,5 +1,4 @@
 -- `change::make_room` meets its contract: the table is packed, or has its own numbers. Assumes nothing.
-use borrow.Author.Rules.{rules}
 use mathlib.Core.Path.{sym, ◌∙◌}
 use Rattle.slice.specs.Slices.{component}
 use Rattle.change.proofs.Tables.{room-packed, room-there}

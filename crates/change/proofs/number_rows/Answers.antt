@@ -1,7 +1,6 @@
 -- `change::number_rows` meets its contract. The loop's invariant: `count` is the number of rows of 1 to i, and the first i numbers are written. The measure is what is left of the rows.
 -- Assumes nothing.
-use Prim.Native.Nat.{ℕ, suc, ◌+◌, ◌-◌, ◌<◌, ◌≤◌}
-use borrow.Author.Rules.{rules}
+use Prim.Native.Nat.{ℕ, suc, ◌+◌, ◌<◌, ◌≤◌}
 use lib.ListN.{length, get_or}
 use mathlib.Core.Bool.{Bool, true, false, cond}
 use mathlib.Core.List.{List, [], ◌∷◌}
@@ -12,7 +11,7 @@ use native.Mathlib.Omega.{arith}
 use Rattle.rowset.specs.Sets.{count}
 use Rattle.rowset.proofs.Laws.{count-bound}
 use Rattle.slice.specs.Slices.{component}
-use Rattle.slice.proofs.Stores.{Filled, filled_none, filled_more, filled-all}
+use Rattle.slice.proofs.Stores.{filled_none, filled_more, filled-all}
 use Rattle.change_spec.specs.Packing.{new_number, own_number, numbers_from}
 use Rattle.slice_words.proofs.Counts.{bool_small, count_none, count-more}
 use Rattle.change.proofs.number_rows.Goals as goal

@@ -1,5 +1,4 @@
 -- `change::pack_table` meets its contract: each part is packed. Assumes nothing.
-use borrow.Author.Rules.{rules}
 use mathlib.Core.Path.{ap, ◌∙◌}
 use Rattle.rowset.specs.Sets.{up_to, both}
 use Rattle.slice.specs.Slices.{size, component}

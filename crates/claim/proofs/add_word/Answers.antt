@@ -1,8 +1,8 @@
 -- `claim::add_word` meets its contract. The loop's invariant: the rows of the word up to position `at` are added, and `left` has the others. The measure is `left`.
 -- Assumes nothing.
-use Rattle.std.proofs.Common.{◌+◌, ◌-◌, ◌*◌, ◌/◌, ◌^◌, ◌<◌, ◌≤◌, div-le_self, arith, rules}
+use Rattle.std.proofs.Common.{◌+◌, ◌^◌, ◌<◌, div-le_self, arith}
 use lib.Count.{count_trailing_zeros}
-use Rattle.claim.proofs.Words.{Adding, adding-none, next-within, adding-more, adding-all}
+use Rattle.claim.proofs.Words.{adding-none, next-within, adding-more, adding-all}
 use Rattle.claim.proofs.add_word.Goals as goal
 use Rattle.claim.proofs.add_word.Goals.{In-loop-left}
 

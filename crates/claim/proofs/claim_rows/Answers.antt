@@ -1,5 +1,5 @@
 -- `claim::claim_rows` meets its contract. Assumes nothing.
-use Rattle.std.proofs.Common.{ap, ◌∙◌, rules}
+use Rattle.std.proofs.Common.{ap, ◌∙◌}
 use Rattle.rowset.specs.Sets.{both}
 use Rattle.claim.proofs.claim_rows.Goals as goal
 

@@ -1,5 +1,4 @@
 -- `claim::flipped_weight` meets its contract. Assumes nothing.
-use Rattle.std.proofs.Common.{rules}
 use Rattle.rowset.specs.Steps.Flipped.{flipped}
 use Rattle.claim.proofs.flipped_weight.Goals as goal
 

@@ -1,7 +1,7 @@
 -- `claim::mark_rows` meets its contract. The loop's invariant: the words before k are those of the marked rows, and the others are 0. The measure is what is left of the bytes.
 -- Assumes nothing.
-use Rattle.std.proofs.Common.{◌≡◌, ◌-◌, ◌*◌, length, sym, refl, ◌∙◌, arith, rules}
-use Rattle.claim.proofs.Laws.{claim_rows-long, Marks, marks-none, marks-more, marks-all}
+use Rattle.std.proofs.Common.{sym, ◌∙◌, arith}
+use Rattle.claim.proofs.Laws.{claim_rows-long, marks-none, marks-more, marks-all}
 use Rattle.claim.proofs.mark_rows.Goals as goal
 
 pub returns-then-mark-gt-SIZE : goal.returns-then-mark-gt-SIZE

@@ -1,7 +1,7 @@
 -- `claim::mark_rows` meets its contract. The loop's invariant: the words before k are those of the marked rows, and the others are 0. The measure is what is left of the bytes.
 -- Assumes nothing.
-use Rattle.std.proofs.Common.{◌≡◌, ◌-◌, ◌*◌, length, sym, refl, ◌∙◌, arith, rules}
-use Rattle.claim.proofs.Laws.{claim_rows-long, Marks, marks-none, marks-more, marks-all}
+use Rattle.std.proofs.Common.{◌-◌, ◌*◌, length}
+use Rattle.claim.proofs.Laws.{Marks}
 use Rattle.claim.proofs.mark_rows.Given as goal
 
 abbrev pub invariant-loop-k : goal.invariant-loop-k

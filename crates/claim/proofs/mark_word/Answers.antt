@@ -1,6 +1,6 @@
 -- `claim::mark_word` meets its contract. The loop's invariant: the word so far has the rows from row i + 1 on. The measure is what is left of the rows.
 -- Assumes nothing.
-use Rattle.std.proofs.Common.{◌≡◌, ℕ, ◌+◌, ◌-◌, ◌*◌, ◌^◌, ◌<◌, ◌≤◌, eqb, List, length, get_or, sym, refl, ap, ◌∙◌, ⊎_elim, arith}
+use Rattle.std.proofs.Common.{◌≡◌, ℕ, ◌+◌, ◌-◌, ◌*◌, eqb, List, get_or, sym, refl, ⊎_elim, arith}
 use Prim.{tt}
 use mir.Val.{bool_byte}
 use Rattle.rowset.specs.Words.{word_at}

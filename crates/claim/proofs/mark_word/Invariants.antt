@@ -1,11 +1,8 @@
 -- `claim::mark_word` meets its contract. The loop's invariant: the word so far has the rows from row i + 1 on. The measure is what is left of the rows.
 -- Assumes nothing.
-use Rattle.std.proofs.Common.{◌≡◌, ℕ, ◌+◌, ◌-◌, ◌*◌, ◌^◌, ◌<◌, ◌≤◌, eqb, List, length, get_or, sym, refl, ap, ◌∙◌, ⊎_elim, arith}
-use Prim.{tt}
-use mir.Val.{bool_byte}
+use Rattle.std.proofs.Common.{◌≡◌, ◌+◌, ◌-◌, ◌≤◌, length}
 use Rattle.rowset.specs.Words.{word_at}
 use Rattle.star_spec.specs.Call.{marked}
-use Rattle.claim.proofs.Laws.{marked-past, word-step, word_below, word_none}
 use Rattle.claim.proofs.mark_word.Given as goal
 
 abbrev pub invariant-loop-i : goal.invariant-loop-i

@@ -1,12 +1,11 @@
 -- `claim::weigh` meets its contract. The loop's invariant: the rows of the words before k are added. The measure is what is left of the words.
 -- Assumes nothing.
-use Rattle.std.proofs.Common.{◌≡◌, ◌+◌, ◌-◌, ◌*◌, ◌≤◌, sym, refl, ◌∙◌, arith, rules}
+use Rattle.std.proofs.Common.{◌≡◌, ◌+◌, ◌*◌, sym, refl, ◌∙◌, arith}
 use Rattle.rowset.proofs.Signed.{total-flipped}
 use Rattle.rowset.specs.Bytes.{in_row}
 use Rattle.rowset.specs.Sets.{sum, count}
 use Rattle.slice.proofs.Laws.{component-at}
 use Rattle.slice.specs.Slices.{size, component}
-use Rattle.claim.specs.Steps.Added.{Added}
 use Rattle.claim.proofs.Weights.{wrapped}
 use Rattle.claim.proofs.weigh.Goals as goal
 

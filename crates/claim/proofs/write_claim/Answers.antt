@@ -1,9 +1,8 @@
 -- `claim::write_claim` meets its contract. The loop's invariant: the bytes before index i are those of the claim, and the length is as it was.
 -- The measure is what is left of the column. Assumes nothing.
-use Rattle.std.proofs.Common.{◌≡◌, ℕ, suc, ◌+◌, ◌-◌, ◌<◌, Bool, cond, List, [], ◌∷◌, length, get_or, sym, refl, ap, ◌∙◌, ap₂, zero-add, arith}
+use Rattle.std.proofs.Common.{◌≡◌, ℕ, suc, ◌+◌, ◌<◌, Bool, cond, List, [], ◌∷◌, length, get_or, sym, refl, ap, ◌∙◌, ap₂, zero-add, arith}
 use Rattle.slice_words.proofs.Laws.{component-words}
-use Rattle.slice.specs.Slices.{component}
-use Rattle.slice.proofs.Stores.{Filled, filled_none, filled_more, filled-all}
+use Rattle.slice.proofs.Stores.{filled_none, filled_more, filled-all}
 use Rattle.star_spec.specs.Call.{claim_from, claim_of}
 use Rattle.claim.proofs.Laws.{as-digit}
 use Rattle.claim.proofs.write_claim.Invariants.{Byte}

@@ -1,11 +1,8 @@
 -- `claim::write_claim` meets its contract. The loop's invariant: the bytes before index i are those of the claim, and the length is as it was.
 -- The measure is what is left of the column. Assumes nothing.
-use Rattle.std.proofs.Common.{◌≡◌, ℕ, suc, ◌+◌, ◌-◌, ◌<◌, Bool, cond, List, [], ◌∷◌, length, get_or, sym, refl, ap, ◌∙◌, ap₂, zero-add, arith}
-use Rattle.slice_words.proofs.Laws.{component-words}
+use Rattle.std.proofs.Common.{◌≡◌, ℕ, ◌+◌, ◌-◌, Bool, cond, length}
 use Rattle.slice.specs.Slices.{component}
-use Rattle.slice.proofs.Stores.{Filled, filled_none, filled_more, filled-all}
-use Rattle.star_spec.specs.Call.{claim_from, claim_of}
-use Rattle.claim.proofs.Laws.{as-digit}
+use Rattle.slice.proofs.Stores.{Filled}
 use Rattle.claim.proofs.write_claim.Given as goal
 
 -- the byte at index k of the claim that marks the rows of S

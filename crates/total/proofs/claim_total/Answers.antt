@@ -1,5 +1,4 @@
 -- `total::claim_total` meets its contract in both of its cases: the call is refused, or the marked rows are added up. Assumes nothing.
-use borrow.Author.Rules.{rules}
 use Rattle.total.proofs.Laws.{total-refused, total-summed}
 use Rattle.total.specs.Answers.{answer_of}
 use Rattle.total.proofs.claim_total.Goals as goal

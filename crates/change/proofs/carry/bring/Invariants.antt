@@ -1,12 +1,8 @@
 -- `change::carry::bring` meets its contract. The loop's invariant: the bytes of the rows from i on are at their numbers. The measure is the rows that are left.
 -- Assumes nothing.
-use Prim.Native.Nat.{ℕ, suc, ◌-◌, ◌≤◌}
-use borrow.Author.Rules.{rules}
-use lib.ListN.{length, drop, drop_of_length-le}
-use mathlib.Core.List.{[]}
-use mathlib.Core.Path.{◌≡◌, refl, sym, ap, ◌∙◌}
-use native.Mathlib.Omega.{arith}
-use Rattle.change_spec.proofs.Carrying.{brought-length, brought-nothing, brought-more}
+use Prim.Native.Nat.{◌≤◌}
+use lib.ListN.{drop}
+use mathlib.Core.Path.{◌≡◌}
 use Rattle.change_spec.specs.Carrying.{brought_to}
 use Rattle.change.proofs.carry.bring.Given as goal
 

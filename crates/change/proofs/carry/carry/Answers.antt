@@ -1,6 +1,5 @@
 -- `change::carry::carry` meets its contract, case by case: the claim is copied, cleared and put back byte by byte. Assumes nothing.
 use Prim.Native.Nat.{ℕ, ◌+◌, ◌-◌, ◌≤◌}
-use borrow.Author.Rules.{rules}
 use lib.ListN.{length, take, drop, replicate, drop_of_length-le}
 use mathlib.Core.Bool.{false}
 use mathlib.Core.List.{List, ◌++◌, append-nil}
@@ -23,54 +22,42 @@ copied l blank h = rw (zero-add, drop_of_length-le blank h) (append-nil l)
 cleared : (l : List ℕ) → take 0 l ++ replicate (length l - 0) 0 ≡ replicate (length l) 0
 cleared l = let all : length l - 0 ≡ length l = omega arith in rw all
 
--- the steps that the proofs go back to, each from a later one
-abbrev begun : tie.After-wrong-lengths → tie.Start
-begun c = c.before.before.before
-
-abbrev checked : tie.After-write-bytes → tie.Else1
-checked c = c.before.before.before
-
-abbrev kept : tie.After-clear-from → tie.After-write-bytes
-kept c = c.before.before.before
-
-right : (c : Else-wrong_lengths) → wrong_carry (length (begun c).args.numbers.now) (length (begun c).args.mark.now) ≡ false
+right : (c : Else-wrong_lengths) → wrong_carry (length c.args.numbers.now) (length c.args.mark.now) ≡ false
 right c =
     sym c.wrong_lengths.ensures ∙ c.if-wrong_lengths.false
 
-sizes : (c : Else-wrong_lengths) → (length (begun c).args.numbers.now ≡ 1024) × (length (begun c).args.mark.now ≡ 1024)
+sizes : (c : Else-wrong_lengths) → (length c.args.numbers.now ≡ 1024) × (length c.args.mark.now ≡ 1024)
 sizes c =
-    carry-lengths (length (begun c).args.numbers.now) (length (begun c).args.mark.now) (right c)
+    carry-lengths (length c.args.numbers.now) (length c.args.mark.now) (right c)
 
 -- what was copied is the claim
-copy : (c : After-write_bytes) → c.write_bytes.new.0 ≡ (begun (checked c).before).args.mark.now
-copy w =
-    c.write_bytes.ensures ∙ copied (begun (checked c).before).args.mark.now _ (omega (arith, (sizes (checked c)).1))
+copy : (c : After-write_bytes) → length c.args.mark.now ≡ 1024 → c.write_bytes.new.column ≡ c.args.mark.now
+copy c e =
+    c.write_bytes.ensures ∙ copied c.args.mark.now _ (omega (arith, e))
 
 pub returns-then-wrong_lengths : goal.returns-then-wrong_lengths
 unfolding refusal_of
 returns-then-wrong_lengths c =
-    let a = (begun (goal.at.returns-then-wrong_lengths c).After-wrong_lengths).args in
+    let a = c.args in
     let e = carry-wrong a.numbers.now a.mark.now (sym c.wrong_lengths.ensures ∙ c.if-wrong_lengths.true) in record {
       answer = ap some c.because.ensures ∙ sym e;
       marks = sym (uncarried a.numbers.now a.mark.now _ e);
     }
 
 pub write_bytes-requires : goal.write_bytes-requires
-write_bytes-requires c = omega (arith, sizes (goal.at.write_bytes-requires c).After-wrong_lengths)
+write_bytes-requires c = omega (arith, sizes (goal.at.write_bytes-requires c).Else-wrong_lengths)
 
 pub bring-requires : goal.bring-requires
 bring-requires c =
-    let w = kept (goal.at.bring-requires c).After-clear_from in
-    let lengths = sizes (checked w) in
-    (lengths.0, ap length (copy w) ∙ lengths.1)
+    let lengths = sizes (goal.at.bring-requires c).Else-wrong_lengths in
+    (lengths.0, ap length (copy (goal.at.bring-requires c).After-write_bytes lengths.1) ∙ lengths.1)
 
 pub returns : goal.returns
 unfolding refusal_of carried_claim
 returns c =
-    let w = kept (goal.at.returns c).After-clear_from in
-    let whole = checked w in
-    let a = (begun whole.before).args in
-    let e = carry-done a.numbers.now a.mark.now (right whole) in record {
+    let a = c.args in
+    let e = carry-done a.numbers.now a.mark.now (right (goal.at.returns c).Else-wrong_lengths) in
+    let claim = copy (goal.at.returns c).After-write_bytes (sizes (goal.at.returns c).Else-wrong_lengths).1 in record {
       answer = sym e;
-      marks = c.bring.ensures ∙ ap₂ (brought_to a.numbers.now) (copy w) (c.clear_from.ensures ∙ cleared a.mark.now) ∙ sym (carried a.numbers.now a.mark.now e);
+      marks = c.bring.ensures ∙ ap₂ (brought_to a.numbers.now) claim (c.clear_from.ensures ∙ cleared a.mark.now) ∙ sym (carried a.numbers.now a.mark.now e);
     }

@@ -1,5 +1,4 @@
 -- `change::carry::put_byte` meets its contract: the byte is stored, or the number names no position. Assumes nothing.
-use borrow.Author.Rules.{rules}
 use mathlib.Core.Path.{sym}
 use native.Mathlib.Omega.{arith}
 use Rattle.change_spec.proofs.Carrying.{brought-none, brought-stored, brought-past}
