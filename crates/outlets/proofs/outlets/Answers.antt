@@ -19,7 +19,7 @@ returns-then-not-made c =
     let checked = c.vertex_check.ensures in
     let told = c.in_default.is in
     let (ok, v) = accepted _ _ 0 checked told in
-    tree-refused _ _ _ checked told (no-tree _ ok _ v c.make-made.ensures c.if-not-made.true)
+    tree-refused _ _ _ checked told (no-tree _ ok _ v c.make-made.ensures (not-true _ c.if-not-made.true))
 
 pub returns-then-not-made-2 : goal.returns-then-not-made-2
 unfolding answer_of
@@ -27,10 +27,10 @@ returns-then-not-made-2 c =
     let checked = c.vertex_check.ensures in
     let told = c.in_default.is in
     let (ok, v) = accepted _ _ 0 checked told in
-    let whole = c.if-not-made.false in
+    let whole = not-false _ c.if-not-made.false in
     ⊎_elim
     (λ (a, q). exchanges-refused _ _ _ checked told (some-tree _ ok _ v c.make-made.ensures whole) q)
-    (λ (a, q). clash a c.if-not-made-2.true)
+    (λ (a, q). clash a (not-true _ c.if-not-made-2.true))
     (left-tree _ ok _ v c.make-made.ensures whole)
 
 pub returns : goal.returns
@@ -39,9 +39,9 @@ returns c =
     let checked = c.vertex_check.ensures in
     let told = c.in_default.is in
     let (ok, v) = accepted _ _ 0 checked told in
-    let whole = c.if-not-made.false in
+    let whole = not-false _ c.if-not-made.false in
     ⊎_elim
-    (λ (a, q). clash c.if-not-made-2.false a)
+    (λ (a, q). clash (not-false _ c.if-not-made-2.false) a)
     (λ (a, q).
     let (answer, marks) = exchanges-built _ _ _ checked told (some-tree _ ok _ v c.make-made.ensures whole) _ q _ c.weigh.ensures in
     (answer, c.write_claim.ensures ∙ marks))

@@ -1,14 +1,17 @@
 -- `outlets::vertex_check` meets its contract: the table's causes, and then that of the vertex. Assumes nothing.
 use borrow.Author.Rules.{rules}
 use borrow.Author.Tests.{eq-eqb, ne_eqb}
-use mathlib.Core.Logic.{⊎_elim}
 use Rattle.table_checks.proofs.Laws.{refusal-one, refusal-both}
 use Rattle.outlets_spec.specs.Outlets.{vertex_asked}
 use Rattle.star_spec.specs.Refusals.{bad_source}
 use Rattle.outlets.proofs.vertex_check.Goals as goal
+use Rattle.outlets.proofs.vertex_check.Goals.{then-r-eq0, else-r-eq0}
 
 pub returns : goal.returns
 unfolding vertex_asked bad_source
 returns c =
     rw (refusal-both, refusal-one, c.first.ensures, c.refused_if.ensures, c.table_check-table.ensures)
-    (⊎_elim (λ w. rw (w.1, eq-eqb _ _ w.0.true)) (λ w. rw (w.1, ne_eqb _ _ w.0.false)) c.if-r-eq0.branch-raw)
+    (elim c.if-r-eq0.branch [
+      then-r-eq0 w ↦ rw (w.refused_if-is, eq-eqb _ _ w.if-r-eq0.true)
+      | else-r-eq0 w ↦ rw (w.refused_if-is, ne_eqb _ _ w.if-r-eq0.false)
+    ])

@@ -15,11 +15,11 @@ slice_bounds-start_of-end c = search (rules, length-put _ _ 4 c.put_prices.ensur
 
 pub returns-then-not-start : goal.returns-then-not-start
 returns-then-not-start c =
-    makes_none _ _ _ c.rows_among-used.ensures (sign-integer _ c.sign_columns-first.ensures (c.put_prices.ensures.rows zeros)) c.start_of_lem.ensures.0 c.if-not-start.true refl c.empty.ensures
+    makes_none _ _ _ c.rows_among-used.ensures (sign-integer _ c.sign_columns-first.ensures (c.put_prices.ensures.rows zeros)) c.start_of-start.ensures.starts (not-true _ c.if-not-start.true) refl c.empty.ensures
 
 pub slice_bounds-reduce-end : goal.slice_bounds-reduce-end
 slice_bounds-reduce-end c = search (rules, length-put _ _ 4 c.put_prices.ensures.columns zeros)
 
 pub returns : goal.returns
 returns c =
-    makes-some _ _ _ c.rows_among-used.ensures (sign-integer _ c.sign_columns-first.ensures (c.put_prices.ensures.rows zeros)) c.start_of_lem.ensures.0 c.if-not-start.false c.start_of_lem.ensures.1 c.reduce-reduced.ensures
+    makes-some _ _ _ c.rows_among-used.ensures (sign-integer _ c.sign_columns-first.ensures (c.put_prices.ensures.rows zeros)) c.start_of-start.ensures.starts (not-false _ c.if-not-start.false) c.start_of-start.ensures.at c.reduce-reduced.ensures

@@ -23,8 +23,8 @@ pub returns-then-i-eq0 : goal.returns-then-i-eq0
 returns-then-i-eq0 c =
     let given = c.requires in
     let row = preferred-row _ _ _ _ _ _ given.1 refl (λ k e. e) c.preferred-i.ensures in record {
-      starts = starts_none _ _ _ _ _ _ (none_first _ _ _ _ _ _ row c.if-i-eq0.true given.0) c.nothing.ensures.whole c.nothing.ensures.chosen.0;
-      at = c.nothing.ensures.chosen.1;
+      starts = starts_none _ _ _ _ _ _ (none_first _ _ _ _ _ _ row c.if-i-eq0.true given.0) c.nothing.ensures.whole c.nothing.ensures.chosen;
+      at = c.nothing.ensures.at;
     }
 
 pub loop-k-init : goal.loop-k-init
@@ -36,8 +36,8 @@ loop-k-init c =
       c.match_ends-2.ensures.size,
       λ ml mr e row.
           begins _ _ _ _ _ _ _ _ _ row (omega (arith, c.if-i-eq0.false)) c.end_at-a.ensures.end c.end_at-b.ensures.end
-          (joined-two _ _ c.match_ends.last.0 c.match_ends.ensures.rows c.match_ends-2.ensures.rows ∙ ap₂ either (ml _) (ml _))
-          (joined-two _ _ c.match_ends-3.last.0 c.match_ends-3.ensures.rows c.match_ends-4.ensures.rows ∙ ap₂ either (mr _) (mr _))
+          (joined-two _ _ c.match_ends.new.x c.match_ends.ensures.rows c.match_ends-2.ensures.rows ∙ ap₂ either (ml _) (ml _))
+          (joined-two _ _ c.match_ends-3.new.x c.match_ends-3.ensures.rows c.match_ends-4.ensures.rows ∙ ap₂ either (mr _) (mr _))
           c.put_row.ensures.rows,
     )
 
@@ -48,8 +48,8 @@ returns-then-j-eq0 c =
     let row = preferred-row _ _ _ _ _ _ given.1 refl (λ k e. e) c.preferred-i.ensures in
     let begun = c.loop-k.invariant.3 given.2 given.3 given.1 row in
     let next = preferred-row _ _ _ _ _ _ given.1 c.xor-crossing.ensures (crossing-row _ _ _ _ _ _ begun) c.preferred-j.ensures in record {
-      starts = starts_none _ _ _ _ _ _ (none-next _ _ _ _ _ _ begun next c.if-j-eq0.true c.loop-k-test.true) c.nothing-then-j-eq0.ensures.whole c.nothing-then-j-eq0.ensures.chosen.0;
-      at = c.nothing-then-j-eq0.ensures.chosen.1;
+      starts = starts_none _ _ _ _ _ _ (none-next _ _ _ _ _ _ begun next c.if-j-eq0.true c.loop-k-test.true) c.nothing-then-j-eq0.ensures.whole c.nothing-then-j-eq0.ensures.chosen;
+      at = c.nothing-then-j-eq0.ensures.at;
     }
 
 pub overflow_add-k : goal.overflow_add-k

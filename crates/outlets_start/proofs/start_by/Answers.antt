@@ -10,23 +10,23 @@ pub returns-then-n-lt2 : goal.returns-then-n-lt2
 unfolding in_words component bit
 returns-then-n-lt2 c =
     let given = c.requires in
-    let at = rows-at-r _ _ _ _ c.match_ends.last.0 (given.0 _) (given.1 _) c.match_ends.ensures.rows c.match_ends-2.ensures.rows in record {
-      starts = starts-small _ _ _ _ _ _ c.if-n-lt2.true c.nothing.ensures.whole c.nothing.ensures.chosen.0;
-      at = c.nothing.ensures.chosen.1 ∙ at;
+    let at = rows-at-r _ _ _ _ c.match_ends.new.x (given.0 _) (given.1 _) c.match_ends.ensures.rows c.match_ends-2.ensures.rows in record {
+      starts = starts-small _ _ _ _ _ _ c.if-n-lt2.true c.nothing.ensures.whole c.nothing.ensures.chosen;
+      at = c.nothing.ensures.at ∙ at;
     }
 
 pub grow-requires : goal.grow-requires
 unfolding in_words component bit
 grow-requires c =
     let given = c.requires in
-    let at = rows-at-r _ _ _ _ c.match_ends.last.0 (given.0 _) (given.1 _) c.match_ends.ensures.rows c.match_ends-2.ensures.rows in
+    let at = rows-at-r _ _ _ _ c.match_ends.new.x (given.0 _) (given.1 _) c.match_ends.ensures.rows c.match_ends-2.ensures.rows in
     (c.if-n-lt2.false, at, given.0, given.1)
 
 pub returns : goal.returns
 unfolding in_words component bit
 returns c =
     let given = c.requires in
-    let at = rows-at-r _ _ _ _ c.match_ends.last.0 (given.0 _) (given.1 _) c.match_ends.ensures.rows c.match_ends-2.ensures.rows in record {
+    let at = rows-at-r _ _ _ _ c.match_ends.new.x (given.0 _) (given.1 _) c.match_ends.ensures.rows c.match_ends-2.ensures.rows in record {
       starts = c.grow.ensures.starts;
       at = c.grow.ensures.at ∙ at;
     }

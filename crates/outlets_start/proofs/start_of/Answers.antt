@@ -12,4 +12,4 @@ start_by-requires c =
     let rows = c.args.rows in
     let few = c.words_for-words.ensures.0 in
     let past = c.words_for-words.ensures.1 in
-    (each-end _ _ rows.words _ (c.put_ends.ensures.last.0 zeros) few past, each-end _ _ rows.words _ (c.put_ends-2.ensures.last.0 zeros) few past)
+    (each-end _ _ rows.words _ (c.put_ends.ensures.last zeros) few past, each-end _ _ rows.words _ (c.put_ends-2.ensures.last zeros) few past)

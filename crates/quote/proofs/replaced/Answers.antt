@@ -8,7 +8,8 @@ pub returns : goal.returns
 returns c =
     let a = c.args in
     let p = c.requires in
-    let (same, sized) = c.copied-prices.ensures in record {
+    let same = c.copied-prices.ensures.by_index in
+    let sized = c.copied-prices.ensures.sized in record {
       by_index = replaced-rows a.weight.now c.copied-prices.result.bytes sized same a.row a.price p.1 p.2 (omega arith);
       sized = replaced-length a.weight.now c.copied-prices.result.bytes sized same a.row a.price p.1 p.2 (omega arith);
     }
