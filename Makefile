@@ -120,10 +120,10 @@ programs: $(READSTP) $(DIGLIST) $(VERDICT)
 # The proved functions of the two programs, and a few lines of C that end with the status that they give.
 $(READSTP) $(DIGLIST): $(BUILD)/%: programs/run.c $(RUNS)
 	@mkdir -p $(BUILD)
-	$(CC) -std=c99 $(CFLAGS) -DPROGRAM=star_run_$* -o $@ $< $(RUNS) $(KIT)/lib/libos_c.a
+	$(CC) -std=c99 $(CFLAGS) -DPROGRAM=star_run_$* -o $@ $< $(RUNS) $(KIT)/c/libos_c.a
 $(VERDICT): programs/verdict.c $(JUDGES)
 	@mkdir -p $(BUILD)
-	$(CC) -std=c99 $(CFLAGS) -o $@ $< $(JUDGES) $(KIT)/lib/libos_c.a
+	$(CC) -std=c99 $(CFLAGS) -o $@ $< $(JUDGES) $(KIT)/c/libos_c.a
 
 # The part of the library that is written in C: one object, whose global names are those of the header. It is position-independent on purpose, as the
 # proved objects are: the static and the shared library have the same objects.

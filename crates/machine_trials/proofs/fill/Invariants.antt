@@ -1,9 +1,5 @@
--- `machine_trials::fill` meets its contract: the column keeps its length. Assumes nothing.
-use borrow.Author.Rules.{rules}
-use Prim.Native.Nat.{◌-◌}
-use native.Mathlib.Omega.{arith}
-use mathlib.Core.Path.{◌≡◌}
-use lib.ListN.{length, length-set}
+-- The column keeps its length.
+use Rattle.std.proofs.Common.{length, ◌-◌, ◌≡◌}
 use Rattle.machine_trials.proofs.fill.Given as goal
 
 abbrev pub invariant-loop-i : goal.invariant-loop-i

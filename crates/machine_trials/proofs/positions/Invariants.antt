@@ -1,10 +1,9 @@
--- `machine_trials::positions` meets its contract: the count rises to at most 1,024. Assumes nothing.
-use borrow.Author.Rules.{rules}
-use Prim.Native.Nat.{◌≤◌, ◌-◌}
+-- The count rises to at most 1,024.
+use Rattle.std.proofs.Common.{◌≤◌, ◌-◌}
 use Rattle.machine_trials.proofs.positions.Given as goal
 
 abbrev pub invariant-loop-n : goal.invariant-loop-n
-invariant-loop-n l = l.n ≤ 1024
+invariant-loop-n g l = l.n ≤ 1024
 
 abbrev pub decreases-loop-n : goal.decreases-loop-n
-decreases-loop-n l = 1024 - l.n
+decreases-loop-n g l = 1024 - l.n

@@ -1,8 +1,5 @@
--- `machine_trials::rows_right` meets its contract: as many rows are right as were passed, at most. Assumes nothing.
-use borrow.Author.Rules.{rules}
-use Prim.Native.Nat.{◌≤◌, ◌-◌}
-use native.Mathlib.Omega.{arith}
-use mathlib.Core.Logic.{⊎_elim}
+-- As many rows are right as were passed, at most.
+use Rattle.std.proofs.Common.{◌≤◌, ◌-◌}
 use Rattle.machine_trials.proofs.rows_right.Given as goal
 
 abbrev pub invariant-loop-i : goal.invariant-loop-i

@@ -1,6 +1,5 @@
--- `machine_trials::six` meets its contract: the position rises to 7. Assumes nothing.
-use borrow.Author.Rules.{rules}
-use Prim.Native.Nat.{◌≤◌, ◌-◌}
+-- The position rises to 7.
+use Rattle.std.proofs.Common.{◌≤◌, ◌-◌}
 use Rattle.machine_trials.proofs.six.Given as goal
 
 abbrev pub invariant-loop-i : goal.invariant-loop-i

@@ -1,9 +1,5 @@
--- `star_trials::sevens` meets its contract: at most as many as were passed. Assumes nothing.
-use borrow.Author.Rules.{rules}
-use Prim.Native.Nat.{◌≤◌, ◌-◌}
-use native.Mathlib.Omega.{arith}
-use lib.ListN.{length}
-use mathlib.Core.Logic.{⊎_elim}
+-- At most as many words are counted as were passed.
+use Rattle.std.proofs.Common.{length, ◌-◌, ◌≤◌}
 use Rattle.star_trials.proofs.sevens.Given as goal
 
 abbrev pub invariant-loop-i : goal.invariant-loop-i
