@@ -10,7 +10,7 @@ use Rattle.groups_door.proofs.star_work_groups.Goals as goal
 pub returns-then-not-well_lent : goal.returns-then-not-well_lent
 unfolding door_returns answer_after groups_door groups_door_groups groups_door_rings
 returns-then-not-well_lent c =
-    let ill = sym c.well_lent.ensures ∙ c.if-not-well_lent.true in let told = groups-call (rw ill (refl, (refl, refl, refl))) in record { returned = told.0; written = told.1; means = told.2 }
+    let ill = sym c.well_lent.ensures ∙ c.if-not-well_lent.true in let told = groups-call (rw ill (refl, (refl, refl, refl))) in record { returned = told.0; written = told.1.0; means = told.1.1 }
 
 pub returns : goal.returns
 unfolding door_returns groups_door groups_door_groups groups_door_rings
@@ -18,4 +18,4 @@ returns c =
     let well = sym c.well_lent.ensures ∙ c.if-not-well_lent.false in
     let ((rows, whole), used) = c.working-used.ensures in
     let (answer, groups, rings) = rw (rows, whole, used) at c.groups-told.ensures in let told = groups-call
-    (rw well (refl, (c.write_answer.ensures ∙ ap (answer_after _) (c.of_groups-x.ensures ∙ ap groups_fields answer), groups, rings))) in record { returned = told.0; written = told.1; means = told.2 }
+    (rw well (refl, (c.write_answer.ensures ∙ ap (answer_after _) (c.of_groups-x.ensures ∙ ap groups_fields answer), groups, rings))) in record { returned = told.0; written = told.1.0; means = told.1.1 }

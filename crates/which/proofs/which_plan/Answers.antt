@@ -10,4 +10,4 @@ unfolding handed_back
 returns c =
     let table = c.plain-plain.ensures in
     let (number, bytes) = rw (table.rows.0, table.rows.1, table.used) at c.which-k.ensures in
-    let (plan, rest) = plan-call (c.plan_of.ensures.plan ∙ ap (plan_of _ _) number, bytes) in let told = (plan, (c.plan_of.ensures.start ∙ ap (start_of _ _) number, rest)) in record { plan = told.0; start = told.1; written = told.2; means = told.3 }
+    let (plan, rest) = plan-call (c.plan_of.ensures.plan ∙ ap (plan_of _ _) number, bytes) in let told = (plan, (c.plan_of.ensures.start ∙ ap (start_of _ _) number, rest)) in record { plan = told.0; start = told.1.0; written = told.1.1.0; means = told.1.1.1 }

@@ -9,13 +9,13 @@ use Rattle.digs_door.proofs.digs_text_door.star_digs_text.Goals as goal
 
 pub returns-then-not-well_lent : goal.returns-then-not-well_lent
 returns-then-not-well_lent c =
-     let told = digs-text-call (no_answer _ _ _ _ (sym c.well_lent.ensures ∙ c.if-not-well_lent.true)) in record { returned = told.0; answered = told.1; listed = told.2; means = told.3 }
+     let told = digs-text-call (no_answer _ _ _ _ (sym c.well_lent.ensures ∙ c.if-not-well_lent.true)) in record { returned = told.0; answered = told.1.0; listed = told.1.1.0; means = told.1.1.1 }
 
 pub returns-then-text-lt-LIST_BYTES : goal.returns-then-text-lt-LIST_BYTES
 returns-then-text-lt-LIST_BYTES c =
-     let told = digs-text-call (no_room _ _ _ _ (omega (arith, c.if-text-lt-LIST_BYTES.true))) in record { returned = told.0; answered = told.1; listed = told.2; means = told.3 }
+     let told = digs-text-call (no_room _ _ _ _ (omega (arith, c.if-text-lt-LIST_BYTES.true))) in record { returned = told.0; answered = told.1.0; listed = told.1.1.0; means = told.1.1.1 }
 
 pub returns : goal.returns
 returns c =
      let told = digs-text-call
-    (stp-told _ _ _ _ (sym c.well_lent.ensures ∙ c.if-not-well_lent.false) (omega (arith, c.if-text-lt-LIST_BYTES.false)) _ c.text_list-list.ensures c.write_answer.ensures c.of_text_list-x.ensures) in record { returned = told.0; answered = told.1; listed = told.2; means = told.3 }
+    (stp-told _ _ _ _ (sym c.well_lent.ensures ∙ c.if-not-well_lent.false) (omega (arith, c.if-text-lt-LIST_BYTES.false)) _ c.text_list-list.ensures c.write_answer.ensures c.of_text_list-x.ensures) in record { returned = told.0; answered = told.1.0; listed = told.1.1.0; means = told.1.1.1 }

@@ -10,10 +10,10 @@ use Rattle.stp_door.proofs.import_door.star_import.Goals as goal
 pub returns-then-not-well_lent : goal.returns-then-not-well_lent
 unfolding door_returns answer_after import_door left_door right_door weight_door
 returns-then-not-well_lent c =
-    let ill = sym c.well_lent.ensures ∙ c.if-not-well_lent.true in let told = import-call (rw ill (refl, (refl, (refl, (refl, refl))))) in record { returned = told.0; answered = told.1; lefts = told.2; rights = told.3; weights = told.4; means = told.5 }
+    let ill = sym c.well_lent.ensures ∙ c.if-not-well_lent.true in let told = import-call (rw ill (refl, (refl, (refl, (refl, refl))))) in record { returned = told.0; answered = told.1.0; lefts = told.1.1.0; rights = told.1.1.1.0; weights = told.1.1.1.1.0; means = told.1.1.1.1.1 }
 
 pub returns : goal.returns
 unfolding door_returns import_door left_door right_door weight_door
 returns c =
     let well = sym c.well_lent.ensures ∙ c.if-not-well_lent.false in
-    let (answer, left) = c.import-i.ensures in let told = import-call (rw well (refl, (c.write_answer.ensures ∙ ap (answer_after _) (c.of_imported-x.ensures ∙ ap import_fields answer), left))) in record { returned = told.0; answered = told.1; lefts = told.2; rights = told.3; weights = told.4; means = told.5 }
+    let (answer, left) = c.import-i.ensures in let told = import-call (rw well (refl, (c.write_answer.ensures ∙ ap (answer_after _) (c.of_imported-x.ensures ∙ ap import_fields answer), left))) in record { returned = told.0; answered = told.1.0; lefts = told.1.1.0; rights = told.1.1.1.0; weights = told.1.1.1.1.0; means = told.1.1.1.1.1 }

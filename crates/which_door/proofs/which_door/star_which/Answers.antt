@@ -5,4 +5,4 @@ use Rattle.which_door.proofs.which_door.star_which.Goals as goal
 
 pub returns : goal.returns
 returns c =
-    let table = c.plain-plain.ensures in let told = which-call (rw (table.rows.0, table.rows.1, table.used) at c.which.ensures) in record { returned = told.0; answered = told.1; means = told.2 }
+    let table = c.plain-plain.ensures in let told = which-call (rw (table.rows.0, table.rows.1, table.used) at c.which.ensures) in record { returned = told.0; answered = told.1.0; means = told.1.1 }
