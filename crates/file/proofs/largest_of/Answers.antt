@@ -14,7 +14,7 @@ loop-k-init c = (omega arith, largest-start _)
 pub loop-k-preserved : goal.loop-k-preserved
 loop-k-preserved c =
     let l = c.loop-k in
-    (omega arith, largest-turn _ l.k l.most _ (omega arith) (rw c.number_of_lem.ensures at c.larger-most.ensures) l.invariant.1)
+    (omega arith, largest-turn _ l.k l.most _ (omega arith) (rw c.number_of.ensures at c.larger-most.ensures) l.invariant.1)
 
 pub returns : goal.returns
 returns c = let l = c.loop-k in largest-end _ l.k l.most (omega arith) l.invariant.1

@@ -22,7 +22,7 @@ read_text-s-requires c =
 pub settle-requires : goal.settle-requires
 unfolding wrong_lent
 settle-requires c =
-    let r = c.read_text-s.ensures in record { sized = r.sized.0; few = λ b. let o = r.sized.1 b in (o.few-names, o.few-rows); lent = fitting _ (sym c.wrong_sizes.ensures ∙ c.if-wrong_sizes.false) }
+    let r = c.read_text-s.ensures in record { sized = r.sized; few = λ b. let o = r.sound b in (o.few-names, o.few-rows); lent = fitting _ (sym c.wrong_sizes.ensures ∙ c.if-wrong_sizes.false) }
 
 pub returns : goal.returns
 unfolding wrong_lent
@@ -31,5 +31,5 @@ returns c =
     let e = sym c.wrong_sizes.ensures ∙ c.if-wrong_sizes.false in
     let s = c.settle.ensures in record {
       answer = s.answer _ ∙ right_answer _ _ _ e r.text_value;
-      lent = s.lent _ r.sized.1 ∙ right-lent _ _ _ e r.text_value;
+      lent = s.lent _ r.sound ∙ right-lent _ _ _ e r.text_value;
     }

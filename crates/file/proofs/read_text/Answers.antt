@@ -12,11 +12,11 @@ use Rattle.file.proofs.read_text.Goals as goal
 
 pub returns-then-text-gt-MAX_TEXT : goal.returns-then-text-gt-MAX_TEXT
 returns-then-text-gt-MAX_TEXT c =
-    let p = c.requires in record { text_value = too_long _ c.if-text-gt-MAX_TEXT.true ∙ told-broken _ _ c.too_long.ensures; sized = p.sized.0; sound = λ b. never-read _ c.too_long.ensures b }
+    let p = c.requires in record { text_value = too_long _ c.if-text-gt-MAX_TEXT.true ∙ told-broken _ _ c.too_long.ensures; sized = p.sized; sound = λ b. never-read _ c.too_long.ensures b }
 
 pub read_lines-requires : goal.read_lines-requires
 read_lines-requires c =
-    let p = c.requires in record { text_len_bound = (c.if-text-gt-MAX_TEXT.false, c.body_at-from.ensures.1); sized = p.sized.0; sound = p.sized.1 }
+    let p = c.requires in record { text_len_bound = (c.if-text-gt-MAX_TEXT.false, c.body_at-from.ensures.1); sized = p.sized; sound = p.sound }
 
 pub returns : goal.returns
 returns c =
@@ -24,4 +24,4 @@ returns c =
     let b = c.body_at-from.ensures in
     let r = c.read_lines.ensures in
     let text = c.args.text.now in
-    let at = c.body_at-from.result in let told = (taken-whole _ _ c.if-text-gt-MAX_TEXT.false b.0 b.1 ∙ ap (λ (x : Read). read_lines x (lines at (part text at (length text)))) (sym p.rows_value) ∙ r.text_value, r.sized) in record { text_value = told.0; sized = told.1; sound = told.2 }
+    let at = c.body_at-from.result in record { text_value = taken-whole _ _ c.if-text-gt-MAX_TEXT.false b.0 b.1 ∙ ap (λ (x : Read). read_lines x (lines at (part text at (length text)))) (sym p.rows_value) ∙ r.text_value; sized = r.sized; sound = r.sound }

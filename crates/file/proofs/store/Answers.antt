@@ -27,4 +27,4 @@ unfolding stored
 returns c =
     let r = c.store_rows.ensures in
     let q = c.store_places.ensures in
-    lent_same r.ends r.others.0 r.others.1.0 r.others.1.1 c.store_in_use.ensures q.first q.last.0 q.last.1
+    lent_same r.ends r.others r.prices r.marked c.store_in_use.ensures q.first q.last q.lines
