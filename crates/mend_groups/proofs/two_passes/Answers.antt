@@ -26,4 +26,5 @@ join_groups-requires c =
 
 pub returns : goal.returns
 returns c =
-     let told = rw c.row_count-rows.ensures at c.join_groups.ensures in record { marks = told.0; count = told.1; list = told.2; few = told.3 }
+    let told = rw c.row_count-rows.ensures at c.join_groups.ensures in
+    record { marks = told.marks; count = told.count; list = told.list; few = told.few }
