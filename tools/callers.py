@@ -8,19 +8,19 @@ import re
 import sys
 
 FUNCTION = re.compile(r'extern "C" fn (\w+)\(([^)]*)\)')
-ARGUMENT = re.compile(r'\s*\w+: (?:&(mut )?\[(\w+)\]|\w+)\s*')
+ARGUMENT = re.compile(r'\s*(?:mut )?\w+: (?:&(mut )?\[(\w+)\]|(Std\w+)|\w+)\s*')
 
 
 def caller(name, arguments):
     """It stands where the types of the arguments have their names."""
     lines, passed = [], []
     for number, argument in enumerate(filter(str.strip, arguments.split(','))):
-        mutable, item = ARGUMENT.fullmatch(argument).groups()
-        passed.append(f"&{mutable or ''}a{number}" if item else '0')
+        mutable, item, stream = ARGUMENT.fullmatch(argument).groups('')
+        passed.append(f'&{mutable}a{number}' if item else f'rt.{stream.lower()}()' if stream else '0')
         if item:
-            lines.append(f"    let {mutable or ''}a{number}: [{item}; 0] = [];")
+            lines.append(f'    let {mutable}a{number}: [{item}; 0] = [];')
     lines.append(f"    let _r = {name}({', '.join(passed)});")
-    return '\n'.join([f'\npub fn call_{name}() {{'] + lines + ['}\n'])
+    return '\n'.join([f'\npub fn call_{name}(rt: &HostRuntime) {{'] + lines + ['}\n'])
 
 
 def main(crate, folder):
@@ -33,7 +33,7 @@ def main(crate, folder):
                 file.writelines(caller(*function) for function in found)
             place = '::'.join([crate] + [word for word in inside if word not in ('lib', 'mod')])
             for function, _ in found:
-                print(f'    {place}::call_{function}();')
+                print(f'    {place}::call_{function}(&rt);')
 
 
 if __name__ == '__main__':
