@@ -1,5 +1,5 @@
 # make help      this list
-# make run       compiles the console without proving it, says whether crates.sum has it, and checks the yard
+# make run       compiles the console without proving it, says so, and checks the yard
 # make           the same library and console, the shared library, and the programs readstp, diglist and verdict
 # make prove     proves every crate here, with how far it is, and builds all over the proved archives
 # make page      target/c/star.html, a page to try plans on (node, clang with WebAssembly)
@@ -8,7 +8,7 @@
 # make install PREFIX=DIR     header, libraries, console, manual pages, star.pc, a CMake package; the same holds
 # make uninstall PREFIX=DIR   removes these files
 # make console   the C anew over the archives that are there
-# make test      the whole gate: proofs, must-fail edits, programs, the record, tests from outside
+# make test      the whole gate: rt ci (proofs, must-fail edits, programs), the record, tests from outside
 # make edits     the wrong programs alone, after make prove
 # make outside   the tests from outside alone
 # make backends  random calls of every door, compiled in four ways, as WebAssembly among them
@@ -18,7 +18,7 @@
 # make counts    the instructions of each call of the bench, by callgrind
 # make tasks     ten tasks with the library, networkx and LEMON, side by side: lines and microseconds
 # make format    the C in the format of .clang-format
-# make format-check   whether it is, and the crates by rt fmt
+# make format-check   whether it is (rt ci refuses crates that rt fmt would lay out otherwise)
 # make sums      writes crates.sum, the record of the gate, anew from the proved archives
 # make manual    what the manual page and the documents have from the table of commands (console/pages.c)
 # make documents the same, what the documents' examples print, and their pictures
@@ -46,23 +46,27 @@ RUNS := $(OBJECTS)/libprograms_door.a
 # The program that reads a table file there, and the archive of its function.
 VERDICT := $(BUILD)/verdict
 JUDGES := $(OBJECTS)/libverdict_program.a
+# All crates with functions for C.
+EXPORTS := $(DOORS) programs_door verdict_program
+# Whether the gate began in a checkout that had no proofs.
+FRESH ?= old
 # The kit, for the C that its library os asks for: the words of an error.
 KIT = $(shell sh tools/kit.sh)
 VERSION := $(shell sed -n 's/^\#define STAR_VERSION "\(.*\)"/\1/p' include/star.h)
 
 all: $(BUILD)/star programs tell
 
-# Compiles the archives of some crates without a proof, several at once, and keeps the kit's identity beside them.
+# Compiles the archives of some crates without a proof, and keeps the kit's identity beside them.
 define COMPILE
 @mkdir -p $(OBJECTS); sh tools/kit.sh --id >$(OBJECTS)/kit
-@echo "compiling without a proof, $(JOBS) at a time: $(1)"
-@printf '%s\n' $(1) | xargs -P $(JOBS) -I CRATE sh tools/compile.sh CRATE $(OBJECTS)/libCRATE.a
+@echo "compiling without a proof, in a minute: $(1)"
+@sh tools/compile.sh $(OBJECTS) $(1)
 endef
 
 # Where the archives are taken as they are, none is compiled that is there: no kit is needed then.
 TAKEN := console checked install uninstall manual help format format-check
 ifneq ($(filter-out $(TAKEN),$(or $(MAKECMDGOALS),all)),)
-SOURCES := crates.txt tools/compile.sh $(wildcard $(shell sh tools/kit.sh 2>/dev/null)/KIT-ID) $(sort $(shell find crates -path '*/src/*' -name '*.rt'))
+SOURCES := crates.txt tools/compile.sh tools/callers.py $(wildcard $(shell sh tools/kit.sh 2>/dev/null)/KIT-ID) $(sort $(shell find crates -path '*/src/*' -name '*.rt'))
 endif
 
 $(OBJECTS)/doors: $(SOURCES)
@@ -70,7 +74,7 @@ $(OBJECTS)/doors: $(SOURCES)
 	$(call COMPILE,$(DOORS))
 	@mv $@.new $@
 $(ARCHIVES): $(OBJECTS)/doors
-	@[ -e $@ ] || sh tools/compile.sh $(@:$(OBJECTS)/lib%.a=%) $@
+	@[ -e $@ ] || sh tools/compile.sh $(OBJECTS) $(@:$(OBJECTS)/lib%.a=%)
 $(RUNS): $(SOURCES)
 	$(call COMPILE,programs_door)
 $(JUDGES): $(SOURCES)
@@ -97,18 +101,22 @@ prove:
 
 # The record anew: proves what has changed, then takes the sources and the code of the proved archives.
 sums:
-	$(PYTHON) tools/prove.py $(DOORS) programs_door verdict_program
-	$(PYTHON) tools/record.py write target/staticlib crates.sum $(DOORS) programs_door verdict_program
+	$(PYTHON) tools/prove.py $(EXPORTS)
+	$(PYTHON) tools/record.py write $(OBJECTS) crates.sum $(EXPORTS)
 
-# The proofs of the gate, and the record held against the archives from the proved code.
-proofs:
-	$(PYTHON) tools/prove.py --gate $(DOORS) programs_door verdict_program
+# The gate: after rt ci the archives from the proved code, and the record held against them.
+archives:
+	$(PYTHON) tools/prove.py --gate $(FRESH) $(EXPORTS)
 recorded:
-	$(PYTHON) tools/record.py check target/staticlib $(DOORS) programs_door verdict_program
+	$(PYTHON) tools/record.py check $(OBJECTS) $(EXPORTS)
+
+# The crates of these that crates.txt does not list.
+absent:
+	@echo $(filter-out $(shell sed 's/[ :\#].*//' crates.txt),$(EXPORTS))
 
 # The wrong programs and wrong definitions, each of which the prover has to refuse.
 edits:
-	$(PYTHON) tools/edits.py
+	rt must-fail
 
 console: $(BUILD)/star
 
@@ -238,4 +246,4 @@ clean:
 -include library.mk page.mk backends.mk fuzz.mk
 install-library: checked
 
-.PHONY: help all tell checked prove sums proofs recorded edits console programs manual documents run test outside outside-built bench counts install uninstall clean
+.PHONY: help all tell checked prove sums archives recorded absent edits console programs manual documents run test outside outside-built bench counts install uninstall clean

@@ -11,8 +11,8 @@ $(BACKENDS)/doors.c: tests/backends/doors.py include/star.h
 	@mkdir -p $(BACKENDS)
 	$(PYTHON) tests/backends/doors.py include/star.h $@
 
-$(BACKENDS)/libstar-O0.so: tests/backends/compile.sh tools/keeping.sh $(SOURCES)
-	sh tests/backends/compile.sh $(BACKENDS) $(DOORS)
+$(BACKENDS)/libstar-O0.so: tests/backends/compile.sh tools/compile.sh $(ARCHIVES)
+	sh tests/backends/compile.sh $(BACKENDS) $(OBJECTS) $(DOORS)
 $(BACKENDS)/libstar-checked.so: $(BACKENDS)/libstar-O0.so
 
 CALLING = $(CC) -std=c99 $(CFLAGS) -Iinclude -Itests -Itests/backends -o $@

@@ -6,8 +6,8 @@ CORPORA := $(CURDIR)/tests/fuzz/corpus
 FUZZ_NEEDS := $(wildcard tests/fuzz/*.[ch] tests/fuzz/*.sh) $(CONSOLE) $(wildcard include/*.c)
 FUZZ_NEEDS += $(wildcard console/*.h include/*.h) $(ARCHIVE)
 
-$(FUZZ)/commands: $(FUZZ_NEEDS) tools/keeping.sh
-	sh tests/fuzz/compile.sh $(FUZZ) $(ARCHIVE)
+$(FUZZ)/commands: $(FUZZ_NEEDS)
+	sh tests/fuzz/compile.sh $(FUZZ) $(ARCHIVE) $(OBJECTS)
 $(FUZZ)/commands-replay: $(FUZZ_NEEDS)
 	CC='$(CC)' sh tests/fuzz/replays.sh $(FUZZ) $(ARCHIVE)
 

@@ -1,20 +1,16 @@
 #!/bin/sh
 # The doors as one WebAssembly module (32 bit), by the kit's own compiler and linker.
-# usage: page/module.sh OUT.wasm CRATE..   in the repository's root; CRATE is a door's crate.
+# usage: page/module.sh OUT.wasm OBJECTS CRATE..   in the repository's root; CRATE is a door's crate.
 #
-# The kit's compiler hands LLVM code to clang for this machine. A clang that keeps what it is
-# handed stands in its place; what was kept is compiled once more, for WebAssembly. No proof is
-# made here: the module is held to the proved library by tests/backends/run.sh.
+# The kit's compiler hands LLVM code to clang for this machine. What was kept of that beside the
+# archives, OBJECTS/CRATE.bc, is compiled once more, for WebAssembly. No proof is made here: the
+# module is held to the proved library by tests/backends/run.sh.
 set -eu
-out=$1
-shift
-kit=$(sh tools/kit.sh)
-arch=$(uname -m)
-clang=$kit/on/$arch/toolchain/bin/clang
+out=$1 from=$2
+shift 2
+clang=$(sh tools/kit.sh)/toolchain/bin/clang
 work=$(mktemp -d)
 trap 'rm -rf "$work"' EXIT
-
-sh tools/keeping.sh "$work"
 ln -s "$clang" "$work/wasm-ld"
 
 wasm="--target=wasm32-unknown-unknown"
@@ -26,10 +22,11 @@ retarget() {
         -Xclang -disable-llvm-passes -o - |
         sed -e "s|^target datalayout.*|$layout|" \
             -e 's|^target triple.*|target triple = "wasm32-unknown-unknown"|' \
-            -e 's| "probe-stack"="inline-asm" "target-cpu"="x86-64"||'
+            -e 's|ptrtoaddr ptr|ptrtoint ptr|' \
+            -e 's| "probe-stack"="inline-asm" "stack-probe-size"="[0-9]*" "target-cpu"="[^"]*"||'
 }
 
-objects=$work/star.o
+objects="$work/star.o $work/multi3.o"
 # The layout of the console's pictures: multiplications and additions are rounded one by one, as
 # the console's are.
 for part in places shapes bends coordinates; do
@@ -39,16 +36,16 @@ for part in places shapes bends coordinates; do
 done
 "$clang" $wasm -O2 -ffreestanding -isystem page/freestanding -Iinclude -c include/star.c \
     -o "$work/star.o"
+# With no optimisation, which would make a call of itself of it.
+"$clang" $wasm -O0 -ffreestanding -c page/freestanding/multi3.c -o "$work/multi3.o"
 # For size, but for the readers of STP texts, which call each other once a section: with more calls
 # and frames than -O2 leaves, the deepest text does not fit a browser's stack.
 for crate; do
     level=-Oz
     case $crate in stp_door | digs_door) level=-O2 ;; esac
-    RATTLE_HOME=$work/kit sh tools/compile.sh "$crate" "$work/$crate.a"
-    retarget "$work/kept1.bc" >"$work/$crate.ll"
+    retarget "$from/$crate.bc" >"$work/$crate.ll"
     "$clang" $wasm $level -Werror -x ir -c "$work/$crate.ll" -o "$work/$crate.o"
     objects="$objects $work/$crate.o"
-    rm "$work/kept1.bc"
 done
 
 # Every function that the header declares: one that no crate has fails the link.

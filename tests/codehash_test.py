@@ -66,7 +66,7 @@ def constants(trial):
             if 0 < symbol.section < codehash.RESERVED:
                 target = trial.object.sections[symbol.section]
                 if target.flags & codehash.MERGED:
-                    used[target.offset + symbol.value] = target.entry
+                    used[target.offset + symbol.value] = symbol.size or target.entry
     for offset, size in used.items():
         for at in (0, size - 1):
             trial.differs('a constant', offset + at, trial.flip(offset + at))
@@ -119,7 +119,8 @@ def other_sections(trial):
         if section.name == '.note.GNU-stack':
             trial.differs('a stack that runs', at + 8, struct.pack('<Q', 4))
         if section.flags & codehash.LOADED and section.size and section.type == 1:
-            trial.differs(f'the alignment of {section.name}', at + 48, struct.pack('<Q', 1))
+            trial.differs(f'the alignment of {section.name}', at + 48,
+                          struct.pack('<Q', 2 if section.align == 1 else 1))
             trial.differs(f'the flags of {section.name}', at + 8,
                           struct.pack('<Q', section.flags | 1))
         if section.name == '.comment':

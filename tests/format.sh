@@ -1,5 +1,6 @@
 #!/usr/bin/env bash
-# The format of the sources: the C by .clang-format, within its columns; the crates by rt fmt.
+# The format of the sources: the C by .clang-format, within its columns. rt ci refuses a crate that
+# is not in the layout of rt fmt.
 # usage: format.sh   Ends in one line 'N passed, M failed'.
 set -u
 cd "$(dirname "$0")/.."
@@ -23,7 +24,6 @@ holds "wider than $columns columns" awk -v most="$columns" 'length > most { prin
 if [[ $(clang-format --version 2>&1) =~ version\ $version\. ]]; then holds clang-format clang-format --dry-run -Werror "${files[@]}"; else
     echo "format: the C is not checked, skipped: no clang-format $version"
 fi
-if command -v rt >/dev/null; then holds 'rt fmt' rt fmt --check; else echo 'format: the crates are not checked, skipped: no rt'; fi
 
 echo "$passed passed, $failed failed"
 [ "$failed" = 0 ]

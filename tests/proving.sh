@@ -1,153 +1,168 @@
 #!/usr/bin/env bash
-# Tests of make prove and of the gate, with an rt that proves nothing: what is asked of it and in
-# which order, how far a run is, what a failure does.
+# Tests of make prove and of the gate, with an rt and a compiler that prove nothing: what is asked of
+# them, how far a run is, what a failure does.
 # usage: proving.sh   Ends in one line 'N passed, M failed'.
 . "$(dirname "$0")/copied.sh"
 kit=$(sh tools/kit.sh)
-crates=$(grep -c '^[a-z0-9_]*:' crates.txt)
+crates=$(sed 's/#.*//' crates.txt | grep -c .)
 export BUILT=$PWD/target/objects PROVING=$at
+read -ra doors < <(sed -n 's/^DOORS := //p' Makefile)
+exports=("${doors[@]}" programs_door verdict_program)
 
-# An rt that writes the crates that it is asked for into the file asked.
-mkdir "$work/rt"
+# An rt that writes what it is asked for into the file asked; a compiler that takes the archives that
+# are here, and hands clang a module of no code.
+mkdir -p "$work/rt" "$work/kit/bin"
+for part in "$kit"/*; do [ "${part##*/}" = bin ] || ln -s "$part" "$work/kit"; done
 cat >"$work/rt/rt" <<'TEXT'
 #!/bin/sh
-case $1 in
+[ "$1" = version ] || echo "$*" >>"$PROVING/asked"
+listed() { sed 's/#.*//' crates.txt | sed -n 's/^\([a-z0-9_][a-z0-9_]*\).*/\1/p'; }
+case $* in
 version) sed -n 's/^kit //p' "$PROVING/crates.sum" ;;
-check)
-    shift
-    for crate in "$@"; do
-        echo "$crate" >>"$PROVING/asked"
-        echo "fn $crate::a: proved"
-        if [ -e "$PROVING/fault" ]; then
-            echo "lib.rt:1: error: no proof"
-            echo "rt: $crate NOT PROVED (exit 1, 1 s)"
-            exit 1
-        fi
-        echo proved >"target/stamp/$crate"
-        echo "rt: $crate proved (12 s)"
-    done
-    ;;
-staticlib)
-    echo "$2" >>"$PROVING/asked"
-    cp "$BUILT/lib$2.a" target/staticlib/
+'all check --jobs '* | ci)
+    for crate in $(listed); do printf '== %s\nfn %s::a: proved\n' "$crate" "$crate"; done
+    if [ -e "$PROVING/fault" ]; then
+        echo "rowset/src/lib.rt:1: error: no proof"
+        echo "rt: FAILED: rowset"
+        echo "$(($(listed | wc -l) + 99)) passed, 1 failed"
+        exit 1
+    fi
+    echo "rt: must-fail slice/a.edit: refused, as it must be: note"
+    echo "rt: rowset ran, and wrote what its file stdout has"
+    echo "rt: ok; handles allowed: none; must-fail edits: 100 refused$(cat "$PROVING/bad" 2>&1 | grep ,)"
+    echo "$(($(listed | wc -l) + 100)) passed, 0 failed"
     ;;
 esac
 TEXT
-chmod +x "$work/rt/rt"
-prove() {
+cat >"$work/kit/bin/rattle" <<'TEXT'
+#!/bin/sh
+name=$3
+while [ $# != 0 ]; do
+    case $1 in
+    --toolchain) cd "$2" ;;
+    -o) to=$2 ;;
+    esac
+    shift
+done
+echo "$name" >>"$PROVING/written"
+: >../kept1.bc
+cp "$BUILT/lib$name.a" "$to"
+TEXT
+chmod +x "$work/rt/rt" "$work/kit/bin/rattle"
+export RT_JOBS=2
+asked() { # COMMAND..: runs it in the copy, with this rt and this kit
     : >"$at/asked"
-    (cd "$at" && PATH="$work/rt:$PATH" RATTLE_HOME=$kit make -s prove) >"$work/said" 2>&1
+    : >"$at/written"
+    (cd "$at" && PATH="$work/rt:$PATH" RATTLE_HOME=$work/kit "$@") >"$work/said" 2>&1
 }
-below() { # CRATE: the crates that it names stand above it in the file asked
-    local line name above
-    line=$(grep -nx "$1" "$at/asked" | cut -d: -f1)
-    for name in $(sed -n "s/^$1: *//p" crates.txt); do
-        above=$(grep -nx "$name" "$at/asked" | cut -d: -f1)
-        [ ! -d "crates/$name" ] || [ "$above" -lt "$line" ] || return 1
-    done
-}
-doors_asked() { grep 'door$' "$at/asked" | sort -u | paste -sd ' '; }
+last() { tail -n 1 "$work/said"; }
+written() { sort "$at/written" | paste -sd ' '; }
+sorted() { printf '%s\n' "$@" | sort | paste -sd ' '; }
 
-# Each crate once, what it needs before it. Then all is proved here, whatever the record says.
+# Every crate, and then each archive of a door once. Then all is proved here, whatever the record says.
 printf ' ' >>"$at/crates/slice/src/lib.rt"
 touch "$at/target/objects/doors" "$at"/target/objects/*.a
-prove
+asked make -s prove
 holds 'prove: ends' [ $? = 0 ]
-holds 'prove: how far' says "^rowset ([0-9]* s): [0-9]* of $crates crates, some [0-9]* minutes* left$"
+holds 'prove: how far' says "^rowset: [0-9]* of $crates crates$"
 holds 'prove: all' says "$crates of $crates crates"
-holds 'prove: none twice' [ -z "$(sort "$at/asked" | uniq -d)" ]
-listed=$(sed -n 's/^\([a-z0-9_]*\):.*/\1/p' crates.txt | sort)
-holds 'prove: every crate' [ "$(sort -u "$at/asked")" = "$listed" ]
-for crate in slice search mst1 quote mend cst_door outlets_door; do
-    holds "prove: below $crate" below "$crate"
-done
+holds 'prove: by rt' [ "$(cat "$at/asked")" = 'all check --jobs 2' ]
+holds 'prove: each archive' [ "$(written)" = "$(sorted "${doors[@]}")" ]
+holds 'prove: its module' [ -e "$at/target/objects/cst_door.bc" ]
 holds 'prove: no log on the screen' fails says '^fn '
 holds 'prove: the log' grep -qx 'fn rowset::a: proved' "$at/target/make-prove.log"
 holds 'prove: told' says 'the core is proved here, with this kit'
 made install "PREFIX=$work/proved"
 holds 'install: proved here' says 'is proved here, with this kit'
 
-# Where nothing has changed no archive is made anew; where a source has, those above it are.
-prove
+# Where nothing has changed nothing is asked; where a source has, all is.
+asked make -s prove
 holds 'prove again: nothing' [ ! -s "$at/asked" ]
+holds 'prove again: no archive' [ ! -s "$at/written" ]
 printf ' ' >>"$at/crates/stp_reader/src/lib.rt"
-prove
-above='digs_door plan_digs_door programs_door stp_door'
-holds 'prove one: those above it' [ "$(doors_asked)" = "$above" ]
+asked make -s prove
+holds 'prove one: asked' [ -s "$at/asked" ]
 
 # What is not proved is told, and is not installed.
 printf ' ' >>"$at/crates/slice/src/lib.rt"
 touch "$at/fault"
-prove
+asked make -s prove
 holds 'prove: fails' [ $? != 0 ]
 holds 'prove: the error' says 'error: no proof'
+holds 'prove: no archive' [ ! -s "$at/written" ]
 refused 'not proved here' 'the sources of slice differ'
 rm "$at/fault"
 
-# The proofs of the gate say what rt says, and count; a file that no crate has fails them.
-proofs() {
-    : >"$at/asked"
-    (cd "$at" && rm -rf target && PATH="$work/rt:$PATH" RATTLE_HOME=$kit make -s proofs) >"$work/said" 2>&1
-}
-last() { tail -n 1 "$work/said"; }
-proofs
-holds 'proofs: pass' [ $? = 0 ]
-holds 'proofs: what rt says' says '^rt: rowset proved (12 s)$'
-holds 'proofs: counted' [ "$(last)" = "$crates passed, 0 failed" ]
-holds 'proofs: none twice' [ -z "$(sort "$at/asked" | uniq -d)" ]
-touch "$at/fault"
-proofs
-holds 'proofs: fail' [ $? != 0 ]
-holds 'proofs: none after a fault' [ "$(wc -l <"$at/asked")" -le 8 ]
-holds 'proofs: a fault counted' fails grep -q ' 0 failed$' "$work/said"
-rm "$at/fault"
-touch "$at/stray.antt"
-proofs
-holds 'proofs: a stray file' [ $? != 0 ]
-holds 'proofs: it is told' says 'in no crate that crates.txt lists, so nothing proves it: stray.antt'
-holds 'proofs: it is counted' says "^$crates passed, 1 failed$"
-rm "$at/stray.antt"
-
-# The gate, with a make that counts only: its parts in order, and all counts in the last line.
-mkdir "$work/gate"
-cat >"$work/gate/rt" <<'TEXT'
-#!/bin/sh
-sed -n 's/^kit //p' crates.sum
-TEXT
-cat >"$work/gate/make" <<'TEXT'
-#!/bin/sh
-echo "$2" >>"$PROVING/asked"
-if [ "$2" = recorded ] && [ -e fault ]; then
-    echo "record: the code of libcst_door.a differs"
-    echo "92 passed, 1 failed"
-    exit 1
-fi
-echo "100 passed, 0 failed"
-TEXT
-chmod +x "$work/gate/rt" "$work/gate/make"
-gate() {
-    : >"$at/asked"
-    (cd "$at" && PATH="$work/gate:$PATH" bash .ci/run) >"$work/said" 2>&1
-}
-mkdir -p "$at/target/stamp" && touch "$at/target/stamp/rowset"
+# The gate, with tests from outside that count only: a plain rt ci, the archives, the record, and all
+# counts in the last line.
+sed -i 's/^\t@$(MAKE).* outside-built$/\t@:/' "$at/Makefile"
+mkdir "$at/tests"
+echo 'echo outside >>asked; echo 100 passed, 0 failed' >"$at/tests/outside.sh"
+gate() { asked bash .ci/run; }
 gate
 holds 'gate: passes' [ $? = 0 ]
-holds 'gate: from nothing' [ ! -e "$at/target/stamp/rowset" ]
-holds 'gate: counts all' [ "$(last)" = "$((crates + 1 + 400)) passed, 0 failed" ]
-parts=$(paste -sd ' ' "$at/asked")
-holds 'gate: its parts' [ "$parts" = 'proofs recorded outside edits' ]
+holds 'gate: its parts' [ "$(paste -sd ' ' "$at/asked")" = 'ci outside' ]
+holds 'gate: each archive' [ "$(written)" = "$(sorted "${exports[@]}")" ]
+lines=$((1 + crates))
+holds 'gate: counts all' \
+    [ "$(last)" = "$((lines + crates + 100 + ${#exports[@]} + lines + ${#exports[@]} + 100)) passed, 0 failed" ]
+holds 'gate: crates' says "^crates proved: $crates$"
+holds 'gate: wrong programs' says '^wrong programs and wrong definitions refused: 1$'
+holds 'gate: programs' says '^programs run: 1$'
+holds 'gate: the record' says "^lines of the record that hold: $((2 * lines + ${#exports[@]}))$"
 
-# A record without the proved code fails it; one of other sources does so before anything is proved.
+# Where a crate had a folder out, the archives are written over a copy, for which rt is asked again.
+mkdir "$at/crates/slice/out"
+gate
+holds 'gate: over what was there' [ $? = 0 ]
+holds 'gate: a copy' [ "$(paste -sd ' ' "$at/asked")" = 'ci ci outside' ]
+rmdir "$at/crates/slice/out"
+
+# A crate that is not proved fails it, and so does a wrong program that could not be tried.
 touch "$at/fault"
 gate
-holds 'gate: another code' [ $? != 0 ]
-holds 'gate: no tests over another code' fails grep -q outside "$at/asked"
+holds 'gate: not proved' [ $? != 0 ]
+holds 'gate: nothing after that' [ "$(cat "$at/asked")" = ci ]
+holds 'gate: counted' [ "$(last)" = "$((lines + crates + 99)) passed, 1 failed" ]
 rm "$at/fault"
+echo ', 3 bad' >"$at/bad"
+gate
+holds 'gate: a bad wrong program' [ $? != 0 ]
+holds 'gate: nothing after a bad one' [ "$(cat "$at/asked")" = ci ]
+holds 'gate: bad ones counted' [ "$(last)" = "$((lines + crates + 100)) passed, 3 failed" ]
+rm "$at/bad"
+
+# A record without the proved code fails it; one of other sources does so before anything is proved.
+sed -i 's/^code cst_door .*/code cst_door 0/' "$at/crates.sum"
+gate
+holds 'gate: another code' [ $? != 0 ]
+holds 'gate: told' says 'record: the code of libcst_door.a differs; make sums writes it anew'
+holds 'gate: no tests over another code' fails grep -q outside "$at/asked"
+restore
 printf ' ' >>"$at/crates/slice/src/lib.rt"
 gate
 holds 'gate: a stale record' [ $? != 0 ]
-holds 'gate: told' says 'record: the sources of slice differ; make sums writes it anew'
+holds 'gate: told of it' says 'record: the sources of slice differ; make sums writes it anew'
 holds 'gate: told at once' fails grep -q . "$at/asked"
 holds 'gate: the last line' [ "$(last)" = "$crates passed, 1 failed" ]
+restore
+
+# Crates that are out of the tree for now.
+LEFT=PORTING-LEFT.md
+touch "$at/$LEFT"
+printf ' ' >>"$at/crates/slice/src/lib.rt"
+gate
+holds 'left: no record' [ $? = 0 ]
+holds 'left: told' says "^left out while $LEFT stands: the record"
+holds 'left: the archives' [ "$(written)" = "$(sorted "${exports[@]}")" ]
+sed -i '/^cst_door /d' "$at/crates.txt"
+gate
+holds 'left: no archive' [ $? = 0 ]
+holds 'left: no archive written' [ ! -s "$at/written" ]
+holds 'left: format' [ "$(last)" = "$((crates - 1 + 200)) passed, 0 failed" ]
+holds 'left: no archive told' says "^left out while $LEFT stands: the archives, and what needs them (no cst_door)$"
+rm "$at/$LEFT"
+gate
+holds 'left: without the page' [ $? != 0 ]
 
 count

@@ -73,17 +73,22 @@ rm "$at/crates.sum"
 refused 'no record' 'there is no crates.sum'
 holds 'still no rt' [ ! -e "$work/asked" ]
 
-# On a fresh machine: compiled without a proof, and of the record; a blank in a source is told.
+# On a fresh machine: compiled without a proof, which is told, as a blank in a source is; such
+# archives have checks, so that they are not of the record, and no record is made of them.
 if command -v rt >/dev/null; then
     rm -rf "$at/target"
     printf ' ' >>"$at/crates/slice/src/lib.rt"
     (cd "$at" && make -s run) >"$work/said" 2>&1
-    holds 'fresh: not proved' says 'the core is not proved: the sources of slice differ'
+    holds 'fresh: not proved' says 'the core is not proved: 20 archives are compiled without a proof'
+    holds 'fresh: a blank' says 'the sources of slice differ'
     holds 'fresh: the yard' says 'Total 12'
     holds 'fresh: the object says so' grep -q 'rattle unproved' "$objects/libcst_door.a"
     cp -p crates/slice/src/lib.rt "$at/crates/slice/src/lib.rt"
     made tell
-    holds 'fresh: of the record' says "$same"
+    holds 'fresh: not of the record' says '20 archives are compiled without a proof. make prove'
+    (cd "$at" && python3 -B tools/record.py write target/objects crates.sum cst_door) >"$work/said" 2>&1
+    holds 'fresh: no record' says 'archives of target/objects are compiled without a proof'
+    refused 'fresh' '20 archives are compiled without a proof'
 fi
 
 count

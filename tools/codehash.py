@@ -18,6 +18,7 @@ SECTION_TYPES_LEFT_OUT = {0, 2, 3, 4, 9}  # null, symbols, strings, relocations 
 SECTIONS_LEFT_OUT = {'.comment', '.llvm_addrsig'}
 LOADED, EXECUTABLE, MERGED, STRINGS, NO_BITS = 2, 4, 16, 32, 8
 UNDEFINED, RESERVED = 0, 0xff00
+UNPROVED = 'unproved'
 SECTION_SYMBOL, FUNCTION_SYMBOL, FILE_SYMBOL = 3, 2, 4
 
 
@@ -111,10 +112,13 @@ class Object:
 
     @staticmethod
     def constant(section, symbol):
-        if section.flags & STRINGS or symbol.kind == SECTION_SYMBOL or section.entry == 0 \
+        """One entry of the section, or as many bytes as its symbol says: where entries are strings,
+        it has to say that."""
+        size = symbol.size or (0 if section.flags & STRINGS else section.entry)
+        if symbol.kind == SECTION_SYMBOL or size == 0 or section.entry == 0 \
                 or symbol.value % section.entry:
             raise CodeError(f'a constant of the section {section.name} cannot be told')
-        value = section.bytes[symbol.value:symbol.value + section.entry].hex()
+        value = section.bytes[symbol.value:symbol.value + size].hex()
         return f'{section.flags}:{section.align}:{value}'
 
     def content(self, section, above=()):
@@ -174,6 +178,12 @@ def code_hash(data):
     return digest('\n'.join(Object(data).lines()).encode())
 
 
+def code_of(data):
+    """The same, or UNPROVED where the object says that its code was compiled without a proof."""
+    comments = [s.bytes for s in Object(data).sections if s.name == '.comment']
+    return UNPROVED if any(b'rattle unproved' in it for it in comments) else code_hash(data)
+
+
 def of_members(path, told):
     """The members of an archive in their order: name, and what is told of its bytes."""
     with open(path, 'rb') as file:
@@ -185,8 +195,8 @@ def of_members(path, told):
 
 
 def archive_codes(path, but=()):
-    """The members, but for some: name, and the hash of the code."""
-    found = of_members(path, lambda name, body: None if name in but else code_hash(body))
+    """The members, but for some: name, and the hash of the code, or UNPROVED."""
+    found = of_members(path, lambda name, body: None if name in but else code_of(body))
     return [(name, value) for name, value in found if value]
 
 

@@ -1,22 +1,19 @@
 #!/bin/sh
-# A kit whose clang keeps the modules that the kit's compiler hands to it.
-# usage: keeping.sh DIR   makes DIR/kit; a run of its compiler leaves DIR/kept1.bc, DIR/kept2.bc ..
+# A toolchain whose clang keeps the modules that the kit's compiler hands to it.
+# usage: keeping.sh DIR   makes DIR/toolchain; a run over it leaves DIR/kept1.bc, DIR/kept2.bc ..
 set -eu
 dir=$1
 kit=$(sh "$(dirname "$0")/kit.sh")
-arch=$(uname -m)
-clang=$kit/on/$arch/toolchain/bin/clang
-own=$dir/kit/on/$arch
-mkdir -p "$own/toolchain/bin"
-ln -s "$kit/libs" "$dir/kit/libs"
-ln -s "$kit/on/$arch/bin" "$own/bin"
-ln -s "$kit/on/$arch/toolchain/lib" "$own/toolchain/lib"
-for tool in ld.lld llvm-ar; do ln -s "$clang" "$own/toolchain/bin/$tool"; done
-cat >"$own/toolchain/bin/clang" <<TEXT
+own=$dir/toolchain
+mkdir -p "$own/bin"
+ln -s "$kit/toolchain/lib" "$own/lib"
+for tool in "$kit"/toolchain/bin/*; do ln -s "$tool" "$own/bin"; done
+rm "$own/bin/clang"
+cat >"$own/bin/clang" <<TEXT
 #!/bin/sh
 k=1
 while [ -e "$dir/kept\$k.bc" ]; do k=\$((k + 1)); done
 cp module.bc "$dir/kept\$k.bc"
-exec "$clang" "\$@"
+exec "$kit/toolchain/bin/clang" "\$@"
 TEXT
-chmod +x "$own/toolchain/bin/clang"
+chmod +x "$own/bin/clang"

@@ -21,6 +21,7 @@ import codehash
 import crates
 
 RECORD, HERE = 'crates.sum', 'target/proved.sum'
+KINDS = ('kit', 'source', 'code')
 HEADER = '''\
 # What the gate has proved: the kit, the sources of each crate (src, specs, proofs and its line in
 # crates.txt), the code of each archive. Written by make sums, from the proved objects.
@@ -66,7 +67,10 @@ class Record:
         """What differs from a record, in words. Archives that are not asked about are left out."""
         out = []
         asked = set(self.lines) | {key for key in record.lines if key[0] != 'code'}
-        for key in sorted(asked):
+        unproved = {key for key, value in self.lines.items() if value == codehash.UNPROVED}
+        if unproved:
+            out.append(f'{len(unproved)} archives are compiled without a proof')
+        for key in sorted(asked - unproved, key=lambda key: (KINDS.index(key[0]), key)):
             here, there = self.lines.get(key), record.lines.get(key)
             if here == there:
                 continue
@@ -170,6 +174,8 @@ def main(words):
         return library(words[1], words[2], words[3:])
     if len(words) >= 3 and words[0] == 'write':
         here = Record.here(kit_of(words[1]), codes_of(words[1], words[3:]))
+        if codehash.UNPROVED in here.lines.values():
+            raise codehash.CodeError(f'archives of {words[1]} are compiled without a proof')
         with open(words[2], 'w', encoding='utf-8') as file:
             file.write(here.text())
         return 0

@@ -1,14 +1,12 @@
 -- What is listed, by the checks, the tree that grows and the import's answer; and what is printed of it.
 -- Assumes nothing.
 use Prim.Native.Nat.{ℕ, ◌*◌, ◌≤◌}
-use borrow.Author.Tests.{not-true, not-false}
-use lib.IntN.{ℤ}
-use lib.ListN.{length, take, replicate}
-use mathlib.Core.Bool.{Bool, true, false, not}
+use borrow.Author.Tests.{not-true}
+use lib.ListN.{take, replicate}
+use mathlib.Core.Bool.{Bool, true, false}
 use mathlib.Core.List.{List, [], ◌∷◌, ◌++◌}
 use mathlib.Core.Option.{Option, none, some}
 use mathlib.Core.Path.{◌≡◌, refl, sym, ap, ◌∙◌}
-use native.Mathlib.Omega.{arith}
 use Rattle.decimal.specs.Puts.{Puts}
 use Rattle.graph_theory.proofs.Builder.{built-spanning}
 use Rattle.graph_theory.specs.Builder.{Fragment, tree}
@@ -30,16 +28,16 @@ use Rattle.rowset.proofs.Integers.{total-cut}
 use Rattle.rowset.proofs.Laws.{both-subset}
 use Rattle.rowset.specs.Bytes.{in_row}
 use Rattle.rowset.specs.Integers.{signed, total}
-use Rattle.rowset.specs.Sets.{empty, both}
+use Rattle.rowset.specs.Sets.{empty}
 use Rattle.slice.specs.Slices.{size}
 use Rattle.star_spec.proofs.Accepted.{refusal-append, Taken, taken, used-row, sound}
 use Rattle.star_spec.proofs.Claims.{marked-claim_of}
-use Rattle.star_spec.specs.Call.{Call, call_of, with_claim, rows_of, used, graph_of, weight_of, marked, claimed, claim_weight, claim_of}
-use Rattle.star_spec.specs.Mst1.{unbuilt, tree_built, chosen_rows, tree_rows, built, built_marks, mst1, mst1_marks}
+use Rattle.star_spec.specs.Call.{Call, call_of, with_claim, rows_of, used, graph_of, weight_of, claimed, claim_weight, claim_of}
+use Rattle.star_spec.specs.Mst1.{tree_built, chosen_rows, tree_rows, built, built_marks, mst1, mst1_marks}
 use Rattle.star_spec.specs.Refusals.{Accepted, cause, is_none, no_tree, table_causes, mst1_causes, or_else, refusal}
 use Rattle.stp_spec.proofs.Accepted.{import-holds}
 use Rattle.stp_spec.specs.Accepted.{ImportTaken}
-use Rattle.stp_spec.specs.Import.{ImportAnswer, untaken, taken as imports, imported, read_text, columns_of, left_after, right_after, weight_after}
+use Rattle.stp_spec.specs.Import.{ImportAnswer, untaken, taken as imports, imported, left_after, right_after, weight_after}
 use Rattle.stp.specs.Answers.{answer_of}
 use Rattle.stp.specs.declared.Imported.{Imported}
 use Rattle.stp.specs.declared.Imported.TheVariants as stp

@@ -1,8 +1,8 @@
 -- The order of the integers that 64 bits stand for; the weight of a plan's rows; and the answer by what the checks of the two plans give.
 -- Assumes nothing.
-use Rattle.std.proofs.Common.{◌≡◌, ℕ, ◌+◌, ◌*◌, ◌%◌, ◌<◌, ◌≤◌, Bool, true, false, cond, ltb, List, ℤ, pos, ◌-ℤ◌, sym, refl, ap, ◌∙◌, arith, ltb-false, ltb-true}
+use Rattle.std.proofs.Common.{◌≡◌, ℕ, ◌+◌, ◌*◌, ◌%◌, ◌<◌, ◌≤◌, Bool, true, false, cond, ltb, List, pos, ◌-ℤ◌, sym, refl, ap, ◌∙◌, arith, ltb-false, ltb-true}
 use lib.Signed.{lt_z}
-use mathlib.Core.Option.{none, some}
+use mathlib.Core.Option.{none}
 use Rattle.claim.proofs.Laws.{claim_rows-marked}
 use Rattle.claim.specs.Claims.{claim_rows}
 use Rattle.which_spec.proofs.Causes.{none_before, first-refused, second-refused, both-taken}

@@ -1,5 +1,4 @@
 -- `answer::bytes_of` meets its contract: the array is the list of the fields' bytes, written out, of which the amount's bits write back. Assumes nothing.
-use borrow.Author.Rules.{rules}
 use mathlib.Core.Path.{refl}
 use native.Mathlib.Omega.{arith}
 use Rattle.answer.specs.Records.{fields_of}

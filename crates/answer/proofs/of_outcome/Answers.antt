@@ -1,5 +1,4 @@
 -- `answer::of_outcome` meets its contract: each case's fields, written out. Assumes nothing.
-use borrow.Author.Rules.{rules}
 use mathlib.Core.Path.{refl}
 use Rattle.answer.specs.Records.{fields_of}
 use Rattle.refusal.specs.Outcomes.{refusal_of}

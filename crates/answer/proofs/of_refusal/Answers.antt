@@ -1,5 +1,4 @@
 -- `answer::of_refusal` meets its contract: the fields, written out. Assumes nothing.
-use borrow.Author.Rules.{rules}
 use mathlib.Core.Path.{refl}
 use Rattle.answer.specs.Records.{fields_of}
 use Rattle.rowset.specs.Integers.{from_bits}

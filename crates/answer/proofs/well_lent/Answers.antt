@@ -1,6 +1,5 @@
 -- `answer::well_lent` meets its contract. Assumes nothing.
 use borrow.Author.Rules.{rules}
-use mathlib.Core.Path.{refl}
 use Rattle.star_spec.specs.Door.{well_lent}
 use Rattle.answer.proofs.well_lent.Goals as goal
 

@@ -11,7 +11,7 @@ always : (b d : Bool) → b ≡ true → d ≡ (b && d)
 always b d h = rw h
 
 pub returns-then-not-table : goal.returns-then-not-table
-returns-then-not-table c = (refl, never c.args.table.whole _ c.if-not-table.true, refl)
+returns-then-not-table c = (refl, never c.args.table.whole _ (not-true _ c.if-not-table.true), refl)
 
 pub returns : goal.returns
-returns c = (refl, always c.args.table.whole _ c.if-not-table.false, refl)
+returns c = (refl, always c.args.table.whole _ (not-false _ c.if-not-table.false), refl)

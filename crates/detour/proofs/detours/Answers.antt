@@ -12,15 +12,15 @@ pub returns-in-Refused : goal.returns-in-Refused
 unfolding answer_of refusal_of
 returns-in-Refused c =
     let (m, whole, used) = c.beside-lent.ensures in
-    let (answer, words) = rw (m, whole, used) at c.path_own.ensures in
-    refused-rows _ _ refl _ _ (ap refusal_of (sym c.in-Refused.is) ∙ answer)
+    let told = rw (m, whole, used) at c.path_own.ensures in
+    refused-rows _ _ refl _ _ (ap refusal_of (sym c.in-Refused.is) ∙ told.answer)
 
 pub tell-requires : goal.tell-requires
 unfolding refusal_of
 tell-requires c =
     let (m, whole, used) = c.beside-lent.ensures in
-    let (answer, words) = rw (m, whole, used) at c.path_own.ensures in
-    let done = ap refusal_of (sym c.in_default.is) ∙ answer in
+    let told = rw (m, whole, used) at c.path_own.ensures in
+    let done = ap refusal_of (sym c.in_default.is) ∙ told.answer in
     let all : length c.args.rows.now ≡ c.beside-lent.result.m = lent_length c.args.table.whole c.args.rows.now c.args.table.m (rows_whole _ _ refl done) ∙ sym m in
     (rows-loads _ _ refl done, all)
 
@@ -28,6 +28,6 @@ pub returns : goal.returns
 unfolding refusal_of
 returns c =
     let (m, whole, used) = c.beside-lent.ensures in
-    let (answer, words) = rw (m, whole, used) at c.path_own.ensures in
-    let done = ap refusal_of (sym c.in_default.is) ∙ answer in
-    (rw (m, used) at c.tell.ensures) _ _ (rows_walked _ _ refl done _ words)
+    let told = rw (m, whole, used) at c.path_own.ensures in
+    let done = ap refusal_of (sym c.in_default.is) ∙ told.answer in
+    (rw (m, used) at c.tell.ensures) _ _ (rows_walked _ _ refl done _ told.words)

@@ -26,7 +26,7 @@ pub write_replacements-requires : goal.write_replacements-requires
 write_replacements-requires c i h =
     let (low, off) = c.requires.1 i h in
     let written = c.write_dearest.ensures in
-    let inside : i ≤ length c.write_dearest.new.1.1.1.1.1.1.0 = omega (arith, low, ap length written ∙ numbers_of-length _ _) in
+    let inside : i ≤ length c.write_dearest.new.rows = omega (arith, low, ap length written ∙ numbers_of-length _ _) in
     (inside, ap (λ (x : List ℕ). number_at x i) written ∙ dearest-none _ _ _ _ _ _ i off)
 
 pub returns : goal.returns

@@ -1,5 +1,4 @@
 -- `digs::print_text` meets its contract. Assumes nothing.
-use borrow.Author.Rules.{rules}
 use native.Mathlib.Omega.{arith}
 use Rattle.digs.proofs.Laws.{listed-printed, refusal-printed, listed-status, refusal-status}
 use Rattle.digs.proofs.print_text.Goals as goal

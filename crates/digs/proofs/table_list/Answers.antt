@@ -1,5 +1,4 @@
 -- `digs::table_list` meets its contract in each of its three cases: the table is refused, there is no tree, or a tree is listed. Assumes nothing.
-use borrow.Author.Rules.{rules}
 use borrow.Author.Tests.{not-true, not-false}
 use mathlib.Core.Path.{refl}
 use Rattle.digs.proofs.Laws.{table-refused, tree-refused, tree-listed}
@@ -13,9 +12,9 @@ returns-in-Refused c = (table-refused _ c.table_check.ensures c.in-Refused.is, r
 pub returns-then-not-tree : goal.returns-then-not-tree
 unfolding Lists
 returns-then-not-tree c =
-    (tree-refused _ c.table_check.ensures c.in_default.is c.tree_of-tree.ensures c.if-not-tree.true, refl)
+    (tree-refused _ c.table_check.ensures c.in_default.is c.tree_of-tree.ensures (not-true _ c.if-not-tree.true), refl)
 
 pub returns : goal.returns
 unfolding Lists
 returns c =
-    tree-listed _ c.table_check.ensures c.in_default.is c.tree_of-tree.ensures c.if-not-tree.false c.put_list-size.ensures
+    tree-listed _ c.table_check.ensures c.in_default.is c.tree_of-tree.ensures (not-false _ c.if-not-tree.false) c.put_list-size.ensures

@@ -1,6 +1,6 @@
 -- `digs::text_list` meets its contract: what follows from each of the import's answers. Assumes nothing.
 use borrow.Author.Rules.{rules}
-use mathlib.Core.Path.{refl, sym, ◌∙◌}
+use mathlib.Core.Path.{refl}
 use Rattle.digs.proofs.Laws.{taken-answer, untaken-answer, few-rows, taken-text, refused-text}
 use Rattle.digs.specs.Lists.{Lists}
 use Rattle.digs.proofs.text_list.Goals as goal
@@ -13,7 +13,7 @@ imported_list-requires c =
 pub returns-in-Taken : goal.returns-in-Taken
 returns-in-Taken c =
     let i = c.import-answer.ensures in
-    rw (taken-text _ _ _ (taken-answer _ _ _ c.in-Taken.is i.answer) i.lefts.0 i.lefts.1.0 i.lefts.1.1) at c.imported_list.ensures
+    rw (taken-text _ _ _ (taken-answer _ _ _ c.in-Taken.is i.answer) i.lefts i.rights i.weights) at c.imported_list.ensures
 
 pub returns-in-Refused : goal.returns-in-Refused
 unfolding Lists

@@ -1,6 +1,4 @@
 -- `digs_lines::put_chosen` meets its contract. Assumes nothing.
-use borrow.Author.Rules.{rules}
-use borrow.Author.Tests.{not-true}
 use mathlib.Core.Path.{refl, sym, ◌∙◌}
 use native.Mathlib.Omega.{arith}
 use Rattle.digs_lines.proofs.put_chosen.Goals as goal

@@ -1,5 +1,4 @@
 -- `digs_lines::put_list` meets its contract. Assumes nothing.
-use borrow.Author.Rules.{rules}
 use Rattle.decimal.proofs.Laws.{puts-append}
 use Rattle.digs_lines.proofs.put_list.Goals as goal
 

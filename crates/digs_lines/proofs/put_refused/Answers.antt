@@ -1,5 +1,4 @@
 -- `digs_lines::put_refused` meets its contract, and the line is short. Assumes nothing.
-use borrow.Author.Rules.{rules}
 use native.Mathlib.Omega.{arith}
 use Rattle.decimal.proofs.Laws.{puts-append}
 use Rattle.digs_spec.proofs.Sizes.{refused-size}

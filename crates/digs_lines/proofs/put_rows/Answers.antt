@@ -1,12 +1,10 @@
 -- `digs_lines::put_rows` meets its contract. The loop's invariant: the lines of the slice's rows of 1 to i were put. Assumes nothing.
-use borrow.Author.Rules.{rules}
-use lib.ListN.{length}
 use mathlib.Core.Bool.{Bool, cond}
 use mathlib.Core.List.{List, []}
 use mathlib.Core.Path.{◌≡◌, refl}
 use native.Mathlib.Numerals.{add-one}
 use native.Mathlib.Omega.{arith}
-use Prim.Native.Nat.{ℕ, ◌+◌, ◌-◌, ◌≤◌, ◌<◌}
+use Prim.Native.Nat.{ℕ, ◌+◌}
 use Rattle.decimal.proofs.Laws.{puts-append, puts-length}
 use Rattle.decimal.specs.Puts.{Puts}
 use Rattle.digs_spec.specs.DigList.{row_line, row_lines}

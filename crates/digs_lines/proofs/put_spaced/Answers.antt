@@ -1,5 +1,4 @@
 -- `digs_lines::put_spaced` meets its contract. Assumes nothing.
-use borrow.Author.Rules.{rules}
 use Rattle.decimal.proofs.Laws.{puts-append}
 use Rattle.stp_words.specs.Bytes.{bytes}
 use Rattle.digs_lines.proofs.put_spaced.Goals as goal

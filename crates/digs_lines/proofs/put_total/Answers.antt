@@ -1,5 +1,4 @@
 -- `digs_lines::put_total` meets its contract. Assumes nothing.
-use borrow.Author.Rules.{rules}
 use Rattle.decimal.proofs.Laws.{puts-append}
 use Rattle.digs_spec.specs.DigList.{total_line}
 use Rattle.stp_words.specs.Bytes.{bytes}

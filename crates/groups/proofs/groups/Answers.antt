@@ -22,6 +22,5 @@ overflow_cast-result c = let h = small_count _ _ c.count_rows.ensures in omega (
 pub returns : goal.returns
 unfolding answer_of
 returns c =
-    let (labels, rings) = c.find-found.ensures in
     groups-told _ _ _ c.call_check.ensures c.in_default.is
-    c.claim_rows-marked.ensures c.rows_among.ensures labels rings c.count_own.ensures c.count_rows.ensures c.write_claim.ensures
+    c.claim_rows-marked.ensures c.rows_among.ensures c.find-found.ensures.labels c.find-found.ensures.rings c.count_own.ensures c.count_rows.ensures c.write_claim.ensures

@@ -1,8 +1,8 @@
 -- `mend::redraw` meets its contract: there is no tree, or the claim is mended and the records are in the numbers.
 -- Assumes nothing.
-use Prim.Native.Nat.{ℕ, ◌*◌, ◌≤◌}
+use Prim.Native.Nat.{◌≤◌}
 use borrow.Author.Rules.{rules}
-use mathlib.Core.Path.{◌≡◌, refl, sym, ◌∙◌, ap}
+use mathlib.Core.Path.{refl, sym, ◌∙◌, ap}
 use native.Mathlib.Omega.{arith}
 use Rattle.mend_groups.proofs.Steps.{bounded-few}
 use Rattle.mend_list.specs.Steps.Stored.{stored_to}
@@ -21,7 +21,7 @@ returns-in_default c =
     let few = few-rows _ c.args.records c.requires in
     let two = rw (bounded-few c.args.m few) at c.two_passes-tree.ensures in
     let refused = ap refusal_of (sym c.in_default.is) ∙ c.tree_paths-walked.ensures.0 in
-    let (answer, marks, list) = no-tree _ c.args.records c.requires _ _ c.rows_among-used.ensures c.claim_rows-marked.ensures _ refl _ two.0 _ refl _ refused in
+    let (answer, marks, list) = no-tree _ c.args.records c.requires _ _ c.rows_among-used.ensures c.claim_rows-marked.ensures _ refl _ two.marks _ refl _ refused in
     let (eleven, none, zeros) = c.no_tree.ensures in
     (eleven ∙ answer, marks, λ l e. rw none (list l e), none ∙ sym (ap count_of eleven), zeros)
 
@@ -31,8 +31,8 @@ exchange_rows-least-requires c =
     let few = few-rows _ c.args.records c.requires in
     let two = rw (bounded-few c.args.m few) at c.two_passes-tree.ensures in
     let done = ap refusal_of (sym c.in-Done.is) ∙ c.tree_paths-walked.ensures.0 in
-    let loaded = loads _ c.args.records c.requires _ _ c.rows_among-used.ensures c.claim_rows-marked.ensures _ refl _ two.0 _ refl _ done c.tree_paths-walked.ensures.1 in
-    (few, two.1.1.1, loaded)
+    let loaded = loads _ c.args.records c.requires _ _ c.rows_among-used.ensures c.claim_rows-marked.ensures _ refl _ two.marks _ refl _ done c.tree_paths-walked.ensures.1 in
+    (few, two.few, loaded)
 
 pub overflow_cast-result : goal.overflow_cast-result
 overflow_cast-result c =
@@ -46,5 +46,5 @@ returns c =
     let few = few-rows _ c.args.records c.requires in
     let two = rw (bounded-few c.args.m few) at c.two_passes-tree.ensures in
     let done = ap refusal_of (sym c.in-Done.is) ∙ c.tree_paths-walked.ensures.0 in
-    let (answer, marks, list, rest) = mended _ c.args.records c.requires _ _ c.rows_among-used.ensures c.claim_rows-marked.ensures _ refl _ two.0 _ refl _ done c.tree_paths-walked.ensures.1 _ _ two.1.0 two.1.1.0 _ c.exchange_rows-least.ensures.passed in
+    let (answer, marks, list, rest) = mended _ c.args.records c.requires _ _ c.rows_among-used.ensures c.claim_rows-marked.ensures _ refl _ two.marks _ refl _ done c.tree_paths-walked.ensures.1 _ _ two.count two.list _ c.exchange_rows-least.ensures.passed in
     (answer, c.write_marks.ensures ∙ marks, list, refl, λ i h. rest i h ∙ all-zero 9216 i)

@@ -1,12 +1,11 @@
 -- `mend_groups::join_groups` meets its contract: one pass after the other.
 -- Assumes nothing.
 use Prim.Native.Nat.{ℕ}
-use borrow.Author.Rules.{rules}
 use mathlib.Core.List.{List}
-use mathlib.Core.Path.{◌≡◌, sym, ◌∙◌, ap}
+use mathlib.Core.Path.{◌∙◌, ap}
 use native.Mathlib.Omega.{arith}
 use Rattle.slice.specs.Slices.{component}
-use Rattle.mend_groups.specs.Steps.Machine.{State, state_of, add_at, drop_at, visits, two_passes, labels_from}
+use Rattle.mend_groups.specs.Steps.Machine.{State, add_at, drop_at, visits, two_passes}
 use Rattle.mend_groups.proofs.join_groups.Goals as goal
 
 pub drop_rings-ringless-requires : goal.drop_rings-ringless-requires
@@ -20,4 +19,10 @@ unfolding two_passes
 returns c =
     let a = c.args in
     let first = c.drop_rings-ringless.ensures.passed ∙ ap (λ (l : List ℕ). visits (drop_at a.left.now a.right.now) a.m (record { marks = component a.marked; count = 0; list = a.list.now; own = l })) c.own_labels-own.ensures in
-    let all = c.close_gaps.ensures.passed ∙ ap (visits (add_at (component a.used) a.left.now a.right.now) a.m) first in let told = (ap (λ (s : State). s.marks) all, (ap (λ (s : State). s.count) all, (ap (λ (s : State). s.list) all, c.close_gaps.ensures.few))) in record { marks = told.0; count = told.1; list = told.2; few = told.3 }
+    let all = c.close_gaps.ensures.passed ∙ ap (visits (add_at (component a.used) a.left.now a.right.now) a.m) first in
+    record {
+      marks = ap (λ (s : State). s.marks) all;
+      count = ap (λ (s : State). s.count) all;
+      list = ap (λ (s : State). s.list) all;
+      few = c.close_gaps.ensures.few;
+    }

@@ -1,7 +1,6 @@
 -- `mend_groups::two_passes` meets its contract: the passes over at most 1,024 rows, with numbers that have room.
 -- Assumes nothing.
-use Prim.Native.Nat.{ℕ, ◌≤◌, ◌*◌}
-use borrow.Author.Rules.{rules}
+use Prim.Native.Nat.{ℕ, ◌≤◌}
 use borrow.Author.Tests.{ltb-true}
 use lib.Dec.{ltb}
 use mathlib.Core.Bool.{Bool, true, false, cond}
@@ -22,8 +21,9 @@ pub join_groups-requires : goal.join_groups-requires
 join_groups-requires c =
     let r = c.row_count-rows.ensures in
     let f = few c.args.m in
-    (omega (arith, r, f), omega (arith, r, f, c.join_groups-arg-1.given.0.1))
+    (omega (arith, r, f), omega (arith, r, f))
 
 pub returns : goal.returns
 returns c =
-     let told = rw c.row_count-rows.ensures at c.join_groups.ensures in record { marks = told.0; count = told.1; list = told.2; few = told.3 }
+    let told = rw c.row_count-rows.ensures at c.join_groups.ensures in
+    record { marks = told.marks; count = told.count; list = told.list; few = told.few }

@@ -1,5 +1,4 @@
 -- `stp::import_check` meets its contract: the causes in their order. Assumes nothing.
-use borrow.Author.Rules.{rules}
 use lib.ListN.{get_or}
 use mathlib.Core.List.{[], ◌∷◌}
 use mathlib.Core.Option.{none}

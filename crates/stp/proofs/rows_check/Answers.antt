@@ -1,11 +1,9 @@
 -- `stp::rows_check` meets its contract: the lent columns' lengths, and then the rows by the table's own check. Assumes nothing.
 use Prim.Native.Nat.{◌≤◌}
-use borrow.Author.Rules.{rules}
-use borrow.Author.Tests.{ne_eqb, eqb-true, not-false}
+use borrow.Author.Tests.{ne_eqb}
 use lib.Seq.{length-take-le}
 use mathlib.Core.Bool.{or-true}
-use mathlib.Core.Logic.{⊎_elim}
-use mathlib.Core.Path.{refl, sym, ap, ◌∙◌}
+use mathlib.Core.Path.{sym, ap, ◌∙◌}
 use native.Mathlib.Omega.{arith}
 use Rattle.refusal.specs.Outcomes.{refusal_of}
 use Rattle.star_spec.proofs.Accepted.{none-cons}
@@ -13,7 +11,7 @@ use Rattle.stp_spec.specs.Import.{table_of}
 use Rattle.stp_reader.specs.Readings.{read_of, rows_of}
 use Rattle.stp.proofs.Importing.{few-rows, table-rows, columns-right, columns-first}
 use Rattle.stp.proofs.rows_check.Goals as goal
-use Rattle.stp.proofs.rows_check.Goals.{Start}
+use Rattle.stp.proofs.rows_check.Goals.{Start, then-l-ne-ROWS-via-then-l-ne-ROWS, then-l-ne-ROWS-via-else-l-ne-ROWS+then-r-ne-ROWS, then-l-ne-ROWS-via-else-l-ne-ROWS+else-r-ne-ROWS+then-w-ne-WEIGHT_BYTES}
 
 -- there are at most 1,024 rows, so each part is inside its column
 rows : (c : Start) → rows_of c.args.found ≤ 1024
@@ -24,7 +22,12 @@ pub returns-then-l-ne-ROWS : goal.returns-then-l-ne-ROWS
 unfolding refusal_of
 returns-then-l-ne-ROWS c =
     ap refusal_of c.refused.ensures
-    ∙ columns-first _ _ _ _ (⊎_elim (λ w. simp (ne_eqb _ _ w.true)) (⊎_elim (λ w. simp (w.1.true, or-true)) (λ w. simp (w.2.true, or-true))) c.then-l-ne-ROWS.branch-raw)
+    ∙ columns-first _ _ _ _ (
+    elim c.then-l-ne-ROWS.branch [
+      | then-l-ne-ROWS-via-then-l-ne-ROWS w ↦ simp (ne_eqb _ _ w.if-l-ne-ROWS.true)
+      | then-l-ne-ROWS-via-else-l-ne-ROWS+then-r-ne-ROWS w ↦ simp (ne_eqb _ _ w.if-r-ne-ROWS.true, or-true)
+      | then-l-ne-ROWS-via-else-l-ne-ROWS+else-r-ne-ROWS+then-w-ne-WEIGHT_BYTES w ↦ simp (ne_eqb _ _ w.if-w-ne-WEIGHT_BYTES.true, or-true)
+    ])
 
 pub overflow_mul-end : goal.overflow_mul-end
 overflow_mul-end c = let few = rows (goal.at.overflow_mul-end c).Start in record { fits = omega arith }
@@ -52,4 +55,4 @@ returns c =
     let few = few-rows _ _ p.0 in
     c.table_check.ensures
     ∙ table-rows _ _ p.0 _ _ _ (length-take-le _ _ (omega arith)) (length-take-le _ _ (omega arith)) (length-take-le _ _ (omega arith)) _ c.rows_to-rows.ensures
-    ∙ sym (none-cons _ _ (columns-right _ _ _ c.if-l-ne-ROWS.false (eqb-true _ _ (not-false _ c.if-r-ne-ROWS.false)) (eqb-true _ _ (not-false _ c.if-w-ne-WEIGHT_BYTES.false))))
+    ∙ sym (none-cons _ _ (columns-right _ _ _ c.if-l-ne-ROWS.false c.if-r-ne-ROWS.false c.if-w-ne-WEIGHT_BYTES.false))

@@ -1,6 +1,5 @@
 -- `which::number_of` meets its contract, case by case. Assumes nothing.
 use borrow.Author.Rules.{rules}
-use mathlib.Core.Path.{refl}
 use Rattle.which_spec.specs.Door.{plan_number}
 use Rattle.which_decide.specs.Answers.{answer_of}
 use Rattle.which.proofs.number_of.Goals as goal

@@ -1,5 +1,4 @@
 -- `which::of_decision` meets its contract: each case's fields, written out, with the weight's bits handed on; a refusal's are those of `of_refusal`. Assumes nothing.
-use borrow.Author.Rules.{rules}
 use mathlib.Core.Path.{refl}
 use Rattle.answer.specs.Records.{fields_of}
 use Rattle.which_spec.specs.Door.{which_fields}

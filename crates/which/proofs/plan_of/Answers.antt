@@ -1,5 +1,4 @@
 -- `which::plan_of` meets its contract, by its two tests: what comes back holds what the plan held, and begins where it began. Assumes nothing.
-use borrow.Author.Rules.{rules}
 use borrow.Author.Tests.{ne_eqb}
 use mathlib.Core.Path.{refl}
 use Rattle.which_spec.specs.Door.{plan_of, start_of}
@@ -26,5 +25,5 @@ unfolding plan_of start_of
 returns c =
     record {
       plan = rw (ne_eqb _ _ c.if-k-eq1.false, ne_eqb _ _ c.if-k-eq2.false) refl;
-      start = rw (ne_eqb _ _ c.if-k-eq1.false, ne_eqb _ _ c.if-k-eq2.false) refl;
+      start = rw (ne_eqb _ _ c.if-k-eq2.false) refl;
     }

@@ -1,6 +1,4 @@
 -- `which::which` meets its contract: what the decision, its fields, its number and `write_answer` promise, one after the other. Assumes nothing.
-use borrow.Author.Rules.{rules}
-use borrow.Author.Tests.{not-true, not-false}
 use mathlib.Core.Path.{refl, sym, ap, ◌∙◌}
 use Rattle.which_spec.specs.Door.{which_fields, plan_number, which_door, which_returns}
 use Rattle.star_spec.specs.Door.{answer_after}
@@ -14,6 +12,6 @@ pub returns : goal.returns
 unfolding which_returns which_door
 returns c =
     rw (sym c.well_lent.ensures ∙ c.if-not-well_lent.false) (
-      c.number_of_lem.ensures ∙ ap plan_number c.decide-d.ensures,
+      c.number_of.ensures ∙ ap plan_number c.decide-d.ensures,
       c.write_answer.ensures ∙ ap (answer_after _) (c.of_decision-x.ensures ∙ ap which_fields c.decide-d.ensures),
     )

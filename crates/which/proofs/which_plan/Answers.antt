@@ -1,6 +1,6 @@
 -- `which::which_plan` meets its contract: the plan of the number that `which` returns. Assumes nothing.
-use borrow.Author.Rules.{rules}
-use mathlib.Core.Path.{ap, ◌∙◌}
+use mathlib.Core.Path.{◌≡◌, ap, ◌∙◌}
+use Rattle.star_spec.specs.Call.{call_of}
 use Rattle.which_spec.proofs.Means.{plan-call}
 use Rattle.which_spec.specs.Door.{plan_of, start_of, handed_back}
 use Rattle.which.proofs.which_plan.Goals as goal
@@ -8,6 +8,13 @@ use Rattle.which.proofs.which_plan.Goals as goal
 pub returns : goal.returns
 unfolding handed_back
 returns c =
+    let a = c.args in
     let table = c.plain-plain.ensures in
     let (number, bytes) = rw (table.rows.0, table.rows.1, table.used) at c.which-k.ensures in
-    let (plan, rest) = plan-call (c.plan_of.ensures.plan ∙ ap (plan_of _ _) number, bytes) in let told = (plan, (c.plan_of.ensures.start ∙ ap (start_of _ _) number, rest)) in record { plan = told.0; start = told.1.0; written = told.1.1.0; means = told.1.1.1 }
+    let plan : c.plan_of.result.now ≡ handed_back (call_of a.n a.left.now a.right.now a.weight.now a.first.now) a.second.now a.answer.now = c.plan_of.ensures.plan ∙ ap (plan_of _ _) number in
+    record {
+      plan = plan;
+      start = c.plan_of.ensures.start ∙ ap (start_of _ _) number;
+      written = bytes;
+      means = (plan-call (plan, bytes)).1.1;
+    }

@@ -1,7 +1,6 @@
 -- `which_decide::below` meets its contract: the order of the integers of 64 bits is that of the bits with the first one turned over. Assumes nothing.
-use Rattle.std.proofs.Common.{sym, ◌∙◌, rules}
 use Rattle.which_decide.proofs.Laws.{wide-order}
 use Rattle.which_decide.proofs.below.Goals as goal
 
 pub returns : goal.returns
-returns c = rw (wide-order, c.wrapping_add_u64-a.ensures, c.wrapping_add_u64-b.ensures)
+returns c = rw (wide-order, c.wrapping_add_u64-a.ensures.value, c.wrapping_add_u64-b.ensures.value)

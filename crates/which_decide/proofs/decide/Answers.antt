@@ -1,5 +1,5 @@
 -- `which_decide::decide` meets its contract in each of its three cases: the first plan is refused, or the second, or the weights decide. Assumes nothing.
-use Rattle.std.proofs.Common.{◌∙◌, rules}
+use Rattle.std.proofs.Common.{◌∙◌}
 use Rattle.which_decide.proofs.Laws.{first-declined, second-declined, decided}
 use Rattle.which_decide.specs.Answers.{answer_of}
 use Rattle.which_decide.proofs.decide.Goals as goal

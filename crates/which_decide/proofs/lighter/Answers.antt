@@ -1,5 +1,4 @@
 -- `which_decide::lighter` meets its contract, by its one test. Assumes nothing.
-use Rattle.std.proofs.Common.{rules}
 use Rattle.which_decide.specs.Answers.{answer_of}
 use Rattle.which_decide.proofs.Laws.{second-stands, first-stands}
 use Rattle.which_decide.proofs.lighter.Goals as goal

@@ -1,5 +1,5 @@
 -- `which_decide::plan_check` meets its contract: MatrixPath from vertex 1 on a matrix of 4,080 words refuses what CST refuses. Assumes nothing.
-use Rattle.std.proofs.Common.{refl, rules}
+use Rattle.std.proofs.Common.{refl}
 use Rattle.cst.proofs.Refused.{own-refusal}
 use Rattle.which_decide.proofs.plan_check.Goals as goal
 

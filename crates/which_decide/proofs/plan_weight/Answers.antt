@@ -1,5 +1,4 @@
 -- `which_decide::plan_weight` meets its contract: the weight of the rows that the bytes mark is the plan's where it is not refused. Assumes nothing.
-use Rattle.std.proofs.Common.{rules}
 use Rattle.which_decide.proofs.Laws.{marked-weight}
 use Rattle.which_decide.proofs.plan_weight.Goals as goal
 

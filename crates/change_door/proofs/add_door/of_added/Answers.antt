@@ -1,5 +1,4 @@
 -- `change_door::add_door::of_added` meets its contract: each case's fields, written out; a position is what its own digits stand for. Assumes nothing.
-use borrow.Author.Rules.{rules}
 use lib.IntN.{ℤ}
 use mathlib.Core.Path.{ap}
 use native.Mathlib.Omega.{arith}

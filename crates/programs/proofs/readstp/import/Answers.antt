@@ -14,8 +14,9 @@ pub returns-in-Taken : goal.returns-in-Taken
 returns-in-Taken c =
     let i = c.import-answer.ensures in
     let a = taken-answer _ _ _ c.in-Taken.is i.answer in
-    let q = taken-page _ _ _ a i.lefts.0 i.lefts.1.0 i.lefts.1.1 in
-    let p = c.put_imported.ensures in let told = (rw q at p.puts, (rw q at p.few, (taken-status _ _ _ a, omega arith))) in record { puts = told.0; few = told.1; status = told.2 }
+    let q = taken-page _ _ _ a i.lefts i.rights i.weights in
+    let p = c.put_imported.ensures in
+    record { puts = rw q at p.puts; few = rw q at p.few; status = (taken-status _ _ _ a, omega arith) }
 
 pub returns-in-Refused : goal.returns-in-Refused
 returns-in-Refused c =
@@ -23,4 +24,5 @@ returns-in-Refused c =
     let a = untaken-answer _ _ _ c.in-Refused.is i.answer in
     let q = refused-page _ _ a in
     let p = c.put_refused.ensures in
-    let h = rw q at p.short in let told = (rw q at p.puts, (omega (arith, h), (refused-status _ _ a, omega arith))) in record { puts = told.0; few = told.1; status = told.2 }
+    let h = rw q at p.short in
+    record { puts = rw q at p.puts; few = omega (arith, h); status = (refused-status _ _ a, omega arith) }

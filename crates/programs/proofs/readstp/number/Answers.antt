@@ -1,5 +1,4 @@
 -- `programs::readstp::number` meets its contract. Assumes nothing.
-use borrow.Author.Rules.{rules}
 use Rattle.decimal.proofs.Laws.{puts-append}
 use Rattle.programs.proofs.readstp.number.Goals as goal
 

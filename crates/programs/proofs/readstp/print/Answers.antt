@@ -1,5 +1,4 @@
 -- `programs::readstp::print` meets its contract: what is handed on is the page, whole. Assumes nothing.
-use borrow.Author.Rules.{rules}
 use mathlib.Core.Path.{◌∙◌}
 use native.Mathlib.Omega.{arith}
 use Rattle.decimal.proofs.Laws.{puts_whole}

@@ -1,5 +1,4 @@
 -- `programs::readstp::put_imported` meets its contract: each part is inside its column. Assumes nothing.
-use borrow.Author.Rules.{rules}
 use lib.Seq.{length-take-le}
 use mathlib.Core.Path.{sym}
 use native.Mathlib.Omega.{arith}

@@ -1,5 +1,4 @@
 -- `programs::readstp::put_row` meets its contract. Assumes nothing.
-use borrow.Author.Rules.{rules}
 use native.Mathlib.Omega.{arith}
 use Rattle.programs.proofs.Laws.{ends-few, ends-put}
 use Rattle.programs.proofs.readstp.put_row.Goals as goal

@@ -1,5 +1,4 @@
 -- `programs::readstp::put_sizes` meets its contract. Assumes nothing.
-use borrow.Author.Rules.{rules}
 use native.Mathlib.Omega.{arith}
 use Rattle.programs.proofs.Laws.{sizes-few, sizes-put}
 use Rattle.programs.proofs.readstp.put_sizes.Goals as goal

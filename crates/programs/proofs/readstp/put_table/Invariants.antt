@@ -1,10 +1,6 @@
 -- `programs::readstp::put_table` meets its contract. The loop's invariant: the lines of rows 1 to i were put after that of the sizes. Assumes nothing.
-use borrow.Author.Rules.{rules}
-use mathlib.Core.Path.{◌≡◌, ◌∙◌}
-use native.Mathlib.Omega.{arith}
 use Prim.Native.Nat.{◌-◌, ◌≤◌}
-use Rattle.decimal.proofs.Laws.{puts-length}
-use Rattle.programs.proofs.Laws.{Lined, no_line, line-more, table-put}
+use Rattle.programs.proofs.Laws.{Lined}
 use Rattle.programs.specs.Readstp.{ends_line}
 use Rattle.programs.proofs.readstp.put_table.Given as goal
 

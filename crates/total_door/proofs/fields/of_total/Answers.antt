@@ -1,5 +1,4 @@
 -- `total_door::fields::of_total` meets its contract: each case's fields, written out. Assumes nothing.
-use borrow.Author.Rules.{rules}
 use mathlib.Core.Path.{refl}
 use Rattle.answer.specs.Records.{fields_of}
 use Rattle.star_spec.specs.Door.{fields}
