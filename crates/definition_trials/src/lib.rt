@@ -2,4 +2,3 @@
 // They stand apart so that a new one costs a check of this crate alone.
 
 #![tactic(auto)]
-

@@ -1,4 +1,3 @@
 // The mending of an old claim as a definition on byte columns, its trials, and what it means of the table's spanning trees: specs/ and proofs/, no code.
 
 #![tactic(auto)]
-

@@ -1,4 +1,3 @@
 // Mending an old claim: definitions (specs/) and theorems (proofs/), no code.
 
 #![tactic(auto)]
-

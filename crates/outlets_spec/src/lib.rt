@@ -1,4 +1,3 @@
 // The least tree with exactly t rows at a vertex as a definition on byte columns, its trials, and what it means of the table's spanning trees: specs/ and proofs/, no code.
 
 #![tactic(auto)]
-

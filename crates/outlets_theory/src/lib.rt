@@ -1,4 +1,3 @@
 // Spanning trees with a given number of rows at a vertex: definitions (specs/) and theorems (proofs/), no code.
 
 #![tactic(auto)]
-

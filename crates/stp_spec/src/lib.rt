@@ -2,4 +2,3 @@
 // What it is worth (specs/Accepted.antt) and the trials (specs/Trials.antt) are theorems over them.
 
 #![tactic(auto)]
-

@@ -1,6 +1,5 @@
 -- `cst::exchange_of` meets its contract: both rows fit 32 bits, and the difference of their flipped weights, which is that of their weights, does not wrap. Assumes nothing.
 use Prim.Native.Nat.{ℕ, ◌-◌, ◌≤◌}
-use borrow.Author.Rules.{rules}
 use lib.IntN.{nat_abs, ◌-ℤ◌}
 use lib.Signed.{◌≤ℤ◌}
 use mathlib.Core.Path.{◌≡◌}

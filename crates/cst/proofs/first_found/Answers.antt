@@ -1,29 +1,23 @@
 -- `cst::first_found` meets its contract. The loop's invariant: the columns read hold the weights, as many last bits of a row stand for its weight, and the rows that STEP has left are those still to be
 -- looked at (`Looking`), said of every set that STEP could have begun with. The measure is how far row `at` is from the end, 0 where STEP found none. Assumes nothing.
-use Prim.Native.Nat.{ℕ, ◌-◌, ◌%◌, ◌≤◌}
+use Prim.Native.Nat.{ℕ, ◌-◌}
 use mathlib.Core.Bool.{Bool, true}
 use mathlib.Core.Logic.{by_cases}
-use mathlib.Core.Path.{◌≡◌, refl, sym, ap, ◌∙◌}
-use lib.ListN.{length}
+use mathlib.Core.Path.{◌≡◌, sym, ap, ◌∙◌}
 use borrow.Author.Rules.{rules}
 use native.Mathlib.Decide.{ℕ_discrete}
 use native.Mathlib.Omega.{arith}
 use Rattle.slice_words.proofs.Laws.{component-words}
 use Rattle.table_checks.proofs.Laws.{uppermost-bound}
-use Rattle.rowset.specs.Bytes.{in_row}
-use Rattle.rowset.specs.Columns.{width}
-use Rattle.rowset.specs.Integers.{from_bits}
-use Rattle.rowset.specs.Searches.{greater_than}
 use Rattle.rowset.specs.Sets.{any, uppermost, take_out}
 use Rattle.rowset.specs.Words.{in_words}
 use Rattle.table_loads.proofs.Numbers.{zeros, length-put}
 use Rattle.table_loads.proofs.Signs.{sign-integer, sign-bits}
 use Rattle.slice.specs.Slices.{size, component}
 use Rattle.slice.specs.declared.Slice.{Slice}
-use Rattle.cst.proofs.Paths.{heavier-out, exchange-found, none_found, comes-in, Remembered, remembered-more, remembered-all, remembered-bound, equal-found}
-use Rattle.cst.proofs.Looking.{Looking, first_some, looking-first, looking-next, looking-less, looking-none}
-use Rattle.search_columns.specs.Steps.Integers.{integers_after}
-use Rattle.cst.specs.Steps.Paths.{weight_in, some_on, first_on, row_with}
+use Rattle.cst.proofs.Paths.{heavier-out, exchange-found, none_found, comes-in, remembered-all, remembered-bound, equal-found}
+use Rattle.cst.proofs.Looking.{first_some, looking-first, looking-next, looking-less, looking-none}
+use Rattle.cst.specs.Steps.Paths.{some_on, first_on}
 use Rattle.cst.proofs.first_found.Goals as goal
 
 -- what STEP gives of a slice's words is said of the slice

@@ -1,5 +1,4 @@
 -- `cst::judge` meets its contract: the exchange that it finds is the verdict's, and with none the claim passes. Assumes nothing.
-use borrow.Author.Rules.{rules}
 use Rattle.cst.proofs.Paths.{passes, lightens}
 use Rattle.cst.specs.Verdicts.{answer_of, equal_rows_of}
 use Rattle.cst.proofs.judge.Goals as goal

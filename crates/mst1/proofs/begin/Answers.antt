@@ -1,7 +1,6 @@
 -- `mst1::begin` meets its contract, by what its calls ensure: what MATCH gives, joined to no row, is all.
 -- Assumes nothing.
 use Prim.Native.Nat.{ℕ}
-use borrow.Author.Rules.{rules}
 use mathlib.Core.Bool.{Bool}
 use mathlib.Core.List.{List}
 use mathlib.Core.Path.{◌≡◌, ◌∙◌, ap, ap₂}

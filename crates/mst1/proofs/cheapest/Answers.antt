@@ -1,6 +1,5 @@
 -- `mst1::cheapest` meets its contract: it is FND of MIN.
 -- Assumes nothing.
-use borrow.Author.Rules.{rules}
 use Rattle.mst1.proofs.cheapest.Goals as goal
 
 pub returns : goal.returns

@@ -1,19 +1,15 @@
 -- `mst1::grow_from` meets its contract. The loop's invariant: the slices are those of the fragment of k vertices.
 -- The measure is the number of vertices left. Assumes nothing.
-use Prim.Native.Nat.{ℕ, ◌≤◌, ◌<◌, ◌-◌, ◌^◌}
+use Prim.Native.Nat.{◌-◌}
 use native.Mathlib.Omega.{arith}
 use mathlib.Core.Logic.{⊎_elim}
-use mathlib.Core.Path.{◌≡◌, refl, ap, ◌∙◌}
+use mathlib.Core.Path.{refl, ap, ◌∙◌}
 use borrow.Author.Rules.{rules}
-use lib.ListN.{length}
 use Rattle.rowset.specs.Sets.{either}
 use Rattle.rowset.specs.Words.{in_words}
 use Rattle.slice.specs.Slices.{component, bit}
-use Rattle.table.specs.Loads.{loaded_row}
 use Rattle.mst1.proofs.Growth.{grows_none, grows-whole, cheapest-row, extend-reached}
 use Rattle.mst1.proofs.Steps.{next-none}
-use Rattle.search_columns.specs.Steps.Integers.{integers_after}
-use Rattle.mst1.specs.Steps.Growth.{graph_by, Reached}
 use Rattle.mst1.proofs.grow_from.Goals as goal
 
 pub loop-k-init : goal.loop-k-init

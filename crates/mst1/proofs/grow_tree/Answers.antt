@@ -2,7 +2,6 @@
 -- Assumes nothing.
 use native.Mathlib.Omega.{arith}
 use mathlib.Core.Path.{sym, ◌∙◌}
-use borrow.Author.Rules.{rules}
 use Rattle.graph_theory.specs.Builder.{cheapest}
 use Rattle.rowset.specs.Words.{in_words}
 use Rattle.search_join.proofs.Joining.{each-end}

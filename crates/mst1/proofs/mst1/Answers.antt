@@ -1,7 +1,6 @@
 -- `mst1::mst1` meets its contract in each of its three cases: the table is refused, there is no tree, or a tree is built.
 -- Assumes nothing.
 use mathlib.Core.Path.{◌∙◌}
-use borrow.Author.Rules.{rules}
 use borrow.Author.Tests.{not-true, not-false}
 use Rattle.mst1.proofs.Answers.{table-refused, tree-refused, tree-built}
 use Rattle.mst1.specs.Answers.{answer_of}

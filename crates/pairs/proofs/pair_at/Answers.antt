@@ -1,5 +1,4 @@
 -- `pairs::pair_at` meets its contract. Assumes nothing.
-use borrow.Author.Rules.{rules}
 use borrow.Author.Tests.{lt-ltb, le-ltb}
 use Rattle.pairs.specs.Pairs.{pair_at}
 use Rattle.pairs.proofs.pair_at.Goals as goal

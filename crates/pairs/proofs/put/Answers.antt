@@ -1,6 +1,5 @@
 -- `pairs::put` meets its contract. Assumes nothing.
 use Prim.Native.Nat.{◌/◌, ◌%◌, ◌≤◌}
-use borrow.Author.Rules.{rules}
 use lib.Bits.{bit_or}
 use lib.ListN.{length, get_or, set}
 use lib.Pow.{shl_exact}

@@ -1,6 +1,5 @@
 -- `path::call_check` meets its contract, by its two tests.
 -- Assumes nothing.
-use borrow.Author.Rules.{rules}
 use borrow.Author.Tests.{eq-eqb, ne_eqb}
 use mathlib.Core.Logic.{⊎_elim}
 use Rattle.table_checks.proofs.Laws.{refusal-two}

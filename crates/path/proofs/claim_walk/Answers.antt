@@ -1,6 +1,5 @@
 -- `path::claim_walk` meets its contract, by what its calls ensure.
 -- Assumes nothing.
-use borrow.Author.Rules.{rules}
 use mathlib.Core.Path.{◌∙◌}
 use Rattle.path.proofs.claim_walk.Goals as goal
 

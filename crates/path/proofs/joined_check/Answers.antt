@@ -3,7 +3,6 @@
 use Rattle.path.proofs.Causes.{unreached-within, unreached-beyond}
 use Rattle.refusal.specs.Outcomes.{refusal_of}
 use Rattle.star_spec.specs.Refusals.{cause_at}
-use borrow.Author.Rules.{rules}
 use mathlib.Core.Path.{sym, ap, ◌∙◌}
 use native.Mathlib.Omega.{arith}
 use Rattle.path.proofs.joined_check.Goals as goal

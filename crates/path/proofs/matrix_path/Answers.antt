@@ -1,7 +1,6 @@
 -- `path::matrix_path` meets its contract: what the walk in a matrix of its own answers, and where that is done its words are copied.
 -- Assumes nothing.
 use Rattle.path.proofs.Result.{path-refuses, path-settled, path-fills}
-use borrow.Author.Rules.{rules}
 use mathlib.Core.Path.{refl}
 use native.Mathlib.Omega.{arith}
 use Rattle.path.proofs.matrix_path.Goals as goal

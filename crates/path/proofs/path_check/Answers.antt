@@ -3,7 +3,6 @@
 use Rattle.table_checks.proofs.Laws.{refused-first, done_next}
 use Rattle.path.proofs.Causes.{checks-in-order}
 use Rattle.star_spec.specs.Refusals.{bad_source, short_matrix, or_else}
-use borrow.Author.Rules.{rules}
 use mathlib.Core.Path.{sym, ap, ◌∙◌}
 use Rattle.path.proofs.path_check.Goals as goal
 

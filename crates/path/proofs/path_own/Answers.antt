@@ -1,13 +1,12 @@
 -- `path::path_own` meets its contract: the checks refuse, or the walk decides.
 -- Assumes nothing.
 use Rattle.path.proofs.Result.{settled, own-refused, own-walked}
-use borrow.Author.Rules.{rules}
 use native.Mathlib.Omega.{arith}
 use Rattle.path.proofs.path_own.Goals as goal
 
 pub returns-in_default : goal.returns-in_default
 returns-in_default c =
-     let told = own-refused _ _ _ _ _ c.path_check-checked.ensures _ c.in_default.is in record { answer = told.0; words = told.1 }
+    let told = own-refused _ _ _ _ _ c.path_check-checked.ensures _ c.in_default.is in record { answer = told.0; words = told.1 }
 
 pub claim_walk-requires : goal.claim_walk-requires
 claim_walk-requires c =

@@ -1,5 +1,4 @@
 -- `path_walk::lead` meets its contract, by what its calls ensure: the column of u is written as that of v, and row i is put in it. Assumes nothing.
-use borrow.Author.Rules.{rules}
 use mathlib.Core.Path.{◌∙◌}
 use Rattle.path_matrix.proofs.Components.{with_column-put}
 use Rattle.path_walk.proofs.lead.Goals as goal

@@ -1,5 +1,4 @@
 -- `path_walk::walk` meets its contract: MATCH over the columns of ends gives the rows with each end, and so the walk is that over these rows. Assumes nothing.
-use borrow.Author.Rules.{rules}
 use Rattle.rowset.specs.Words.{in_words}
 use Rattle.search_join.proofs.Joining.{each-end}
 use Rattle.slice.specs.Slices.{component, bit}

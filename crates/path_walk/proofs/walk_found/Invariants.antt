@@ -1,19 +1,13 @@
 -- `path_walk::walk_found` meets its contract. The loop's invariant: where MATCH gives the rows with each end, the state is that after `k` steps from where the loop begins. The measure is what is left of the steps.
 -- Assumes nothing.
-use Prim.Native.Nat.{ℕ, ◌-◌, ◌^◌, ◌≤◌, ◌<◌}
-use Rattle.path_walk.specs.Steps.Walks.{State, step, steps}
+use Prim.Native.Nat.{◌-◌, ◌^◌, ◌≤◌, ◌<◌}
+use Rattle.path_walk.specs.Steps.Walks.{steps}
 use Rattle.search_join.specs.Steps.Ends.{EachEnd}
-use Rattle.slice_words.proofs.Laws.{component-words}
-use Rattle.rowset.specs.Sets.{either}
 use Rattle.rowset.specs.Words.{in_words}
 use Rattle.table.specs.Loads.{loaded_row}
-use borrow.Author.Rules.{rules}
 use lib.ListN.{length}
-use mathlib.Core.Bool.{Bool}
-use mathlib.Core.Path.{◌≡◌, refl, ap, ◌∙◌}
-use native.Mathlib.Numerals.{add-one}
-use native.Mathlib.Omega.{arith}
-use Rattle.path_walk.proofs.Steps.{state, step-taken, step-none, steps-stay, begun}
+use mathlib.Core.Path.{◌≡◌}
+use Rattle.path_walk.proofs.Steps.{state}
 use Rattle.path_walk.proofs.walk_found.Given as goal
 
 abbrev pub invariant-loop-k : goal.invariant-loop-k

@@ -1,5 +1,4 @@
 -- `quote_answer::quote_bytes` meets its contract: the bytes of two records, of which the second has the total after for its amount. Assumes nothing.
-use borrow.Author.Rules.{rules}
 use mathlib.Core.Path.{refl}
 use Rattle.answer.specs.Records.{fields_of}
 use Rattle.star_spec.specs.Door.{bytes_of, field_bytes}

@@ -1,13 +1,8 @@
 -- `quote_answer::write_quote` meets its contract. The loop's invariant: the first i bytes of the answer are those of the array.
 -- Assumes nothing.
 use Prim.Native.Nat.{◌≤◌, ◌-◌}
-use borrow.Author.Rules.{rules}
-use borrow.Author.Tests.{eq-eqb, ne_eqb}
-use lib.ListN.{length, take, length-set}
-use mathlib.Core.Path.{◌≡◌, refl, ◌∙◌}
-use native.Mathlib.Omega.{arith}
-use Rattle.answer.proofs.Copies.{copy_more, copy-all}
-use Rattle.price_spec.specs.Door.{lent_quote}
+use lib.ListN.{length, take}
+use mathlib.Core.Path.{◌≡◌}
 use Rattle.quote_answer.proofs.write_quote.Given as goal
 
 abbrev pub invariant-loop-i : goal.invariant-loop-i

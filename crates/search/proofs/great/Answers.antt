@@ -1,6 +1,5 @@
 -- `search::great` meets its contract: the words are those of the table's columns, and a row is the number in all of them.
 -- Assumes nothing.
-use borrow.Author.Rules.{rules}
 use Rattle.rowset.specs.Integers.{integer_in}
 use Rattle.table.specs.Tables.{row}
 use Rattle.search.proofs.great.Goals as goal

@@ -1,6 +1,5 @@
 -- `search::match_count` meets its contract: the words are those of the table's columns, and a row is the number in all of them.
 -- Assumes nothing.
-use borrow.Author.Rules.{rules}
 use native.Mathlib.Omega.{arith}
 use mathlib.Core.Path.{◌∙◌}
 use Rattle.rowset.specs.Counts.{columns_read}

@@ -3,8 +3,7 @@
 use Prim.Native.Nat.{◌-◌}
 use native.Mathlib.Omega.{arith}
 use mathlib.Core.Path.{sym, ◌∙◌}
-use borrow.Author.Rules.{rules}
-use Rattle.search.proofs.Signs.{Skipped, skipped-start, skipped-more, skipped-found, skipped-all}
+use Rattle.search.proofs.Signs.{skipped-start, skipped-more, skipped-found, skipped-all}
 use Rattle.search.proofs.sign_columns.Goals as goal
 
 pub loop-j-init : goal.loop-j-init

@@ -1,10 +1,7 @@
 -- `search::sign_columns` meets its contract. The loop's invariant: columns 2 to j equal column 1. The measure is what is left of the columns.
 -- Assumes nothing.
 use Prim.Native.Nat.{◌-◌}
-use native.Mathlib.Omega.{arith}
-use mathlib.Core.Path.{sym, ◌∙◌}
-use borrow.Author.Rules.{rules}
-use Rattle.search.proofs.Signs.{Skipped, skipped-start, skipped-more, skipped-found, skipped-all}
+use Rattle.search.proofs.Signs.{Skipped}
 use Rattle.search.proofs.sign_columns.Given as goal
 
 abbrev pub invariant-loop-j : goal.invariant-loop-j

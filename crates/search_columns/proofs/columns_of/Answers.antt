@@ -7,7 +7,7 @@ use mathlib.Core.Path.{sym}
 use borrow.Author.Rules.{rules}
 use Rattle.slice.proofs.Stores.{length-unmap}
 use Rattle.search_columns.proofs.Loops.{column-read}
-use Rattle.search_columns.proofs.Stores.{Stored, stored-none, stored_more, stored-all}
+use Rattle.search_columns.proofs.Stores.{stored-none, stored_more, stored-all}
 use Rattle.search_columns.proofs.columns_of.Goals as goal
 
 pub loop-j-init : goal.loop-j-init

@@ -1,6 +1,5 @@
 -- `search_columns::keep` meets its contract, in each of its two cases.
 -- Assumes nothing.
-use borrow.Author.Rules.{rules}
 use Rattle.search_columns.specs.Steps.Column.{kept}
 use Rattle.search_columns.proofs.keep.Goals as goal
 

@@ -1,13 +1,8 @@
 -- `search_columns::keep_rows` meets its contract. The loop's invariant: the first k words have the rows that are kept, and the others are as they were; `words` is the least of `used`, sixteen and the number of z's words.
 -- The measure is what is left of the words. Assumes nothing.
-use Prim.Native.Nat.{◌+◌, ◌-◌, ◌≤◌, ◌<◌}
-use native.Mathlib.Omega.{arith}
-use borrow.Author.Rules.{rules}
+use Prim.Native.Nat.{◌-◌, ◌≤◌, ◌<◌}
 use lib.ListN.{length}
-use mathlib.Core.Logic.{⊎_elim}
-use mathlib.Core.Path.{◌≡◌, refl, sym}
-use Rattle.path_matrix.proofs.Laws.{has_column-above}
-use Rattle.search_columns.proofs.Words.{Narrowed, narrowed_none, narrowed-more, narrowed-all, narrowed-outside}
+use Rattle.search_columns.proofs.Words.{Narrowed}
 use Rattle.search_columns.proofs.keep_rows.Given as goal
 
 abbrev pub invariant-loop-k : goal.invariant-loop-k

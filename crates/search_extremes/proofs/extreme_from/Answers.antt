@@ -3,13 +3,8 @@
 use Prim.Native.Nat.{◌+◌, ◌-◌}
 use native.Mathlib.Omega.{arith}
 use borrow.Author.Rules.{rules}
-use lib.ListN.{length}
-use mathlib.Core.Path.{◌≡◌}
-use Rattle.path_matrix.specs.Matrix.{matrix_column}
-use Rattle.search_extremes.proofs.Loops.{Sought, sought-start, sought-all}
+use Rattle.search_extremes.proofs.Loops.{sought-start, sought-all}
 use Rattle.search_extremes.proofs.Preferred.{sought-next, sought-stopped, none-past-preferred}
-use Rattle.search_columns.specs.Steps.Column.{turned}
-use Rattle.search_columns.specs.Steps.Rows.{rows_of, NonePast}
 use Rattle.search_extremes.proofs.extreme_from.Goals as goal
 
 pub loop-j-init : goal.loop-j-init

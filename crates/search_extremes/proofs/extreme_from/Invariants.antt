@@ -1,13 +1,10 @@
 -- `search_extremes::extreme_from` meets its contract. The loop's invariant: z has the rows of x that come first in the columns read, of which the first is turned over, and none past the words that are read.
 -- The measure is what is left of the columns. Assumes nothing.
-use Prim.Native.Nat.{◌+◌, ◌-◌}
-use native.Mathlib.Omega.{arith}
-use borrow.Author.Rules.{rules}
+use Prim.Native.Nat.{◌-◌}
 use lib.ListN.{length}
 use mathlib.Core.Path.{◌≡◌}
 use Rattle.path_matrix.specs.Matrix.{matrix_column}
-use Rattle.search_extremes.proofs.Loops.{Sought, sought-start, sought-all}
-use Rattle.search_extremes.proofs.Preferred.{sought-next, sought-stopped, none-past-preferred}
+use Rattle.search_extremes.proofs.Loops.{Sought}
 use Rattle.search_columns.specs.Steps.Column.{turned}
 use Rattle.search_columns.specs.Steps.Rows.{rows_of, NonePast}
 use Rattle.search_extremes.proofs.extreme_from.Given as goal

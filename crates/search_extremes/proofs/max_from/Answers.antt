@@ -1,6 +1,5 @@
 -- `search_extremes::max_from` meets its contract: the order of the integers is that of the columns of which the first is turned over.
 -- Assumes nothing.
-use borrow.Author.Rules.{rules}
 use mathlib.Core.Path.{sym, ◌∙◌}
 use Rattle.search_columns.proofs.Loops.{component-in}
 use Rattle.search_extremes.proofs.Signs.{max-turned}

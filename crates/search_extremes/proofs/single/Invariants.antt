@@ -1,12 +1,7 @@
 -- `search_extremes::single` meets its contract. The loop's invariant: of the first k words at most one is not 0, and that one is `found`.
 -- The measure is what is left of the words. Assumes nothing.
 use Prim.Native.Nat.{◌-◌, ◌≤◌}
-use native.Mathlib.Omega.{arith}
-use borrow.Author.Tests.{eqb-true}
-use mathlib.Core.Logic.{⊎_elim}
-use mathlib.Core.Path.{refl}
-use Rattle.rowset.proofs.Laws.{clash}
-use Rattle.search_extremes.proofs.Words.{OneWord, word_none, word-zero, word_first, word-all}
+use Rattle.search_extremes.proofs.Words.{OneWord}
 use Rattle.search_extremes.proofs.single.Given as goal
 
 abbrev pub invariant-loop-k : goal.invariant-loop-k

@@ -1,5 +1,4 @@
 -- `search_great::compare_four` meets its contract: in the first column that is read, turned over, the bit is the other one. Assumes nothing.
-use borrow.Author.Rules.{rules}
 use mathlib.Core.Path.{◌∙◌}
 use Rattle.path_matrix.specs.Matrix.{matrix_column}
 use Rattle.search_columns.proofs.Loops.{component-in}

@@ -6,19 +6,15 @@ use borrow.Author.Rules.{rules}
 use borrow.Author.Tests.{not-true}
 use mathlib.Core.Bool.{true}
 use mathlib.Core.Logic.{⊎_elim}
-use mathlib.Core.Path.{◌≡◌, sym, ap, ◌∙◌}
+use mathlib.Core.Path.{sym, ap, ◌∙◌}
 use lib.ListN.{length}
 use Rattle.rowset.specs.Columns.{in_columns}
 use Rattle.rowset.proofs.Laws.{clash}
-use Rattle.path_matrix.specs.Matrix.{matrix_column}
-use Rattle.search_great.proofs.Loops.{Comparing, comparing-start, comparing-more, comparing-none, comparing-all}
+use Rattle.search_great.proofs.Loops.{comparing-start, comparing-more, comparing-none, comparing-all}
 use Rattle.search_columns.proofs.Loops.{component-in, blank-empty}
 use Rattle.search_columns.proofs.Words.{none-past-kept}
 use Rattle.search_great.proofs.Signs.{great-turned, same-turned, all-equal}
-use Rattle.search_columns.specs.Steps.Column.{turned}
-use Rattle.search_columns.specs.Steps.Rows.{rows_of, NonePast}
-use Rattle.search_great.proofs.great_from.Reads as reads
-use Rattle.search_great.proofs.great_from.Lts as lts
+use Rattle.search_columns.specs.Steps.Rows.{rows_of}
 use Rattle.search_great.proofs.great_from.Goals as goal
 
 pub loop-j-init : goal.loop-j-init

@@ -1,24 +1,13 @@
 -- `search_great::great_from` meets its contract. The loop's invariant: z has the rows that equal v in the columns read, of which the first is turned over, and g those that are greater there; where `four` is true, z has no row past four words.
 -- The measure is what is left of the columns. Assumes nothing.
 use Prim.Native.Nat.{◌-◌}
-use native.Mathlib.Omega.{arith}
-use borrow.Author.Rules.{rules}
-use borrow.Author.Tests.{not-true}
 use mathlib.Core.Bool.{true}
-use mathlib.Core.Logic.{⊎_elim}
-use mathlib.Core.Path.{◌≡◌, sym, ap, ◌∙◌}
+use mathlib.Core.Path.{◌≡◌}
 use lib.ListN.{length}
-use Rattle.rowset.specs.Columns.{in_columns}
-use Rattle.rowset.proofs.Laws.{clash}
 use Rattle.path_matrix.specs.Matrix.{matrix_column}
-use Rattle.search_great.proofs.Loops.{Comparing, comparing-start, comparing-more, comparing-none, comparing-all}
-use Rattle.search_columns.proofs.Loops.{component-in, blank-empty}
-use Rattle.search_columns.proofs.Words.{none-past-kept}
-use Rattle.search_great.proofs.Signs.{great-turned, same-turned, all-equal}
+use Rattle.search_great.proofs.Loops.{Comparing}
 use Rattle.search_columns.specs.Steps.Column.{turned}
 use Rattle.search_columns.specs.Steps.Rows.{rows_of, NonePast}
-use Rattle.search_great.proofs.great_from.Reads as reads
-use Rattle.search_great.proofs.great_from.Lts as lts
 use Rattle.search_great.proofs.great_from.Given as goal
 
 abbrev pub invariant-loop-j : goal.invariant-loop-j

@@ -1,6 +1,5 @@
 -- `search_great::grow` meets its contract, in each of its two cases.
 -- Assumes nothing.
-use borrow.Author.Rules.{rules}
 use Rattle.search_great.specs.Steps.Column.{grown}
 use Rattle.search_great.proofs.grow.Goals as goal
 

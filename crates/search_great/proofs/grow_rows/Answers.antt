@@ -1,9 +1,8 @@
 -- `search_great::grow_rows` meets its contract. The loop's invariant: the first k words have also the rows that are kept, and the others are as they were.
 -- The measure is what is left of the words. Assumes nothing.
-use Prim.Native.Nat.{◌-◌, ◌≤◌}
+use Prim.Native.Nat.{◌-◌}
 use native.Mathlib.Omega.{arith}
-use borrow.Author.Rules.{rules}
-use Rattle.search_great.proofs.Words.{Widened, widened_none, widened_more, widened-all}
+use Rattle.search_great.proofs.Words.{widened_none, widened_more, widened-all}
 use Rattle.search_great.proofs.grow_rows.Goals as goal
 
 pub overflow_mul-from : goal.overflow_mul-from

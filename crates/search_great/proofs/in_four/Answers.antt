@@ -1,6 +1,5 @@
 -- `search_great::in_four` meets its contract: the words that are read are four at most, and past them there is no row. Assumes nothing.
 use Prim.Native.Nat.{◌≤◌}
-use borrow.Author.Rules.{rules}
 use borrow.Author.Tests.{leb-true}
 use native.Mathlib.Omega.{arith}
 use mathlib.Core.Path.{refl}

@@ -1,7 +1,6 @@
 -- `search_great::ordered` meets its contract: the column is turned over where it is the first that is read.
 -- Assumes nothing.
 use Prim.Native.Nat.{suc, ◌+◌}
-use borrow.Author.Rules.{rules}
 use borrow.Author.Tests.{eq-eqb, ne_eqb}
 use mathlib.Core.Path.{◌≡◌}
 use native.Mathlib.Omega.{arith}

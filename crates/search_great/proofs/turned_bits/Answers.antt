@@ -1,14 +1,11 @@
 -- `search_great::turned_bits` meets its contract: half is 2 ^ k, where k + 1 columns are read.
 -- Assumes nothing.
 use Prim.Native.Nat.{suc, ◌-◌, ◌*◌, ◌%◌, ◌^◌}
-use borrow.Author.Rules.{rules}
 use mathlib.Core.Path.{◌≡◌}
 use native.Mathlib.Nat.{mod-le}
 use native.Mathlib.Omega.{arith}
 use Rattle.search_great.proofs.Signs.{half-fits, half_is, low-digits, high-digits}
 use Rattle.search_great.specs.Steps.Column.{turned_bits}
-use Rattle.search_great.proofs.turned_bits.Reads as reads
-use Rattle.search_great.proofs.turned_bits.Lts as lts
 use Rattle.search_great.proofs.turned_bits.Goals as goal
 
 pub returns-then-first-ge-WIDTH : goal.returns-then-first-ge-WIDTH

@@ -2,7 +2,7 @@
 -- Assumes nothing.
 use mathlib.Core.Path.{sym, ◌∙◌}
 use native.Mathlib.Omega.{arith}
-use Rattle.search_join.proofs.Joining.{Copied, copied_none, copied_more, copied_all}
+use Rattle.search_join.proofs.Joining.{copied_none, copied_more, copied_all}
 use Rattle.search_join.proofs.copy_words.Goals as goal
 
 pub loop-k-init : goal.loop-k-init

@@ -1,8 +1,6 @@
 -- `search_join::copy_words` meets its contract. The loop's invariant: the words from index k on that are asked for are those of `rows`, and those past them are as they were. The measure is k.
 -- Assumes nothing.
-use mathlib.Core.Path.{sym, ◌∙◌}
-use native.Mathlib.Omega.{arith}
-use Rattle.search_join.proofs.Joining.{Copied, copied_none, copied_more, copied_all}
+use Rattle.search_join.proofs.Joining.{Copied}
 use Rattle.search_join.proofs.copy_words.Given as goal
 
 abbrev pub invariant-loop-k : goal.invariant-loop-k

@@ -1,26 +1,25 @@
 -- `search_join::join_words` meets its contract: each function looks through the words that are asked for. Assumes nothing.
-use borrow.Author.Rules.{rules}
 use native.Mathlib.Omega.{arith}
 use Rattle.search_join.proofs.Joining.{taken-one, taken-four, taken-sixteen}
 use Rattle.search_join.proofs.join_words.Goals as goal
 
 pub returns-then-used-le1 : goal.returns-then-used-le1
 returns-then-used-le1 c =
-     let told = c.join_one.ensures in record {
+    let told = c.join_one.ensures in record {
       rows = rw (taken-one c.args.used (omega (arith, c.if-used-le1.true))) told.rows;
       read = rw (taken-one c.args.used (omega (arith, c.if-used-le1.true))) told.read;
     }
 
 pub returns-then-used-le4 : goal.returns-then-used-le4
 returns-then-used-le4 c =
-     let told = c.join_four.ensures in record {
+    let told = c.join_four.ensures in record {
       rows = rw (taken-four c.args.used (omega (arith, c.if-used-le1.false)) (omega (arith, c.if-used-le4.true))) told.rows;
       read = rw (taken-four c.args.used (omega (arith, c.if-used-le1.false)) (omega (arith, c.if-used-le4.true))) told.read;
     }
 
 pub returns : goal.returns
 returns c =
-     let told = c.join_all.ensures in record {
+    let told = c.join_all.ensures in record {
       rows = rw (taken-sixteen c.args.used (omega (arith, c.if-used-le4.false))) told.rows;
       read = rw (taken-sixteen c.args.used (omega (arith, c.if-used-le4.false))) told.read;
     }

@@ -1,5 +1,4 @@
 -- `search_join::match_ends` meets its contract: it is MATCH in the last eight columns. Assumes nothing.
-use borrow.Author.Rules.{rules}
 use Rattle.search_join.proofs.match_ends.Goals as goal
 
 pub returns : goal.returns

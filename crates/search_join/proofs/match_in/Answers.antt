@@ -5,8 +5,8 @@ use Rattle.search_join.proofs.match_in.Goals as goal
 
 pub returns-then-not-fits : goal.returns-then-not-fits
 returns-then-not-fits c =
-     let told = found_none _ _ _ _ _ _ _ c.fits.ensures c.if-not-fits.true c.requires in record { rows = told.0; size = told.1.0; read = told.1.1 }
+    let told = found_none _ _ _ _ _ _ _ c.fits.ensures c.if-not-fits.true c.requires in record { rows = told.0; size = told.1.0; read = told.1.1 }
 
 pub returns : goal.returns
 returns c =
-     let told = found _ _ _ _ _ _ _ c.fits.ensures _ _ c.if-not-fits.false c.join_words.ensures.rows (search rules) c.join_words.ensures.read in record { rows = told.0; size = told.1.0; read = told.1.1 }
+    let told = found _ _ _ _ _ _ _ c.fits.ensures _ _ c.if-not-fits.false c.join_words.ensures.rows (search rules) c.join_words.ensures.read in record { rows = told.0; size = told.1.0; read = told.1.1 }

@@ -1,16 +1,11 @@
 -- `search_join::narrow_all` meets its contract. The loop's invariant: z has the rows that equal w in the k rightmost columns, none past the words that are read, and at least k columns are read.
 -- The measure is what is left of the columns. Assumes nothing.
 use Prim.Native.Nat.{◌-◌}
-use native.Mathlib.Omega.{arith}
-use borrow.Author.Rules.{rules}
 use lib.ListN.{length}
-use mathlib.Core.Logic.{⊎_elim}
-use mathlib.Core.Path.{◌≡◌, sym, ap, ◌∙◌}
+use mathlib.Core.Path.{◌≡◌}
 use Rattle.path_matrix.specs.Matrix.{matrix_column}
 use Rattle.search_columns.specs.Steps.Rows.{rows_of, NonePast}
-use Rattle.search_columns.proofs.Words.{none-past-kept}
-use Rattle.search_match.proofs.Counts.{Right, right-start, right-stopped, right-all}
-use Rattle.search_join.proofs.Joining.{none_at_all, right-next}
+use Rattle.search_match.proofs.Counts.{Right}
 use Rattle.search_join.proofs.narrow_all.Given as goal
 
 abbrev pub invariant-loop-k : goal.invariant-loop-k

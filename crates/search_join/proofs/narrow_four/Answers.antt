@@ -2,14 +2,10 @@
 -- The measure is what is left of the columns. Assumes nothing.
 use Prim.Native.Nat.{◌-◌}
 use native.Mathlib.Omega.{arith}
-use borrow.Author.Rules.{rules}
-use lib.ListN.{length}
 use mathlib.Core.Logic.{⊎_elim}
-use mathlib.Core.Path.{◌≡◌, sym, ap, ◌∙◌}
-use Rattle.path_matrix.specs.Matrix.{matrix_column}
-use Rattle.search_columns.specs.Steps.Rows.{rows_of, NonePast}
+use mathlib.Core.Path.{◌≡◌, sym, ◌∙◌}
 use Rattle.search_columns.proofs.Words.{none-past-kept}
-use Rattle.search_match.proofs.Counts.{Right, right-start, right-stopped, right-all}
+use Rattle.search_match.proofs.Counts.{right-start, right-stopped, right-all}
 use Rattle.search_join.proofs.Joining.{none_at_all, right-next}
 use Rattle.search_join.proofs.narrow_four.Goals as goal
 

@@ -1,10 +1,7 @@
 -- `search_join::none_in` meets its contract. The loop's invariant: `joined` is 0 where the first k words are, and else there is a row. The measure is what is left of the words.
 -- Assumes nothing.
 use Prim.Native.Nat.{◌-◌, ◌≤◌}
-use native.Mathlib.Omega.{arith}
-use borrow.Author.Tests.{eqb-true, eqb-false}
-use mathlib.Core.Path.{◌≡◌}
-use Rattle.search_join.proofs.Joining.{Joined, joined-none, joined-more}
+use Rattle.search_join.proofs.Joining.{Joined}
 use Rattle.search_join.proofs.none_in.Given as goal
 
 abbrev pub invariant-loop-k : goal.invariant-loop-k

@@ -4,7 +4,7 @@ use Prim.Native.Nat.{◌-◌}
 use lib.Bits.{bit_or}
 use mathlib.Core.Path.{sym, ◌∙◌}
 use native.Mathlib.Omega.{arith}
-use Rattle.slice.proofs.Merge.{Merged, merged-none, merged-more}
+use Rattle.slice.proofs.Merge.{merged-none, merged-more}
 use Rattle.slice_words.proofs.Joining.{joined}
 use Rattle.search_join.proofs.put_words.Goals as goal
 

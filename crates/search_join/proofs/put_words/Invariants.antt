@@ -2,10 +2,7 @@
 -- Assumes nothing.
 use Prim.Native.Nat.{◌-◌}
 use lib.Bits.{bit_or}
-use mathlib.Core.Path.{sym, ◌∙◌}
-use native.Mathlib.Omega.{arith}
-use Rattle.slice.proofs.Merge.{Merged, merged-none, merged-more}
-use Rattle.slice_words.proofs.Joining.{joined}
+use Rattle.slice.proofs.Merge.{Merged}
 use Rattle.search_join.proofs.put_words.Given as goal
 
 abbrev pub invariant-loop-i : goal.invariant-loop-i

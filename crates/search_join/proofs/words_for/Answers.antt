@@ -1,5 +1,4 @@
 -- `search_join::words_for` meets its contract. Assumes nothing.
-use borrow.Author.Rules.{rules}
 use native.Mathlib.Omega.{arith}
 use Rattle.search_join.proofs.Joining.{width_one, width_four, width-sixteen}
 use Rattle.search_join.proofs.words_for.Goals as goal

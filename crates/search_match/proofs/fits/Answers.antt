@@ -3,7 +3,6 @@ use Prim.Native.Nat.{◌-◌}
 use native.Mathlib.Omega.{arith}
 use mathlib.Core.Path.{◌≡◌}
 use mathlib.Core.Logic.{⊎_elim}
-use borrow.Author.Rules.{rules}
 use Rattle.search_match.proofs.fits.Goals as goal
 
 pub overflow_shr-result : goal.overflow_shr-result
@@ -12,5 +11,5 @@ overflow_shr-result c = ⊎_elim (λ t. omega arith) (λ t. omega arith) c.if-fi
 pub returns : goal.returns
 returns c =
     let e : c.if-first-lt-WIDTH.columns ≡ 32 - c.args.first
-   = ⊎_elim (λ t. omega arith) (λ t. omega arith) c.if-first-lt-WIDTH.branch-raw in
+    = ⊎_elim (λ t. omega arith) (λ t. omega arith) c.if-first-lt-WIDTH.branch-raw in
     rw e

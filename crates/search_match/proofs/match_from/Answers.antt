@@ -1,6 +1,5 @@
 -- `search_match::match_from` meets its contract: where w has a digit before those of the columns that are read, no row equals it, and where it has none, the rows are MATCH's from the right. Assumes nothing.
 use Prim.Native.Nat.{ℕ, ◌-◌, ◌/◌, ◌^◌}
-use borrow.Author.Rules.{rules}
 use borrow.Author.Tests.{eqb-true, eqb-false}
 use lib.Dec.{eqb}
 use mathlib.Core.Bool.{Bool, true, false}

@@ -2,12 +2,10 @@
 -- The measure is what is left of the columns. Assumes nothing.
 use Prim.Native.Nat.{◌-◌}
 use native.Mathlib.Omega.{arith}
-use borrow.Author.Rules.{rules}
 use borrow.Author.Tests.{not-true, not-false}
 use mathlib.Core.Logic.{⊎_elim}
 use mathlib.Core.Path.{◌≡◌, sym, ◌∙◌}
-use Rattle.path_matrix.specs.Matrix.{matrix_column}
-use Rattle.search_match.proofs.Counts.{Right, right-start, right-more, right-stopped, right-all}
+use Rattle.search_match.proofs.Counts.{right-start, right-more, right-stopped, right-all}
 use Rattle.search_match.proofs.match_right.Goals as goal
 
 -- the columns that may be read are those that are not left out

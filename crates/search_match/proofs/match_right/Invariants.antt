@@ -1,13 +1,8 @@
 -- `search_match::match_right` meets its contract. The loop's invariant: z has the rows of x that equal w in the k rightmost columns, and at least k columns are read.
 -- The measure is what is left of the columns. Assumes nothing.
 use Prim.Native.Nat.{◌-◌}
-use native.Mathlib.Omega.{arith}
-use borrow.Author.Rules.{rules}
-use borrow.Author.Tests.{not-true, not-false}
-use mathlib.Core.Logic.{⊎_elim}
-use mathlib.Core.Path.{◌≡◌, sym, ◌∙◌}
 use Rattle.path_matrix.specs.Matrix.{matrix_column}
-use Rattle.search_match.proofs.Counts.{Right, right-start, right-more, right-stopped, right-all}
+use Rattle.search_match.proofs.Counts.{Right}
 use Rattle.search_match.proofs.match_right.Given as goal
 
 abbrev pub invariant-loop-k : goal.invariant-loop-k

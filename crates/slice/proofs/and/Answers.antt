@@ -8,7 +8,7 @@ use lib.Bits.{bit_and}
 use native.Mathlib.Omega.{arith}
 use Rattle.rowset.specs.Sets.{both}
 use Rattle.slice.proofs.Bits.{and-bitwise}
-use Rattle.slice.proofs.Merge.{Merged, merged-none, merged-more, merged-all}
+use Rattle.slice.proofs.Merge.{merged-none, merged-more, merged-all}
 use Rattle.slice.proofs.and.Goals as goal
 
 pub loop-k-init : goal.loop-k-init

@@ -1,14 +1,8 @@
 -- `slice::and` meets its contract, by the law of the loop that and, or and xor share. The loop's invariant: the words below `k` are joined, and the others are those of `x`.
 -- The measure is what is left of the words. Assumes nothing.
 use Prim.Native.Nat.{◌-◌}
-use mathlib.Core.Bool.{◌&&◌}
-use mathlib.Core.Path.{refl}
-use borrow.Author.Rules.{rules}
 use lib.Bits.{bit_and}
-use native.Mathlib.Omega.{arith}
-use Rattle.rowset.specs.Sets.{both}
-use Rattle.slice.proofs.Bits.{and-bitwise}
-use Rattle.slice.proofs.Merge.{Merged, merged-none, merged-more, merged-all}
+use Rattle.slice.proofs.Merge.{Merged}
 use Rattle.slice.proofs.and.Given as goal
 
 abbrev pub invariant-loop-k : goal.invariant-loop-k

@@ -1,6 +1,5 @@
 -- `slice::get` meets its contract. Assumes nothing.
 use mathlib.Core.Path.{sym}
-use borrow.Author.Rules.{rules}
 use native.Mathlib.Omega.{arith}
 use Rattle.slice.specs.Slices.{bit}
 use Rattle.slice.proofs.Laws.{component-below, component-above, component-inside}

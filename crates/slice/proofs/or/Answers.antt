@@ -8,7 +8,7 @@ use lib.Bits.{bit_or}
 use native.Mathlib.Omega.{arith}
 use Rattle.rowset.specs.Sets.{either}
 use Rattle.slice.proofs.Bits.{or-bitwise}
-use Rattle.slice.proofs.Merge.{Merged, merged-none, merged-more, merged-all}
+use Rattle.slice.proofs.Merge.{merged-none, merged-more, merged-all}
 use Rattle.slice.proofs.or.Goals as goal
 
 pub loop-k-init : goal.loop-k-init

@@ -17,7 +17,7 @@ use Rattle.rowset.proofs.Laws.{any_some, none_any}
 use Rattle.slice.specs.Slices.{size, component}
 use Rattle.slice.specs.declared.Slice.{Slice}
 use Rattle.slice.proofs.Bits.{bit-at-trailing}
-use Rattle.slice.proofs.Laws.{component-at, Clear, clear-more}
+use Rattle.slice.proofs.Laws.{component-at, clear-more}
 use Rattle.slice.proofs.some.Invariants.{Joined}
 use Rattle.slice.proofs.some.Goals as goal
 

@@ -1,6 +1,5 @@
 -- `slice::step_value` meets its contract. Assumes nothing.
 use mathlib.Core.Path.{ap, ◌∙◌}
-use borrow.Author.Rules.{rules}
 use Rattle.rowset.specs.Sets.{take_out}
 use Rattle.slice.specs.Slices.{component}
 use Rattle.slice.proofs.Laws.{written-false}

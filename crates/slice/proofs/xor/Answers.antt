@@ -8,7 +8,7 @@ use lib.Bits.{bit_xor}
 use native.Mathlib.Omega.{arith}
 use Rattle.rowset.specs.Sets.{one_of}
 use Rattle.slice.proofs.Bits.{xor-bitwise}
-use Rattle.slice.proofs.Merge.{Merged, merged-none, merged-more, merged-all}
+use Rattle.slice.proofs.Merge.{merged-none, merged-more, merged-all}
 use Rattle.slice.proofs.xor.Goals as goal
 
 pub loop-k-init : goal.loop-k-init

@@ -1,7 +1,6 @@
 -- `slice::zero` meets its contract. Assumes nothing.
 use mathlib.Core.Bool.{not}
 use mathlib.Core.Path.{ap}
-use borrow.Author.Rules.{rules}
 use Rattle.slice.proofs.zero.Goals as goal
 
 pub returns : goal.returns

@@ -1,7 +1,7 @@
 -- `slice_planes::block` meets its contract. The loop's invariant: the block so far has the bytes of the rows from number l on.
 -- The measure is l. Assumes nothing.
 use mathlib.Core.Path.{◌≡◌}
-use Prim.Native.Nat.{ℕ, ◌+◌, ◌*◌, ◌-◌, ◌^◌, ◌≤◌, ◌<◌}
+use Prim.Native.Nat.{ℕ, ◌+◌, ◌*◌, ◌-◌, ◌^◌, ◌<◌}
 use native.Mathlib.Omega.{arith}
 use borrow.Author.Rules.{rules}
 use Rattle.slice_planes.specs.Steps.Blocks.{from_digits, row_byte, block_of}
@@ -46,8 +46,7 @@ overflow_add-block c = omega (arith, grown (goal.at.overflow_add-block c).In-loo
 
 pub loop-l-preserved : goal.loop-l-preserved
 unfolding row_byte
-loop-l-preserved c =
-    (
+loop-l-preserved c = (
   omega arith,
   rw (c.byte_at.ensures.value, c.loop-l.invariant.1, digits-down 256 (rows (goal.at.loop-l-preserved c).In-loop-l) c.loop-l.l 8 c.loop-l-test.true c.loop-l.invariant.0),
 )

@@ -1,12 +1,8 @@
 -- `slice_planes::block` meets its contract. The loop's invariant: the block so far has the bytes of the rows from number l on.
 -- The measure is l. Assumes nothing.
 use mathlib.Core.Path.{◌≡◌}
-use Prim.Native.Nat.{ℕ, ◌+◌, ◌*◌, ◌-◌, ◌^◌, ◌≤◌, ◌<◌}
-use native.Mathlib.Omega.{arith}
-use borrow.Author.Rules.{rules}
-use Rattle.slice_planes.specs.Steps.Blocks.{from_digits, row_byte, block_of}
-use Rattle.slice_planes.proofs.Digits.{digits-down}
-use Rattle.slice_planes.proofs.Words.{index-fits, block-fits}
+use Prim.Native.Nat.{◌+◌, ◌*◌, ◌-◌, ◌≤◌}
+use Rattle.slice_planes.specs.Steps.Blocks.{from_digits, row_byte}
 use Rattle.slice_planes.proofs.block.Given as goal
 
 abbrev pub invariant-loop-l : goal.invariant-loop-l

@@ -1,10 +1,8 @@
 -- `slice_planes::gather` meets its contract. The loop's invariant: the blocks before b are right. The measure is what is left of them.
 -- Assumes nothing.
-use mathlib.Core.Path.{◌≡◌, refl}
-use Prim.Native.Nat.{◌+◌, ◌*◌, ◌-◌, ◌/◌, ◌%◌}
-use native.Mathlib.Omega.{arith}
-use Rattle.slice_planes.specs.Steps.Blocks.{block_of}
-use Rattle.slice.proofs.Stores.{Filled, filled_none, filled_more, filled-all}
+use mathlib.Core.Path.{refl}
+use Prim.Native.Nat.{◌-◌}
+use Rattle.slice.proofs.Stores.{filled_none, filled_more, filled-all}
 use Rattle.slice_planes.proofs.gather.Goals as goal
 
 pub loop-b-init : goal.loop-b-init

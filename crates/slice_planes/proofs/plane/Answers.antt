@@ -1,10 +1,8 @@
 -- `slice_planes::plane` meets its contract. The loop's invariant: the words before q are right. The measure is what is left of them.
 -- Assumes nothing.
-use mathlib.Core.Path.{◌≡◌, refl}
+use mathlib.Core.Path.{refl}
 use Prim.Native.Nat.{◌-◌}
-use native.Mathlib.Omega.{arith}
-use Rattle.slice_planes.specs.Steps.Blocks.{word_of}
-use Rattle.slice.proofs.Stores.{Filled, filled_none, filled_more, filled-all}
+use Rattle.slice.proofs.Stores.{filled_none, filled_more, filled-all}
 use Rattle.slice_planes.proofs.plane.Goals as goal
 
 pub loop-q-init : goal.loop-q-init

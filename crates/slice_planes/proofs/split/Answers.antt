@@ -1,11 +1,9 @@
 -- `slice_planes::split` meets its contract. The loop's invariant: the planes before k are right. The measure is what is left of them.
 -- Assumes nothing.
-use mathlib.Core.Path.{◌≡◌, refl}
+use mathlib.Core.Path.{refl}
 use Prim.Native.Nat.{◌-◌}
 use native.Mathlib.Omega.{arith}
-use Rattle.slice_planes.specs.Planes.{blank, bit_plane}
-use Rattle.slice.specs.Slices.{component}
-use Rattle.slice.proofs.Stores.{Filled, filled_none, filled_more, filled-all}
+use Rattle.slice.proofs.Stores.{filled_none, filled_more, filled-all}
 use Rattle.slice_planes.proofs.Words.{plane-component, planes-all}
 use Rattle.slice_planes.proofs.split.Goals as goal
 

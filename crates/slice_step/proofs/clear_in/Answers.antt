@@ -1,6 +1,5 @@
 -- `slice_step::clear_in` meets its contract, by the laws of a slice's components. Assumes nothing.
 use Prim.Native.Nat.{ℕ, ◌*◌, ◌-◌, ◌/◌, ◌%◌, ◌^◌, ◌<◌, ◌≤◌}
-use borrow.Author.Rules.{rules}
 use lib.Bits.{bit_and}
 use lib.ListN.{length, get_or, set, length-set}
 use lib.Pow.{shl_exact}

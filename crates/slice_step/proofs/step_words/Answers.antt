@@ -3,7 +3,6 @@ use Prim.Native.Nat.{ℕ}
 use mathlib.Core.Bool.{Bool, true, false, xor}
 use mathlib.Core.List.{List, replicate}
 use mathlib.Core.Path.{◌≡◌, refl, ap, fun_ext, ◌∙◌}
-use borrow.Author.Rules.{rules}
 use Rattle.rowset.specs.Sets.{one_of, empty, take_out, uppermost}
 use Rattle.rowset.specs.Words.{in_words}
 use Rattle.slice.proofs.Laws.{written-false}

@@ -1,10 +1,8 @@
 -- `slice_words::count_rows` meets its contract. The loop's invariant: `count` is the number of rows of 1 to i. The measure is what is left of the rows.
 -- Assumes nothing.
-use Prim.Native.Nat.{◌-◌, ◌≤◌}
-use borrow.Author.Rules.{rules}
+use Prim.Native.Nat.{◌-◌}
 use mathlib.Core.Path.{◌≡◌, sym}
 use native.Mathlib.Omega.{arith}
-use Rattle.rowset.specs.Sets.{count}
 use Rattle.rowset.proofs.Laws.{count-bound}
 use Rattle.rowset.specs.Words.{in_words}
 use Rattle.slice_words.proofs.Laws.{component-words}

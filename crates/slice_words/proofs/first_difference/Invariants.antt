@@ -1,13 +1,9 @@
 -- `slice_words::first_difference` meets its contract. The loop's invariant: the slices have the same components in the words below `k`. The measure is what is left of the words.
 -- Assumes nothing.
 use Prim.Native.Nat.{◌-◌, ◌≤◌}
-use mathlib.Core.Path.{sym}
-use native.Mathlib.Omega.{arith}
-use Rattle.rowset.proofs.Laws.{uppermost-zero}
 use Rattle.rowset.specs.Sets.{one_of}
 use Rattle.rowset.specs.Words.{in_words}
-use Rattle.slice.specs.Slices.{size}
-use Rattle.slice_words.proofs.Laws.{Clear, clear-more, found, differ-at}
+use Rattle.slice_words.proofs.Laws.{Clear}
 use Rattle.slice_words.proofs.first_difference.Given as goal
 
 abbrev pub invariant-loop-k : goal.invariant-loop-k

@@ -1,6 +1,6 @@
 -- `slice_words::highest` meets its contract. Assumes nothing.
 use Prim.Native.Nat.{ℕ, suc, ◌+◌, ◌-◌, ◌/◌, ◌%◌, ◌^◌, ◌<◌, ◌≤◌}
-use lib.Count.{count_leading_zeros, leading_le, leading_top}
+use lib.Count.{leading_le, leading_top}
 use lib.Dec.{eqb}
 use lib.Pow.{pow_mono}
 use mathlib.Core.Bool.{true, false}

@@ -1,18 +1,10 @@
 -- `slice_words::last_row` meets its contract. The loop's invariant: the words from k on are 0. The measure is k.
 -- Assumes nothing.
-use Prim.Native.Nat.{ℕ, ◌+◌, ◌-◌, ◌*◌, ◌/◌, ◌%◌, ◌≤◌, ◌<◌}
-use mathlib.Core.Bool.{true, false}
+use Prim.Native.Nat.{ℕ, ◌-◌, ◌*◌, ◌≤◌, ◌<◌}
+use mathlib.Core.Bool.{false}
 use mathlib.Core.List.{List}
-use mathlib.Core.Logic.{by_cases}
-use mathlib.Core.Path.{◌≡◌, ap, ◌∙◌}
-use native.Mathlib.Decide.{dec_le}
-use native.Mathlib.Omega.{arith}
-use lib.ListN.{get_or}
+use mathlib.Core.Path.{◌≡◌}
 use Rattle.rowset.specs.Words.{in_words}
-use Rattle.slice.proofs.Bits.{bit-of-zero}
-use Rattle.slice.proofs.Laws.{component-above}
-use Rattle.slice.specs.Slices.{size, bit}
-use Rattle.slice_words.proofs.Laws.{words-component, words-at}
 use Rattle.slice_words.proofs.last_row.Given as goal
 
 -- the words from k on have no component

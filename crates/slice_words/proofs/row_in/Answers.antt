@@ -1,6 +1,5 @@
 -- `slice_words::row_in` meets its contract. Assumes nothing.
 use Prim.Native.Nat.{◌-◌, ◌/◌, ◌≤◌}
-use borrow.Author.Rules.{rules}
 use lib.ListN.{length, get_or-eq_default}
 use mathlib.Core.Bool.{and-false}
 use native.Mathlib.Nat.{zero-div}

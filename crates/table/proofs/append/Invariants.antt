@@ -1,15 +1,11 @@
 -- `table::append` meets its contract. The loop's invariant: the columns before index j are right. The measure is what is left of them.
 -- Assumes nothing.
 use Prim.Native.Nat.{suc, ◌-◌}
-use mathlib.Core.Logic.{⊎_elim}
-use mathlib.Core.Path.{◌≡◌, ap, ◌∙◌}
-use native.Mathlib.Omega.{arith}
-use lib.ListN.{length}
-use borrow.Author.Rules.{rules}
+use mathlib.Core.Path.{◌≡◌}
 use Rattle.slice.specs.Slices.{component}
-use Rattle.slice.proofs.Stores.{Filled, filled_none, filled_more, filled-all, length-unmap}
+use Rattle.slice.proofs.Stores.{Filled}
 use Rattle.table.specs.Tables.{blank}
-use Rattle.table.proofs.Loads.{moved, moved-left, moved-right, appended}
+use Rattle.table.proofs.Loads.{moved}
 use Rattle.table.proofs.append.Given as goal
 
 abbrev pub invariant-loop-j : goal.invariant-loop-j

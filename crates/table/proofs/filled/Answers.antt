@@ -1,11 +1,7 @@
 -- `table::filled` meets its contract. The loop's invariant: the rows have the bytes from number k on. The measure is k.
 -- Assumes nothing.
-use Prim.Native.Nat.{◌≤◌}
 use mathlib.Core.Path.{◌≡◌, sym, ◌∙◌, fun_ext}
 use native.Mathlib.Omega.{arith}
-use borrow.Author.Rules.{rules}
-use Rattle.table.specs.Tables.{row}
-use Rattle.table.specs.Steps.Loading.{upper_bytes}
 use Rattle.table.proofs.Loads.{upper-none, upper-more, upper-below}
 use Rattle.table.proofs.filled.Goals as goal
 
@@ -17,14 +13,13 @@ append-t-requires c i =
     rw c.loop-k.invariant.1 (upper-below _ (λ n. (c.shared_slice_known-1.given n).fits) _ _ i (omega arith))
 
 pub loop-k-preserved : goal.loop-k-preserved
-loop-k-preserved c =
-    (
-      omega arith,
-      c.append-t.ensures
-          ∙ fun_ext (λ i.
-          rw c.loop-k.invariant.1
-          (upper-more _ (λ n. (c.shared_slice_known-1.given n).fits) _ _ _ i c.loop-k-test.true c.loop-k.invariant.0 c.split-p.ensures)),
-    )
+loop-k-preserved c = (
+  omega arith,
+  c.append-t.ensures
+      ∙ fun_ext (λ i.
+      rw c.loop-k.invariant.1
+      (upper-more _ (λ n. (c.shared_slice_known-1.given n).fits) _ _ _ i c.loop-k-test.true c.loop-k.invariant.0 c.split-p.ensures)),
+)
 
 pub returns : goal.returns
 returns c =

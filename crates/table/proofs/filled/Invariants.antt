@@ -1,12 +1,9 @@
 -- `table::filled` meets its contract. The loop's invariant: the rows have the bytes from number k on. The measure is k.
 -- Assumes nothing.
 use Prim.Native.Nat.{◌≤◌}
-use mathlib.Core.Path.{◌≡◌, sym, ◌∙◌, fun_ext}
-use native.Mathlib.Omega.{arith}
-use borrow.Author.Rules.{rules}
+use mathlib.Core.Path.{◌≡◌}
 use Rattle.table.specs.Tables.{row}
 use Rattle.table.specs.Steps.Loading.{upper_bytes}
-use Rattle.table.proofs.Loads.{upper-none, upper-more, upper-below}
 use Rattle.table.proofs.filled.Given as goal
 
 abbrev pub invariant-loop-k : goal.invariant-loop-k

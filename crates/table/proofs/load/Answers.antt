@@ -1,6 +1,5 @@
 -- `table::load` meets its contract: each way out has the column's length that its answer asks for. Assumes nothing.
 use mathlib.Core.Path.{◌≡◌, sym, ◌∙◌}
-use borrow.Author.Rules.{rules}
 use Rattle.table.specs.Loads.{load_refused, load_refusal}
 use Rattle.table.proofs.Loads.{load-long, load-uneven, load-taken, loaded-refused, loaded-taken, upper-all}
 use Rattle.table.proofs.load.Goals as goal

@@ -2,7 +2,7 @@
 -- The measure is l. Assumes nothing.
 use mathlib.Core.Path.{◌≡◌, refl, sym, ap, ◌∙◌}
 use Prim.Native.Nat.{ℕ, ◌+◌, ◌*◌, ◌-◌, ◌^◌, ◌≤◌, ◌<◌}
-use native.Mathlib.Nat.{add_assoc, mul-le-mul, sub_self, sub-zero}
+use native.Mathlib.Nat.{mul-le-mul, sub_self, sub-zero}
 use native.Mathlib.Omega.{arith}
 use lib.ListN.{length, get_or}
 use Rattle.slice_planes.specs.Steps.Blocks.{from_digits, row_byte}

@@ -1,14 +1,8 @@
 -- `table_loads::block` meets its contract. The loop's invariant: the block so far has the bytes of the rows from number l on, and `at` is the index of that of row number l.
 -- The measure is l. Assumes nothing.
-use mathlib.Core.Path.{◌≡◌, refl, sym, ap, ◌∙◌}
-use Prim.Native.Nat.{ℕ, ◌+◌, ◌*◌, ◌-◌, ◌^◌, ◌≤◌, ◌<◌}
-use native.Mathlib.Nat.{add_assoc, mul-le-mul, sub_self, sub-zero}
-use native.Mathlib.Omega.{arith}
-use lib.ListN.{length, get_or}
+use mathlib.Core.Path.{◌≡◌}
+use Prim.Native.Nat.{◌+◌, ◌*◌, ◌-◌, ◌≤◌}
 use Rattle.slice_planes.specs.Steps.Blocks.{from_digits, row_byte}
-use Rattle.slice_planes.proofs.Digits.{digits-down}
-use Rattle.slice_planes.proofs.Words.{word_fits}
-use Rattle.table_loads.proofs.Gathering.{step_less, step_row}
 use Rattle.table_loads.proofs.block.Given as goal
 
 abbrev pub invariant-loop-l : goal.invariant-loop-l

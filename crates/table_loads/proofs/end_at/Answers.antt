@@ -1,6 +1,5 @@
 -- `table_loads::end_at` meets its contract. Assumes nothing.
 use Prim.Native.Nat.{◌-◌}
-use borrow.Author.Rules.{rules}
 use native.Mathlib.Omega.{arith}
 use Rattle.table_loads.proofs.Ends.{end-unloaded, end_none, end-byte, end-past}
 use Rattle.table_loads.proofs.end_at.Goals as goal

@@ -1,11 +1,10 @@
 -- `table_loads::part` meets its contract. The loop's invariant: the blocks before g are right. The measure is what is left of them.
 -- Assumes nothing.
-use mathlib.Core.Path.{◌≡◌, refl, ◌∙◌}
-use Prim.Native.Nat.{ℕ, ◌+◌, ◌*◌, ◌-◌, ◌/◌, ◌<◌, ◌≤◌}
+use mathlib.Core.Path.{refl, ◌∙◌}
+use Prim.Native.Nat.{◌-◌}
 use native.Mathlib.Omega.{arith}
-use Rattle.slice_planes.specs.Steps.Blocks.{block_of}
-use Rattle.slice.proofs.Stores.{Filled, filled_none, filled_more, filled-all}
-use Rattle.table_loads.proofs.Gathering.{Rest, in-column, block-whole}
+use Rattle.slice.proofs.Stores.{filled_none, filled_more, filled-all}
+use Rattle.table_loads.proofs.Gathering.{in-column, block-whole}
 use Rattle.table_loads.proofs.part.Goals as goal
 
 pub overflow_mul-left : goal.overflow_mul-left

@@ -1,11 +1,10 @@
 -- `table_loads::put_planes` meets its contract. The loop's invariant: the planes before k are stored. The measure is what is left of them.
 -- Assumes nothing.
-use Prim.Native.Nat.{◌*◌, ◌-◌, ◌≤◌}
-use mathlib.Core.Path.{◌≡◌, refl, ap₂, ◌∙◌}
+use Prim.Native.Nat.{◌*◌, ◌-◌}
+use mathlib.Core.Path.{◌≡◌, refl, ap₂}
 use lib.ListN.{set}
 use native.Mathlib.Numerals.{add-one}
 use native.Mathlib.Omega.{arith}
-use Rattle.slice_planes.specs.Steps.Blocks.{word_of}
 use Rattle.table_loads.specs.Steps.Stores.{with_planes}
 use Rattle.table_loads.proofs.put_planes.Goals as goal
 

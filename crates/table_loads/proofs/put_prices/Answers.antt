@@ -1,7 +1,6 @@
 -- `table_loads::put_prices` meets its contract. Assumes nothing.
 use mathlib.Core.Path.{refl}
 use native.Mathlib.Omega.{arith}
-use borrow.Author.Rules.{rules}
 use Rattle.table_loads.proofs.put_prices.Goals as goal
 
 pub returns : goal.returns

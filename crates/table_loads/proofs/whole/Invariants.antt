@@ -1,11 +1,9 @@
 -- `table_loads::whole` meets its contract. The loop's invariant: the blocks before g are right. The measure is what is left of them.
 -- Assumes nothing.
-use mathlib.Core.Path.{◌≡◌, refl, ◌∙◌}
-use Prim.Native.Nat.{ℕ, ◌+◌, ◌*◌, ◌-◌, ◌/◌, ◌<◌, ◌≤◌}
-use native.Mathlib.Omega.{arith}
+use mathlib.Core.Path.{◌≡◌}
+use Prim.Native.Nat.{◌+◌, ◌*◌, ◌-◌}
 use Rattle.slice_planes.specs.Steps.Blocks.{block_of}
-use Rattle.slice.proofs.Stores.{Filled, filled_none, filled_more, filled-all}
-use Rattle.table_loads.proofs.Gathering.{in-column}
+use Rattle.slice.proofs.Stores.{Filled}
 use Rattle.table_loads.proofs.whole.Given as goal
 
 abbrev pub invariant-loop-g : goal.invariant-loop-g

@@ -1,5 +1,4 @@
 -- `answer_fields::built::of_built` meets its contract: each case's fields, written out, with the weight's bits handed on. Assumes nothing.
-use borrow.Author.Rules.{rules}
 use mathlib.Core.Path.{refl}
 use Rattle.answer.specs.Records.{fields_of}
 use Rattle.mst1.specs.Answers.{answer_of}

@@ -1,5 +1,4 @@
 -- `answer_fields::checked::of_checked` meets its contract: the two rows are written beside a pass that is not the only one, and else the fields are those of the verdict. Assumes nothing.
-use borrow.Author.Rules.{rules}
 use mathlib.Core.Bool.{true, false}
 use mathlib.Core.Path.{◌≡◌, refl, sym, ap, ◌∙◌}
 use native.Mathlib.Omega.{arith}

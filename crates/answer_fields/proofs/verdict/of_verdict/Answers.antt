@@ -1,5 +1,4 @@
 -- `answer_fields::verdict::of_verdict` meets its contract: each case's fields, written out, with the weight's bits handed on; a saving is what its own digits stand for; a refusal's are those of `of_refusal`. Assumes nothing.
-use borrow.Author.Rules.{rules}
 use lib.IntN.{ℤ}
 use mathlib.Core.Path.{refl, ap}
 use native.Mathlib.Omega.{arith}

@@ -1,6 +1,4 @@
 -- `cst_door::cst_door::star_cst` meets its contract: what CST, `of_verdict` and `write_answer` promise, one after the other. Assumes nothing.
-use borrow.Author.Rules.{rules}
-use borrow.Author.Tests.{not-true, not-false}
 use mathlib.Core.Path.{sym, ◌∙◌}
 use Rattle.cst_door.proofs.Laws.{cst-shut, cst-open}
 use Rattle.promise.proofs.Doors.{plain-cst}
@@ -8,7 +6,7 @@ use Rattle.cst_door.proofs.cst_door.star_cst.Goals as goal
 
 pub returns-then-not-well_lent : goal.returns-then-not-well_lent
 returns-then-not-well_lent c =
-     let told = plain-cst (cst-shut _ _ (sym c.well_lent.ensures ∙ c.if-not-well_lent.true)) in record { returned = told.0; answered = told.1.0; means = told.1.1 }
+    let told = plain-cst (cst-shut _ _ (sym c.well_lent.ensures ∙ c.if-not-well_lent.true)) in record { returned = told.0; answered = told.1.0; means = told.1.1 }
 
 pub returns : goal.returns
 returns c =

@@ -1,6 +1,4 @@
 -- `path_door::paths_door::star_paths` meets its contract: what MatrixPath, `of_outcome` and `write_answer` promise, one after the other. Assumes nothing.
-use borrow.Author.Rules.{rules}
-use borrow.Author.Tests.{not-true, not-false}
 use mathlib.Core.Path.{sym, ◌∙◌}
 use Rattle.path_door.proofs.Laws.{unwritten, answered}
 use Rattle.path_meaning.proofs.Bytes.{paths-call}
@@ -8,7 +6,7 @@ use Rattle.path_door.proofs.paths_door.star_paths.Goals as goal
 
 pub returns-then-not-well_lent : goal.returns-then-not-well_lent
 returns-then-not-well_lent c =
-     let told = paths-call (unwritten _ _ _ _ (sym c.well_lent.ensures ∙ c.if-not-well_lent.true)) in record { returned = told.0; answered = told.1.0; filled = told.1.1.0; means = told.1.1.1 }
+    let told = paths-call (unwritten _ _ _ _ (sym c.well_lent.ensures ∙ c.if-not-well_lent.true)) in record { returned = told.0; answered = told.1.0; filled = told.1.1.0; means = told.1.1.1 }
 
 pub returns : goal.returns
 returns c =

@@ -1,6 +1,6 @@
 -- `slice::difference::without` meets its contract, by the law of the loop that and, or and xor share. The loop's invariant: the words below `k` are joined, and the others are those of `x`.
 -- The measure is what is left of the words. Assumes nothing.
-use Prim.Native.Nat.{ℕ, ◌-◌, ◌/◌, ◌%◌, ◌^◌}
+use Prim.Native.Nat.{◌-◌, ◌/◌, ◌%◌, ◌^◌}
 use mathlib.Core.Bool.{Bool, true, false, not, cond, ◌&&◌}
 use mathlib.Core.Path.{◌≡◌, refl, ap, ◌∙◌}
 use borrow.Author.Rules.{rules}
@@ -9,7 +9,7 @@ use lib.Dec.{eqb}
 use native.Mathlib.Omega.{arith}
 use Rattle.rowset.specs.Sets.{without}
 use Rattle.slice.proofs.Bits.{Bitwise}
-use Rattle.slice.proofs.Merge.{Merged, merged-none, merged-more, merged-all}
+use Rattle.slice.proofs.Merge.{merged-none, merged-more, merged-all}
 use Rattle.slice.proofs.difference.without.Invariants.{and_not}
 use Rattle.slice.proofs.difference.without.Goals as goal
 

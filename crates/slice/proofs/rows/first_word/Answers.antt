@@ -1,7 +1,6 @@
 -- `slice::rows::first_word` meets its contract: a word before the last has 64 bits set, the last has the m % 64 lowest, and those after it none.
 -- Assumes nothing.
 use Prim.Native.Nat.{ℕ, ◌+◌, ◌-◌, ◌*◌, ◌%◌, ◌^◌, ◌<◌}
-use borrow.Author.Rules.{rules}
 use borrow.Author.Tests.{le-leb, lt-leb}
 use lib.Dec.{leb}
 use lib.Pow.{pow_pos, pow_mono, shl_exact}

@@ -1,5 +1,4 @@
 -- `slice::rows::rows_among` meets its contract: what stands past 1,024 is in no slice. Assumes nothing.
-use borrow.Author.Rules.{rules}
 use mathlib.Core.Path.{◌∙◌}
 use Rattle.rowset.specs.Sets.{up_to}
 use Rattle.slice.proofs.Laws.{both-rows}

@@ -7,10 +7,9 @@ use lib.Dec.{leb}
 use mathlib.Core.Path.{◌≡◌, sym, ◌∙◌}
 use native.Mathlib.Omega.{arith}
 use Rattle.rowset.specs.Sets.{up_to, both}
-use Rattle.slice.specs.Slices.{size, bit}
+use Rattle.slice.specs.Slices.{size}
 use Rattle.slice.proofs.Laws.{component-ext}
-use Rattle.slice.proofs.Stores.{Filled, filled_none, filled_more, filled-all}
-use Rattle.slice.proofs.rows.rows_to.Invariants.{FirstWord}
+use Rattle.slice.proofs.Stores.{filled_none, filled_more, filled-all}
 use Rattle.slice.proofs.rows.rows_to.Goals as goal
 
 pub loop-k-init : goal.loop-k-init

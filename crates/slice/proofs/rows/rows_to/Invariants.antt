@@ -1,15 +1,10 @@
 -- `slice::rows::rows_to` meets its contract. The loop's invariant: the bits of the words below `k` are those of positions 1 to m.
 -- The measure is what is left of the words. Assumes nothing.
 use Prim.Native.Nat.{ℕ, ◌+◌, ◌-◌, ◌*◌, ◌<◌}
-use borrow.Author.Tests.{le-leb}
-use borrow.Author.Rules.{rules}
 use lib.Dec.{leb}
-use mathlib.Core.Path.{◌≡◌, sym, ◌∙◌}
-use native.Mathlib.Omega.{arith}
-use Rattle.rowset.specs.Sets.{up_to, both}
-use Rattle.slice.specs.Slices.{size, bit}
-use Rattle.slice.proofs.Laws.{component-ext}
-use Rattle.slice.proofs.Stores.{Filled, filled_none, filled_more, filled-all}
+use mathlib.Core.Path.{◌≡◌}
+use Rattle.slice.specs.Slices.{bit}
+use Rattle.slice.proofs.Stores.{Filled}
 use Rattle.slice.proofs.rows.rows_to.Given as goal
 
 -- the word at index k of the slice whose components 1 to m are 1

@@ -2,10 +2,8 @@
 -- Assumes nothing.
 use Prim.Native.Nat.{◌-◌}
 use borrow.Author.Rules.{rules}
-use lib.ListN.{get_or}
-use mathlib.Core.Path.{◌≡◌}
 use native.Mathlib.Omega.{arith}
-use Rattle.slice.proofs.Stores.{Filled, filled_none, filled_more, filled-all}
+use Rattle.slice.proofs.Stores.{filled_none, filled_more, filled-all}
 use Rattle.slice.proofs.Laws.{same-words}
 use Rattle.slice.proofs.words.rows_in_use.Goals as goal
 

@@ -1,12 +1,9 @@
 -- `slice::words::rows_in_use` meets its contract. The loop's invariant: the first `k` words of `r` are those lent. The measure is what is left of the words.
 -- Assumes nothing.
 use Prim.Native.Nat.{◌-◌}
-use borrow.Author.Rules.{rules}
 use lib.ListN.{get_or}
 use mathlib.Core.Path.{◌≡◌}
-use native.Mathlib.Omega.{arith}
-use Rattle.slice.proofs.Stores.{Filled, filled_none, filled_more, filled-all}
-use Rattle.slice.proofs.Laws.{same-words}
+use Rattle.slice.proofs.Stores.{Filled}
 use Rattle.slice.proofs.words.rows_in_use.Given as goal
 
 abbrev pub invariant-loop-k : goal.invariant-loop-k

@@ -1,5 +1,4 @@
 -- `slice::words::word_at` meets its contract: past the end the default is read. Assumes nothing.
-use borrow.Author.Rules.{rules}
 use lib.ListN.{get_or-eq_default}
 use mathlib.Core.Path.{sym}
 use Rattle.slice.proofs.words.word_at.Goals as goal
