@@ -1,9 +1,11 @@
 -- `stp::rows_check` meets its contract: the lent columns' lengths, and then the rows by the table's own check. Assumes nothing.
 use Prim.Native.Nat.{◌≤◌}
-use borrow.Author.Tests.{ne_eqb}
+use borrow.Author.Rules.{rules}
+use borrow.Author.Tests.{ne_eqb, eqb-true, not-false}
 use lib.Seq.{length-take-le}
 use mathlib.Core.Bool.{or-true}
-use mathlib.Core.Path.{sym, ap, ◌∙◌}
+use mathlib.Core.Logic.{⊎_elim}
+use mathlib.Core.Path.{refl, sym, ap, ◌∙◌}
 use native.Mathlib.Omega.{arith}
 use Rattle.refusal.specs.Outcomes.{refusal_of}
 use Rattle.star_spec.proofs.Accepted.{none-cons}
@@ -11,7 +13,7 @@ use Rattle.stp_spec.specs.Import.{table_of}
 use Rattle.stp_reader.specs.Readings.{read_of, rows_of}
 use Rattle.stp.proofs.Importing.{few-rows, table-rows, columns-right, columns-first}
 use Rattle.stp.proofs.rows_check.Goals as goal
-use Rattle.stp.proofs.rows_check.Goals.{Start, then-l-ne-ROWS-via-then-l-ne-ROWS, then-l-ne-ROWS-via-else-l-ne-ROWS+then-r-ne-ROWS, then-l-ne-ROWS-via-else-l-ne-ROWS+else-r-ne-ROWS+then-w-ne-WEIGHT_BYTES}
+use Rattle.stp.proofs.rows_check.Goals.{Start}
 
 -- there are at most 1,024 rows, so each part is inside its column
 rows : (c : Start) → rows_of c.args.found ≤ 1024
@@ -22,12 +24,7 @@ pub returns-then-l-ne-ROWS : goal.returns-then-l-ne-ROWS
 unfolding refusal_of
 returns-then-l-ne-ROWS c =
     ap refusal_of c.refused.ensures
-    ∙ columns-first _ _ _ _ (
-    elim c.then-l-ne-ROWS.branch [
-      | then-l-ne-ROWS-via-then-l-ne-ROWS w ↦ simp (ne_eqb _ _ w.if-l-ne-ROWS.true)
-      | then-l-ne-ROWS-via-else-l-ne-ROWS+then-r-ne-ROWS w ↦ simp (ne_eqb _ _ w.if-r-ne-ROWS.true, or-true)
-      | then-l-ne-ROWS-via-else-l-ne-ROWS+else-r-ne-ROWS+then-w-ne-WEIGHT_BYTES w ↦ simp (ne_eqb _ _ w.if-w-ne-WEIGHT_BYTES.true, or-true)
-    ])
+    ∙ columns-first _ _ _ _ (⊎_elim (λ w. simp (ne_eqb _ _ w.if-l-ne-ROWS.true)) (⊎_elim (λ w. simp (ne_eqb _ _ w.if-r-ne-ROWS.true, or-true)) (λ w. simp (ne_eqb _ _ w.if-w-ne-WEIGHT_BYTES.true, or-true))) c.then-l-ne-ROWS.branch-raw)
 
 pub overflow_mul-end : goal.overflow_mul-end
 overflow_mul-end c = let few = rows (goal.at.overflow_mul-end c).Start in record { fits = omega arith }

@@ -1,56 +1,60 @@
 -- `stp::settle` meets its contract: the refusal, or the sizes and the lent columns with the rows that were read. Assumes nothing.
-use Prim.Native.Nat.{ℕ, ◌*◌, ◌≤◌}
+use Prim.Native.Nat.{◌*◌, ◌≤◌}
+use borrow.Author.Rules.{rules}
 use lib.ListN.{length, take}
 use lib.Seq.{length-take-le}
-use mathlib.Core.List.{List}
 use mathlib.Core.Option.{none}
 use mathlib.Core.Path.{◌≡◌, sym, ap, ◌∙◌}
 use native.Mathlib.Omega.{arith}
 use Rattle.refusal.specs.Outcomes.{refusal_of}
 use Rattle.stp_spec.specs.Reader.{Read}
 use Rattle.stp_reader.specs.Readings.{read_of, rows_of, finished}
-use Rattle.stp_reader.specs.declared.lines.Step.{Step}
 use Rattle.stp.specs.Answers.{answer_of}
 use Rattle.stp.specs.Steps.Settled.{refusal_for}
 use Rattle.stp.proofs.Importing.{Clear, clear, whole-columns, whole-sizes, answered-some, answered-none, filled-some, filled_none}
 use Rattle.stp.proofs.settle.Goals as goal
+use Rattle.stp.proofs.settle.Goals.{In_default}
 
--- nothing is refused of a text that was read: there are at most 1,024 rows, and the lent columns have their lengths
-module _ (x : Step) (found lefts rights weights left right weight : List ℕ) (accepted : none ≡ refusal_for (finished x (read_of found lefts rights weights)) left right weight) where
-  cleared : Clear x (read_of found lefts rights weights) (length left) (length right) (length weight)
-  cleared = clear _ _ _ _ _ accepted
+-- where the check is done: nothing is refused
+accepted : (c : In_default) →
+    none ≡ refusal_for (finished c.args.step (read_of c.args.found c.args.lefts.now c.args.rights.now c.args.weights.now)) c.args.left.now c.args.right.now c.args.weight.now
+unfolding refusal_of
+accepted c =
+    ap refusal_of (sym c.in_default.is) ∙ c.import_check-checked.ensures
 
-  few : rows_of found ≤ 1024
-  unfolding read_of
-  few = cleared.few
+cleared : (c : In_default) →
+    Clear c.args.step (read_of c.args.found c.args.lefts.now c.args.rights.now c.args.weights.now) (length c.args.left.now) (length c.args.right.now) (length c.args.weight.now)
+cleared c =
+    clear _ _ _ _ _ (accepted c)
+
+few : (c : In_default) → rows_of c.args.found ≤ 1024
+unfolding read_of
+few c =
+    (cleared c).few
 
 pub store_rows-requires : goal.store_rows-requires
-unfolding refusal_of
 store_rows-requires c =
-    let a = c.args in
+    let e = (goal.at.store_rows-requires c).In_default in
     let p = c.requires.1 in
-    let accepted = ap refusal_of (sym c.in_default.is) ∙ c.import_check-checked.ensures in
-    let k = cleared a.step a.found a.lefts.now a.rights.now a.weights.now a.left.now a.right.now a.weight.now accepted in record {
-      m_bound = (few a.step a.found a.lefts.now a.rights.now a.weights.now a.left.now a.right.now a.weight.now accepted, p.lefts, p.rights, p.weights);
-      lent = (k.left-length, k.right-length, k.weight-length);
-    }
+    let k = cleared e in
+    record { m_bound = (few e, p.lefts, p.rights, p.weights); lent = (k.left-length, k.right-length, k.weight-length) }
 
 pub returns-in_default : goal.returns-in_default
-unfolding answer_of refusal_of read_of
+unfolding answer_of read_of
 returns-in_default c =
+    let e = (goal.at.returns-in_default c).In_default in
     let a = c.args in
     let m = rows_of a.found in
     let p = c.requires.1 in
-    let t : Read = read_of a.found a.lefts.now a.rights.now a.weights.now in
-    let accepted = ap refusal_of (sym c.in_default.is) ∙ c.import_check-checked.ensures in
-    let k = cleared a.step a.found a.lefts.now a.rights.now a.weights.now a.left.now a.right.now a.weight.now accepted in
-    let rows = few a.step a.found a.lefts.now a.rights.now a.weights.now a.left.now a.right.now a.weight.now accepted in
+    let k = cleared e in
+    let rows = few e in
     let st = c.store_rows.ensures in
+    let text = read_of a.found a.lefts.now a.rights.now a.weights.now in
     record {
-      told = sym (whole-sizes a.step t k.unbroken) ∙ answered-none _ accepted;
-      lefts = rw (whole-columns a.step t k.unbroken) (st.ends ∙ filled_none (take m a.lefts.now) a.left.now m (length-take-le _ _ (omega arith)) accepted);
-      rights = rw (whole-columns a.step t k.unbroken) (st.others ∙ filled_none (take m a.rights.now) a.right.now m (length-take-le _ _ (omega arith)) accepted);
-      weights = rw (whole-columns a.step t k.unbroken) (st.prices ∙ filled_none (take (4 * m) a.weights.now) a.weight.now (4 * m) (length-take-le _ _ (omega arith)) accepted);
+      told = sym (whole-sizes a.step text k.unbroken) ∙ answered-none _ (accepted e);
+      lefts = rw (whole-columns a.step text k.unbroken) (st.ends ∙ filled_none (take m a.lefts.now) a.left.now m (length-take-le _ _ (omega arith)) (accepted e));
+      rights = rw (whole-columns a.step text k.unbroken) (st.others ∙ filled_none (take m a.rights.now) a.right.now m (length-take-le _ _ (omega arith)) (accepted e));
+      weights = rw (whole-columns a.step text k.unbroken) (st.prices ∙ filled_none (take (4 * m) a.weights.now) a.weight.now (4 * m) (length-take-le _ _ (omega arith)) (accepted e));
     }
 
 pub returns : goal.returns
