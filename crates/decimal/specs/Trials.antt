@@ -1,7 +1,7 @@
 -- Trials of numbers in decimal: what is printed, and what is read.
 -- Assumes nothing.
-use Rattle.std.specs.Prelude.{[], ◌∷◌, ◌≡◌, pos, negsuc}
-use Rattle.std.proofs.Math.Option.{none, some}
+use Rattle.std.specs.Prelude.{ℕ, List, [], ◌∷◌, ◌≡◌, ℤ, pos, negsuc}
+use Rattle.std.proofs.Math.Option.{Option, none, some}
 use Rattle.decimal.specs.Decimal.{natural, integer}
 use Rattle.decimal.specs.Reading.{read_natural, read_integer}
 use Rattle.stp_words.specs.Bytes.{bytes}

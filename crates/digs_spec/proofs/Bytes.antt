@@ -3,17 +3,17 @@
 use Prim.Native.Nat.{ℕ, ◌+◌, ◌*◌, ◌/◌, ◌%◌, ◌≤◌, ◌<◌}
 use borrow.Author.Tests.{eqb-true, leb-true, eq-eqb, le-leb}
 use lib.Dec.{eqb, leb}
-use lib.IntN.{ℤ, pos}
-use lib.ListN.{length, take, drop}
+use lib.IntN.{pos}
+use lib.ListN.{length, drop}
 use lib.Seq.{take-append_seam}
 use mathlib.Core.Bool.{Bool, true, false, ◌&&◌}
-use mathlib.Core.List.{List, [], ◌∷◌, ◌++◌}
+use mathlib.Core.List.{List, [], ◌∷◌}
 use mathlib.Core.Logic.{◌⊎◌, inl, inr}
 use mathlib.Core.Option.{some}
 use mathlib.Core.Path.{◌≡◌, refl, sym, ap, ◌∙◌, subst}
 use native.Mathlib.Omega.{arith}
 use Rattle.star_meaning.proofs.Bytes.{TableRefusal, table-refusal, refused-first, turned-away}
-use Rattle.star_meaning.proofs.Demand3.{built-accepted, unbuilt-built, demand3}
+use Rattle.star_meaning.proofs.Demand3.{built-accepted, demand3}
 use Rattle.star_meaning.specs.Bytes.{TableDeclined}
 use Rattle.star_meaning.specs.Demand3.{ClaimTree, LeastClaim, Holds}
 use Rattle.digs_spec.proofs.Meaning.{dig-list-holds}
@@ -24,11 +24,11 @@ use Rattle.digs_spec.specs.Meaning.{SaysTree}
 use Rattle.refusal.specs.declared.Refusal.{Refusal}
 use Rattle.rowset.proofs.Signed.{natural-bits}
 use Rattle.rowset.specs.Bytes.{little}
-use Rattle.rowset.specs.Integers.{from_bits, to_bits}
+use Rattle.rowset.specs.Integers.{to_bits}
 use Rattle.star_spec.proofs.Accepted.{accepted-means}
 use Rattle.star_spec.specs.Accepted.{AcceptedTable}
 use Rattle.star_spec.specs.Call.{Call, with_claim}
-use Rattle.star_spec.specs.Door.{Fields, bytes_of, field_bytes, read_back, well_lent}
+use Rattle.star_spec.specs.Door.{bytes_of, field_bytes, read_back, well_lent}
 use Rattle.star_spec.specs.Mst1.{BuildAnswer, unbuilt, tree_built, built, mst1, mst1_marks}
 use Rattle.star_spec.specs.Refusals.{Accepted, table_causes, no_tree, mst1_causes, refusal}
 

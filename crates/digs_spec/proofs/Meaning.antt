@@ -1,24 +1,23 @@
 -- The dig list's theorem: what is printed of a tree reads back as its rows and their sum. Assumes nothing.
-use Prim.Native.Nat.{ℕ, suc, ◌+◌, ◌≤◌, ◌<◌}
+use Prim.Native.Nat.{ℕ, suc, ◌≤◌}
 use borrow.Author.Tests.{leb-true, leb-false}
 use lib.Dec.{leb}
 use lib.IntN.{ℤ}
 use lib.ListN.{length, length-append}
-use mathlib.Core.Bool.{Bool, true, false, false≢true}
-use mathlib.Core.List.{List, ◌++◌}
-use mathlib.Core.Path.{◌≡◌, refl, sym, ap, ◌∙◌}
+use mathlib.Core.Bool.{Bool, true, false}
+use mathlib.Core.List.{List}
+use mathlib.Core.Path.{◌≡◌, refl}
 use native.Mathlib.Omega.{arith}
 use Rattle.star_meaning.proofs.Demand3.{demand3, built-accepted}
 use Rattle.star_meaning.specs.Demand3.{ClaimTree}
 use Rattle.digs_spec.proofs.Rows.{digs, read-list, digs-ascending, digs-stored, listed-outside, listed-inside, digs-weighed, digs-number}
 use Rattle.digs_spec.proofs.Sizes.{line-size, lines-size, total_size}
-use Rattle.digs_spec.specs.DigList.{row_line, row_lines, total_line, dig_list, built_list, table_list}
-use Rattle.digs_spec.specs.Meaning.{Says, SaysTree, DigListHolds, DigListTheorem}
+use Rattle.digs_spec.specs.DigList.{row_line, dig_list, built_list, table_list}
+use Rattle.digs_spec.specs.Meaning.{Says, SaysTree, DigListTheorem}
 use Rattle.digs_spec.specs.Reading.{Dig, weighed, listed}
 use Rattle.rowset.proofs.Laws.{up_to-in}
 use Rattle.rowset.proofs.Members.{both-in}
 use Rattle.rowset.specs.Bytes.{in_row}
-use Rattle.rowset.specs.Integers.{signed, total}
 use Rattle.rowset.specs.Sets.{up_to, count}
 use Rattle.star_spec.proofs.Accepted.{accepted-means}
 use Rattle.star_spec.specs.Accepted.{Row, AcceptedTable}

@@ -7,14 +7,14 @@ use lib.IntN.{ℤ, pos, ◌+ℤ◌, +ℤ_idl, +ℤ_idr, +ℤ_assoc}
 use lib.ListN.{length, length-append}
 use mathlib.Core.Bool.{Bool, true, false, cond}
 use mathlib.Core.List.{List, [], ◌∷◌, ◌++◌, append_assoc, append-nil}
-use mathlib.Core.Option.{Option, none, some}
+use mathlib.Core.Option.{Option, some}
 use mathlib.Core.Path.{◌≡◌, refl, sym, ap, ◌∙◌}
 use native.Mathlib.Omega.{arith}
 use Rattle.decimal.proofs.Reading.{reads-back}
 use Rattle.decimal.specs.Decimal.{natural, integer}
 use Rattle.digs_spec.proofs.Splitting.{free, split-first, split-last, free-append, natural-free, integer-free, read-line, read-total}
 use Rattle.digs_spec.specs.DigList.{row_line, row_lines, total_line}
-use Rattle.digs_spec.specs.Meaning.{Ascending, AsStored, AllStored}
+use Rattle.digs_spec.specs.Meaning.{Ascending, AllStored}
 use Rattle.digs_spec.specs.Reading.{split, Dig, Listed, dig_from, read_row, with_row, read, weighed, listed}
 use Rattle.rowset.specs.Bytes.{in_row}
 use Rattle.rowset.specs.Integers.{signed, total}

@@ -1,14 +1,13 @@
 -- The longest dig list: a line has at most 25 bytes, the total's 20, a refusal's 30.
 -- Assumes nothing.
-use Prim.Native.Nat.{ℕ, zero, suc, ◌+◌, ◌*◌, ◌^◌, ◌≤◌, ◌<◌}
+use Prim.Native.Nat.{ℕ, zero, suc, ◌+◌, ◌*◌, ◌≤◌, ◌<◌}
 use lib.IntN.{ℤ, pos, negsuc}
 use lib.ListN.{length, length-append}
 use mathlib.Core.Bool.{Bool, true, false, cond}
-use mathlib.Core.List.{List, [], ◌∷◌, ◌++◌}
+use mathlib.Core.List.{List, []}
 use mathlib.Core.Path.{◌≡◌, refl}
 use native.Mathlib.Omega.{arith}
 use Rattle.decimal.proofs.Laws.{natural-length, integer-length}
-use Rattle.decimal.specs.Decimal.{natural, integer}
 use Rattle.digs_spec.specs.DigList.{row_line, row_lines, total_line, refused_line}
 use Rattle.refusal.specs.declared.Refusal.{Refusal}
 use Rattle.rowset.proofs.Integers.{up, down, total-parts}

@@ -1,21 +1,19 @@
 -- Laws of the reader of lists: a text splits at the first byte that separates, numbers have none, and a line is read as its row or its total.
 -- Main statements: split-first, split-last, integer-free, read-line, read-total.
 -- Assumes nothing.
-use Prim.Native.Nat.{ℕ, zero, suc, ◌+◌, ◌≤◌, ◌<◌}
-use borrow.Author.Tests.{eq-eqb, ne_eqb, eqb-true, leb-true}
+use Prim.Native.Nat.{ℕ, suc, ◌<◌}
+use borrow.Author.Tests.{eq-eqb, ne_eqb, leb-true}
 use lib.Dec.{eqb, leb}
 use lib.IntN.{ℤ, pos, negsuc}
-use lib.ListN.{length}
 use mathlib.Core.Bool.{Bool, true, false, not, cond, ◌&&◌, false≢true}
-use mathlib.Core.List.{List, [], ◌∷◌, ◌++◌, append_assoc}
-use mathlib.Core.Option.{Option, none, some, map}
-use mathlib.Core.Path.{◌≡◌, refl, sym, ap, ◌∙◌}
+use mathlib.Core.List.{List, [], ◌∷◌, ◌++◌}
+use mathlib.Core.Option.{some}
+use mathlib.Core.Path.{◌≡◌, refl, sym, ◌∙◌}
 use native.Mathlib.Omega.{arith}
 use Rattle.decimal.proofs.Reading.{natural-digits, reads-back}
 use Rattle.decimal.specs.Decimal.{natural, integer}
-use Rattle.decimal.specs.Reading.{read_natural, read_integer}
 use Rattle.digs_spec.specs.DigList.{total_line}
-use Rattle.digs_spec.specs.Reading.{on_first, split, alike, Dig, Listed, dig_from, read_row, read_total, at_end, with_row, read_lines, read}
+use Rattle.digs_spec.specs.Reading.{on_first, split, alike, read_row, read_total, at_end, with_row, read_lines, read}
 use Rattle.stp_words.specs.Bytes.{bytes, within}
 use Rattle.stp_words.specs.Numbers.{all_digits, is_empty}
 

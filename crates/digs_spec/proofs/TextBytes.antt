@@ -2,12 +2,12 @@
 -- Assumes nothing.
 use Prim.Native.Nat.{ℕ, ◌*◌}
 use mathlib.Core.List.{List}
-use mathlib.Core.Path.{◌≡◌, refl, sym, ap, ◌∙◌}
+use mathlib.Core.Path.{◌≡◌, refl}
 use lib.ListN.{length}
 use Rattle.star_meaning.proofs.Demand3.{demand3}
 use Rattle.digs_spec.proofs.Bytes.{lent, not-lent, unlisted-text, listed-means}
-use Rattle.digs_spec.specs.Bytes.{Lent, ListedMeans}
-use Rattle.digs_spec.specs.DigList.{ListAnswer, unlisted, listing, built_list, table_list, read_list, text_list}
+use Rattle.digs_spec.specs.Bytes.{ListedMeans}
+use Rattle.digs_spec.specs.DigList.{ListAnswer, unlisted, built_list, table_list, read_list, text_list}
 use Rattle.digs_spec.specs.Door.{list_fields, text_fields, list_returns, list_answered, with_list, list_text}
 use Rattle.digs_spec.specs.TextBytes.{table_read, DigsTextCall, DigsTextDoorMeans}
 use Rattle.refusal.specs.declared.Refusal.{Refusal}
@@ -19,7 +19,7 @@ use Rattle.star_spec.specs.Door.{bytes_of, field_bytes, read_back}
 use Rattle.star_spec.specs.Mst1.{BuildAnswer, unbuilt, tree_built, mst1}
 use Rattle.star_spec.specs.Refusals.{Accepted, max_rows}
 use Rattle.stp_spec.proofs.Accepted.{read_taken}
-use Rattle.stp_spec.specs.Import.{ImportAnswer, untaken, taken, imported, read_text, columns_of}
+use Rattle.stp_spec.specs.Import.{untaken, taken, imported}
 
 -- the two kinds of fields differ in the place of a refusal alone
 same-fields : (c : Call) → Accepted c → text_fields (table_list c) ≡ list_fields (table_list c)

@@ -1,10 +1,10 @@
 -- The sixteen bytes and the text of a plan's dig list mean what they should: what is read back is the answer's own, and the text begins with the list of the claim.
 -- Assumes nothing.
 use Prim.Native.Nat.{ℕ, ◌≤◌}
-use lib.IntN.{ℤ, pos}
+use lib.IntN.{pos}
 use lib.ListN.{length, take, drop}
 use lib.Seq.{take-append_seam, drop-append_seam}
-use mathlib.Core.List.{List, ◌++◌}
+use mathlib.Core.List.{List}
 use mathlib.Core.Logic.{◌↔◌}
 use mathlib.Core.Option.{Option, none, some}
 use mathlib.Core.Path.{◌≡◌, refl, sym, subst}
@@ -12,11 +12,11 @@ use native.Mathlib.Omega.{arith}
 use Rattle.star_meaning.proofs.Bytes.{lent-well, read_back_lem, cst-door-means}
 use Rattle.star_meaning.specs.Bytes.{Written}
 use Rattle.star_meaning.specs.Demand3.{ClaimTree}
-use Rattle.digs_spec.proofs.Bytes.{lent, not-lent, unlisted-text}
+use Rattle.digs_spec.proofs.Bytes.{lent, not-lent}
 use Rattle.digs_spec.proofs.Meaning.{dig-list-holds}
 use Rattle.digs_spec.specs.Bytes.{Lent}
 use Rattle.digs_spec.specs.DigList.{dig_list, ListAnswer, unlisted, listing}
-use Rattle.digs_spec.specs.Door.{list_fields, lent_both, list_returns, list_answered, with_list, list_text}
+use Rattle.digs_spec.specs.Door.{list_fields, list_returns, list_answered, with_list, list_text}
 use Rattle.digs_spec.specs.Meaning.{SaysTree}
 use Rattle.plan_digs_spec.proofs.Refused.{cst-refused, unrefused-table, unrefused-tree, tree-unrefused}
 use Rattle.plan_digs_spec.specs.Bytes.{PlanDigsCall, PlanDigsDoorMeans}

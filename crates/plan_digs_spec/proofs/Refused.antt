@@ -3,7 +3,7 @@
 use Prim.Native.Nat.{ℕ, zero, suc}
 use mathlib.Core.List.{List, [], ◌∷◌, ◌++◌}
 use mathlib.Core.Option.{Option, none, some}
-use mathlib.Core.Path.{◌≡◌, refl, ap, ◌∙◌, sym}
+use mathlib.Core.Path.{◌≡◌, refl, ap}
 use Rattle.star_meaning.proofs.Demand3.{demand3}
 use Rattle.star_meaning.specs.Demand3.{ClaimTree}
 use Rattle.refusal.specs.declared.Refusal.{Refusal}

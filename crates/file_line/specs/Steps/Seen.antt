@@ -1,6 +1,6 @@
 -- What the numbers that the line reader answers stand for.
 -- Assumes nothing.
-use Rattle.std.specs.Prelude.{ℕ, ◌≤◌, ◌<◌, Bool, cond, List, ◌≡◌, eqb, leb, ℤ, pos, length, get_or}
+use Rattle.std.specs.Prelude.{ℕ, ◌≤◌, ◌<◌, Bool, true, false, cond, List, [], ◌∷◌, ◌≡◌, eqb, leb, ℤ, pos, length, get_or}
 use Rattle.std.proofs.Math.Option.{Option, none, some}
 use Rattle.stp_words.specs.Numbers.{below}
 use Rattle.file_text.specs.Steps.Spans.{part}

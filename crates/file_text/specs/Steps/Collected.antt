@@ -1,6 +1,6 @@
 -- How the fields of a line are collected: a step of proofs, which no reader has to believe.
 -- Assumes nothing.
-use Rattle.std.specs.Prelude.{ℕ, ◌≤◌, ◌<◌, Bool, ◌&&◌, List, [], ◌++◌, ◌≡◌, length, get_or}
+use Rattle.std.specs.Prelude.{ℕ, ◌≤◌, ◌<◌, Bool, true, false, cond, ◌&&◌, List, [], ◌∷◌, ◌++◌, ◌≡◌, length, get_or}
 use Rattle.file_spec.specs.Pieces.{Piece, is_empty, unless, end_trimmed}
 use Rattle.file_text.specs.Steps.Spans.{piece_at}
 use Rattle.file_text.specs.declared.Fields.{Fields}
