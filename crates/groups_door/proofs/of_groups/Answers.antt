@@ -1,5 +1,4 @@
 -- `groups_door::of_groups` meets its contract: each case's fields, written out; a number is what its own digits stand for. Assumes nothing.
-use borrow.Author.Rules.{rules}
 use lib.IntN.{ℤ}
 use mathlib.Core.Path.{ap}
 use native.Mathlib.Omega.{arith}

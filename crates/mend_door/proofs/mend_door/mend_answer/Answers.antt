@@ -1,6 +1,4 @@
 -- `mend_door::mend_door::mend_answer` meets its contract: what mending and `tell` promise, one after the other. Assumes nothing.
-use borrow.Author.Rules.{rules}
-use borrow.Author.Tests.{not-true, not-false}
 use mathlib.Core.Path.{sym, ◌∙◌}
 use Rattle.mend_door.proofs.Laws.{mend-shut, mend-open}
 use Rattle.mend_door.proofs.mend_door.mend_answer.Goals as goal
@@ -11,6 +9,6 @@ returns-then-not-well_lent c = mend-shut _ _ _ (sym c.well_lent.ensures ∙ c.if
 pub returns : goal.returns
 returns c =
     let well = sym c.well_lent.ensures ∙ c.if-not-well_lent.false in
-    let ((rows, whole), used) = c.plain-table.ensures in
-    let (answer, marks, list, count, rest) = rw (rows, whole, used) at c.mend-m.ensures in
+    let table = c.plain-table.ensures in
+    let (answer, marks, list, count, rest) = rw (table.rows.0, table.rows.1, table.used) at c.mend-m.ensures in
     mend-open _ _ _ well answer marks list c.tell.ensures

@@ -1,7 +1,6 @@
 -- `mend_door::mend_door::of_mended` meets its contract: each case's fields, written out; a number of records is what its own digits stand for. Assumes nothing.
-use borrow.Author.Rules.{rules}
 use lib.IntN.{ℤ}
-use mathlib.Core.Path.{refl, ap}
+use mathlib.Core.Path.{ap}
 use native.Mathlib.Omega.{arith}
 use Rattle.answer.specs.Records.{fields_of}
 use Rattle.mend_spec.specs.Door.{mend_fields}

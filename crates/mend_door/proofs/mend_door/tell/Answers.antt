@@ -1,5 +1,4 @@
 -- `mend_door::mend_door::tell` meets its contract: what `of_mended` and `write_answer` promise, one after the other. Assumes nothing.
-use borrow.Author.Rules.{rules}
 use mathlib.Core.Path.{refl, ap, ◌∙◌}
 use Rattle.star_spec.specs.Door.{answer_after}
 use Rattle.mend_door.proofs.mend_door.tell.Goals as goal
