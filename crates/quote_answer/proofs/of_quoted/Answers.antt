@@ -10,15 +10,15 @@ use Rattle.quote_answer.proofs.of_quoted.Goals as goal
 
 pub returns-in-Totals : goal.returns-in-Totals
 unfolding fields_of quote_fields after_of answer_of
-returns-in-Totals c = let told = (refl, refl) in record {
-      first = rw c.in-Totals.is told.0;
-      after = rw c.in-Totals.is told.1;
+returns-in-Totals c = record {
+      first = rw c.in-Totals.is refl;
+      after = rw c.in-Totals.is refl;
     }
 
 pub returns-in-Refused : goal.returns-in-Refused
 unfolding quote_fields after_of answer_of from_bits fields
 returns-in-Refused c =
-    let told = (c.of_refusal.ensures, refl) in record {
-      first = rw c.in-Refused.is told.0;
-      after = rw c.in-Refused.is told.1;
+    record {
+      first = rw c.in-Refused.is c.of_refusal.ensures;
+      after = rw c.in-Refused.is refl;
     }

@@ -13,9 +13,9 @@ use Rattle.best_door.proofs.best_door.of_best.Goals as goal
 
 pub returns-in-Stays : goal.returns-in-Stays
 unfolding fields_of best_fields least_of answer_of
-returns-in-Stays c = let told = (refl, refl) in record {
-      first = rw c.in-Stays.is told.0;
-      least = rw c.in-Stays.is told.1;
+returns-in-Stays c = record {
+      first = rw c.in-Stays.is refl;
+      least = rw c.in-Stays.is refl;
     }
 
 pub returns-in-Saves : goal.returns-in-Saves
@@ -23,15 +23,15 @@ unfolding fields_of best_fields least_of answer_of
 returns-in-Saves c =
     let x = c.in-Saves.x in
     let written : ℤ → Fields = λ a. record { kind = 2; number = 0; out = x.out; into = x.into; only = 0; amount = a } in
-    let told = (ap written (natural-bits 63 x.saving (omega arith)), refl) in record {
-      first = rw c.in-Saves.is told.0;
-      least = rw c.in-Saves.is told.1;
+    record {
+      first = rw c.in-Saves.is (ap written (natural-bits 63 x.saving (omega arith)));
+      least = rw c.in-Saves.is refl;
     }
 
 pub returns-in-Refused : goal.returns-in-Refused
 unfolding best_fields least_of answer_of from_bits fields
 returns-in-Refused c =
-    let told = (c.of_refusal.ensures, refl) in record {
-      first = rw c.in-Refused.is told.0;
-      least = rw c.in-Refused.is told.1;
+    record {
+      first = rw c.in-Refused.is c.of_refusal.ensures;
+      least = rw c.in-Refused.is refl;
     }

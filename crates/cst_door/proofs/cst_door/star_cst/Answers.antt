@@ -8,10 +8,13 @@ use Rattle.cst_door.proofs.cst_door.star_cst.Goals as goal
 
 pub returns-then-not-well_lent : goal.returns-then-not-well_lent
 returns-then-not-well_lent c =
-     let told = plain-cst (cst-shut _ _ (sym c.well_lent.ensures ∙ c.if-not-well_lent.true)) in record { returned = told.0; answered = told.1; means = told.2 }
+    let told = plain-cst (cst-shut _ _ (sym c.well_lent.ensures ∙ c.if-not-well_lent.true)) in
+    record { returned = told.0; answered = told.1.0; means = told.1.1 }
 
 pub returns : goal.returns
 returns c =
-    let table = c.plain-table.ensures in let told = plain-cst
+    let table = c.plain-table.ensures in
+    let told = plain-cst
     (cst-open _ _ (sym c.well_lent.ensures ∙ c.if-not-well_lent.false) c.write_answer.ensures c.of_verdict-x.ensures
-    (rw (table.rows.0, table.rows.1, table.used) at c.cst-checked.ensures.verdict)) in record { returned = told.0; answered = told.1; means = told.2 }
+    (rw (table.rows.0, table.rows.1, table.used) at c.cst-checked.ensures.verdict)) in
+    record { returned = told.0; answered = told.1.0; means = told.1.1 }

@@ -8,10 +8,13 @@ use Rattle.mst1_door.proofs.work_mst1_door.star_work_mst1.Goals as goal
 
 pub returns-then-not-well_lent : goal.returns-then-not-well_lent
 returns-then-not-well_lent c =
-     let told = work-mst1 c.args.words.now (mst1-shut _ _ (sym c.well_lent.ensures ∙ c.if-not-well_lent.true)) in record { returned = told.0; written = told.1; means = told.2 }
+    let told = work-mst1 c.args.words.now (mst1-shut _ _ (sym c.well_lent.ensures ∙ c.if-not-well_lent.true)) in
+    record { returned = told.0; written = told.1.0; means = told.1.1 }
 
 pub returns : goal.returns
 returns c =
-    let table = c.working.ensures in let told = work-mst1 c.args.words.now
+    let table = c.working.ensures in
+    let told = work-mst1 c.args.words.now
     (mst1-open _ _ (sym c.well_lent.ensures ∙ c.if-not-well_lent.false) c.write_answer.ensures c.of_built-x.ensures
-    (rw (table.rows.0, table.rows.1, table.used) at c.mst1-b.ensures)) in record { returned = told.0; written = told.1; means = told.2 }
+    (rw (table.rows.0, table.rows.1, table.used) at c.mst1-b.ensures)) in
+    record { returned = told.0; written = told.1.0; means = told.1.1 }
