@@ -8,9 +8,12 @@ use Rattle.districts_door.proofs.star_districts.Goals as goal
 
 pub returns-then-not-well_lent : goal.returns-then-not-well_lent
 returns-then-not-well_lent c =
-     let told = districts-call (districts-shut _ _ _ _ (sym c.well_lent.ensures ∙ c.if-not-well_lent.true)) in record { returned = told.0; written = told.1.0; means = told.1.1 }
+    let told = districts-call (districts-shut _ _ _ _ (sym c.well_lent.ensures ∙ c.if-not-well_lent.true)) in
+    record { returned = told.0; written = told.1.0; means = told.1.1 }
 
 pub returns : goal.returns
 returns c =
     let well = sym c.well_lent.ensures ∙ c.if-not-well_lent.false in
-    let ((rows, whole), used) = c.plain-table.ensures in let told = districts-call (districts-open _ _ _ _ well c.write_answer.ensures c.of_built-x.ensures (rw (rows, whole, used) at c.districts-b.ensures)) in record { returned = told.0; written = told.1.0; means = told.1.1 }
+    let table = c.plain-table.ensures in
+    let told = districts-call (districts-open _ _ _ _ well c.write_answer.ensures c.of_built-x.ensures (rw (table.rows.0, table.rows.1, table.used) at c.districts-b.ensures)) in
+    record { returned = told.0; written = told.1.0; means = told.1.1 }

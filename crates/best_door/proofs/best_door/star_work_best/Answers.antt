@@ -7,10 +7,13 @@ use Rattle.best_door.proofs.best_door.star_work_best.Goals as goal
 
 pub returns-then-answer-ne-LENGTH : goal.returns-then-answer-ne-LENGTH
 returns-then-answer-ne-LENGTH c =
-     let told = best-call (best-shut _ _ (λ e. omega arith)) in record { returned = told.0; answered = told.1.0; means = told.1.1 }
+    let told = best-call (best-shut _ _ c.if-answer-ne-LENGTH.true) in
+    record { returned = told.0; answered = told.1.0; means = told.1.1 }
 
 pub returns : goal.returns
 returns c =
-    let table = c.working.ensures in let told = best-call
-    (best-open _ _ (omega (arith, c.if-answer-ne-LENGTH.false)) c.write_quote.ensures c.of_best-x.ensures
-    (rw (table.rows.0, table.rows.1, table.used) at c.best-b.ensures)) in record { returned = told.0; answered = told.1.0; means = told.1.1 }
+    let table = c.working.ensures in
+    let told = best-call
+    (best-open _ _ (omega (arith, c.if-answer-ne-LENGTH.false)) c.write_quote.ensures (c.of_best-x.ensures.first, c.of_best-x.ensures.least)
+    (rw (table.rows.0, table.rows.1, table.used) at c.best-b.ensures)) in
+    record { returned = told.0; answered = told.1.0; means = told.1.1 }

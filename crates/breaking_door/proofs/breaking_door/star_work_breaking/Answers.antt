@@ -8,9 +8,12 @@ use Rattle.breaking_door.proofs.breaking_door.star_work_breaking.Goals as goal
 
 pub returns-then-not-well_lent : goal.returns-then-not-well_lent
 returns-then-not-well_lent c =
-     let told = breaking-call (breaking-shut _ _ _ (sym c.well_lent.ensures ∙ c.if-not-well_lent.true)) in record { returned = told.0; answered = told.1.0; means = told.1.1 }
+    let told = breaking-call (breaking-shut _ _ _ (sym c.well_lent.ensures ∙ c.if-not-well_lent.true)) in
+    record { returned = told.0; answered = told.1.0; means = told.1.1 }
 
 pub returns : goal.returns
 returns c =
     let well = sym c.well_lent.ensures ∙ c.if-not-well_lent.false in
-    let ((rows, whole), used) = c.working-used.ensures in let told = breaking-call (breaking-open _ _ _ well c.write_answer.ensures c.of_breaks-x.ensures c.told-b.ensures (rw (rows, whole, used) at c.around_rows-around.ensures)) in record { returned = told.0; answered = told.1.0; means = told.1.1 }
+    let table = c.working-used.ensures in
+    let told = breaking-call (breaking-open _ _ _ well c.write_answer.ensures c.of_breaks-x.ensures c.told-b.ensures (rw (table.rows.0, table.rows.1, table.used) at c.around_rows-around.ensures)) in
+    record { returned = told.0; answered = told.1.0; means = told.1.1 }

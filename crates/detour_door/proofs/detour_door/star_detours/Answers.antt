@@ -10,11 +10,15 @@ use Rattle.detour_door.proofs.detour_door.star_detours.Goals as goal
 pub returns-then-not-well_lent : goal.returns-then-not-well_lent
 unfolding door_returns detours_door answer_after detours_door_rows
 returns-then-not-well_lent c =
-    let ill = sym c.well_lent.ensures ∙ c.if-not-well_lent.true in let told = detours-call (rw ill (refl, (refl, refl))) in record { returned = told.0; written = told.1.0; means = told.1.1 }
+    let ill = sym c.well_lent.ensures ∙ c.if-not-well_lent.true in
+    let told = detours-call (rw ill (refl, (refl, refl))) in
+    record { returned = told.0; written = told.1.0; means = told.1.1 }
 
 pub returns : goal.returns
 unfolding door_returns detours_door detours_door_rows
 returns c =
     let well = sym c.well_lent.ensures ∙ c.if-not-well_lent.false in
-    let ((rows, whole), used) = c.plain-table.ensures in
-    let (answer, numbers) = rw (rows, whole, used) at c.detours-b.ensures in let told = detours-call (rw well (refl, (c.write_answer.ensures ∙ ap (answer_after _) (c.of_built-x.ensures ∙ ap built_fields answer), numbers))) in record { returned = told.0; written = told.1.0; means = told.1.1 }
+    let table = c.plain-table.ensures in
+    let (answer, numbers) = rw (table.rows.0, table.rows.1, table.used) at c.detours-b.ensures in
+    let told = detours-call (rw well (refl, (c.write_answer.ensures ∙ ap (answer_after _) (c.of_built-x.ensures ∙ ap built_fields answer), numbers))) in
+    record { returned = told.0; written = told.1.0; means = told.1.1 }
