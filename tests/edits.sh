@@ -7,7 +7,7 @@ set -u
 cd "$(dirname "$0")/.." || exit
 passed=0 failed=0 work=$(mktemp -d)
 trap 'rm -rf "$work"' EXIT
-unset MAKEFLAGS MAKELEVEL MFLAGS CI
+unset MAKEFLAGS MAKELEVEL MFLAGS
 
 holds() { # NAME COMMAND..
     local name=$1

@@ -5,7 +5,7 @@
 set -u
 said=$(mktemp)
 trap 'rm -f "$said"' EXIT
-rt ci 2>&1 | tee "$said" | python3 -B "$(dirname "$0")/progress.py" crates | sed '$d'
+rt ci 2>&1 | tee "$said" | python3 -B "$(dirname "$0")/progress.py" crates | sed -u '$d'
 status=${PIPESTATUS[0]}
 [[ $(tail -n 1 "$said") =~ ^([0-9]+)\ passed,\ ([0-9]+)\ failed ]] || { cat "$said" && exit 1; }
 passed=${BASH_REMATCH[1]} failed=${BASH_REMATCH[2]}
