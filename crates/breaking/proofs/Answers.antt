@@ -1,6 +1,6 @@
 -- What the trees say in each of its four cases (the call is refused; a tree is built without the row; only with it; or not even so), and that the walk then tells the breaking price.
 -- Assumes nothing.
-use Prim.Native.Nat.{ℕ, ◌≤◌}
+use Prim.Native.Nat.{ℕ}
 use lib.Dec.{eqb}
 use lib.IntN.{ℤ, pos}
 use lib.ListN.{length, replicate}

@@ -2,7 +2,6 @@
 -- Assumes nothing.
 use Prim.Native.Nat.{ℕ, ◌≤◌, ◌<◌}
 use borrow.Author.Tests.{not-true, not-false}
-use lib.IntN.{ℤ}
 use lib.ListN.{length}
 use mathlib.Core.Bool.{Bool, true, false, not}
 use mathlib.Core.List.{List}
@@ -18,10 +17,9 @@ use Rattle.districts_theory.proofs.Districts.{districts-hold}
 use Rattle.districts_theory.specs.Districts.{forests, within, districts, Districts}
 use Rattle.districts_forests.proofs.Cut.{forests-cut}
 use Rattle.graph_theory.specs.Builder.{Fragment, tree}
-use Rattle.graph_theory.specs.Graph.{Graph}
 use Rattle.mst1.proofs.Answers.{loaded-weights}
 use Rattle.mst1.proofs.Cut.{over, tree-cut}
-use Rattle.mst1.specs.Steps.Growth.{loaded_graph, Grows}
+use Rattle.mst1.specs.Steps.Growth.{loaded_graph}
 use Rattle.refusal.specs.Outcomes.{refusal_of}
 use Rattle.refusal.specs.declared.Outcome.{Outcome}
 use Rattle.refusal.specs.declared.Outcome.TheVariants.{Done, Refused}

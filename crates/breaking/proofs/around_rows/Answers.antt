@@ -1,6 +1,5 @@
 -- `breaking::around_rows` meets its contract in each of its four cases: the call is refused; a tree is built without the row; only with it; or not even so.
 -- Assumes nothing.
-use borrow.Author.Rules.{rules}
 use mathlib.Core.Path.{◌∙◌}
 use Rattle.rowset.specs.Integers.{from_bits}
 use Rattle.slice.proofs.Laws.{written-false}

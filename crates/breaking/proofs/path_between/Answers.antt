@@ -1,5 +1,4 @@
 -- `breaking::path_between` meets its contract: the walk, and the column of v. Assumes nothing.
-use borrow.Author.Rules.{rules}
 use mathlib.Core.Path.{◌∙◌}
 use Rattle.breaking.proofs.path_between.Goals as goal
 

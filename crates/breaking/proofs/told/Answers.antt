@@ -1,5 +1,4 @@
 -- `breaking::told` meets its contract: the answer where there is no route, and else the price that the walk finds. Assumes nothing.
-use borrow.Author.Rules.{rules}
 use borrow.Author.Tests.{not-true, not-false}
 use Rattle.breaking.specs.Answers.{answer_of}
 use Rattle.breaking.proofs.Answers.{answer-told, way-told}

@@ -1,5 +1,4 @@
 -- `districts::call_check` meets its contract: the causes in order. Assumes nothing.
-use borrow.Author.Rules.{rules}
 use Rattle.districts_spec.proofs.Causes.{checks-in-order}
 use Rattle.districts_spec.specs.Districts.{bad_forests}
 use Rattle.districts.proofs.call_check.Goals as goal

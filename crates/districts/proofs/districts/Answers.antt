@@ -1,6 +1,5 @@
 -- `districts::districts` meets its contract in each of its three cases: the call is refused, there is no tree, or both columns are written.
 -- Assumes nothing.
-use borrow.Author.Rules.{rules}
 use borrow.Author.Tests.{not-true, not-false}
 use mathlib.Core.Path.{◌∙◌}
 use Rattle.districts.proofs.Answers.{call-refused, city-refused, city-built}

@@ -1,12 +1,8 @@
 -- `districts::ends_rise` meets its contract. The loop's invariant: the ends that are left rise from p exactly where all rise from 0.
 -- Assumes nothing.
-use Prim.Native.Nat.{◌≤◌, ◌<◌, ◌-◌, ◌^◌}
-use borrow.Author.Rules.{rules}
-use lib.ListN.{length, drop}
-use mathlib.Core.Path.{◌≡◌, refl}
+use mathlib.Core.Path.{refl}
 use native.Mathlib.Omega.{arith}
 use Rattle.districts.proofs.Ends.{rises-not, rises-more, rises-last}
-use Rattle.districts_theory.specs.Districts.{rises_to}
 use Rattle.districts.proofs.ends_rise.Goals as goal
 
 pub loop-j-init : goal.loop-j-init

@@ -1,5 +1,4 @@
 -- `districts::grow_city` meets its contract: the forests, and the tree over their rows. Assumes nothing.
-use borrow.Author.Rules.{rules}
 use Rattle.districts.proofs.grow_city.Goals as goal
 
 pub returns : goal.returns

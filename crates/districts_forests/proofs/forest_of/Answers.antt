@@ -1,5 +1,4 @@
 -- `districts_forests::forest_of` meets its contract: MATCH looks in as many words as the rows need. Assumes nothing.
-use borrow.Author.Rules.{rules}
 use Rattle.rowset.specs.Words.{in_words}
 use Rattle.search_join.proofs.Joining.{each-end}
 use Rattle.slice.specs.Slices.{component, bit}

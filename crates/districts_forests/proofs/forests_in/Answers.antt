@@ -1,15 +1,8 @@
 -- `districts_forests::forests_in` meets its contract. The loop's invariant: the forests gathered, with those of the ends that are left, are all. The measure is the number of ends left.
 -- Assumes nothing.
-use Prim.Native.Nat.{◌≤◌, ◌<◌, ◌-◌}
-use borrow.Author.Rules.{rules}
-use lib.ListN.{length}
 use native.Mathlib.Omega.{arith}
-use Rattle.districts_forests.proofs.Runs.{Gathered, gathered_none, gathered-more, gathered-all}
+use Rattle.districts_forests.proofs.Runs.{gathered_none, gathered-more, gathered-all}
 use Rattle.districts_theory.specs.Districts.{run}
-use Rattle.search_columns.specs.Steps.Integers.{integers_after}
-use Rattle.mst1.specs.Steps.Growth.{graph_by}
-use Rattle.slice.specs.Slices.{component}
-use Rattle.table.specs.Loads.{loaded_row}
 use Rattle.districts_forests.proofs.forests_in.Goals as goal
 
 pub loop-j-init : goal.loop-j-init
@@ -29,11 +22,10 @@ loop-j-smaller c = omega (arith, c.loop-j-test.true)
 
 pub loop-j-preserved : goal.loop-j-preserved
 unfolding run
-loop-j-preserved c =
-    (
-      omega arith,
-      gathered-more _ _ _ c.loop-j.invariant.1 (omega arith) c.run_of-run.ensures c.forest_of-forest.ensures c.or-all.ensures,
-    )
+loop-j-preserved c = (
+  omega arith,
+  gathered-more _ _ _ c.loop-j.invariant.1 (omega arith) c.run_of-run.ensures c.forest_of-forest.ensures c.or-all.ensures,
+)
 
 pub returns : goal.returns
 returns c = gathered-all _ _ _ c.loop-j.invariant.1 (omega arith)

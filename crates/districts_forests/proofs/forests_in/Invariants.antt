@@ -1,11 +1,8 @@
 -- `districts_forests::forests_in` meets its contract. The loop's invariant: the forests gathered, with those of the ends that are left, are all. The measure is the number of ends left.
 -- Assumes nothing.
-use Prim.Native.Nat.{◌≤◌, ◌<◌, ◌-◌}
-use borrow.Author.Rules.{rules}
+use Prim.Native.Nat.{◌≤◌, ◌-◌}
 use lib.ListN.{length}
-use native.Mathlib.Omega.{arith}
-use Rattle.districts_forests.proofs.Runs.{Gathered, gathered_none, gathered-more, gathered-all}
-use Rattle.districts_theory.specs.Districts.{run}
+use Rattle.districts_forests.proofs.Runs.{Gathered}
 use Rattle.search_columns.specs.Steps.Integers.{integers_after}
 use Rattle.mst1.specs.Steps.Growth.{graph_by}
 use Rattle.slice.specs.Slices.{component}

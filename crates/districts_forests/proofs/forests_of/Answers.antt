@@ -1,5 +1,4 @@
 -- `districts_forests::forests_of` meets its contract: columns of zeros hold the ends once these are loaded. Assumes nothing.
-use borrow.Author.Rules.{rules}
 use Rattle.table_loads.proofs.Numbers.{zeros}
 use Rattle.districts_forests.proofs.forests_of.Goals as goal
 

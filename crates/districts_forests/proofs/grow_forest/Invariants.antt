@@ -1,14 +1,10 @@
 -- `districts_forests::grow_forest` meets its contract. The loop's invariant: the slices are those of the forest after k rows. The measure is the number of rows left.
 -- Assumes nothing.
 use Prim.Native.Nat.{◌≤◌, ◌<◌, ◌-◌, ◌^◌}
-use borrow.Author.Rules.{rules}
-use native.Mathlib.Omega.{arith}
-use Rattle.districts_forests.proofs.Growing.{Grew, grew_none, grew-ended, grew-more, grew-whole, joined-both}
-use Rattle.slice_words.proofs.Joining.{zeros-none}
+use Rattle.districts_forests.proofs.Growing.{Grew}
 use Rattle.search_columns.specs.Steps.Integers.{integers_after}
 use Rattle.mst1.specs.Steps.Growth.{graph_by}
 use Rattle.rowset.specs.Words.{in_words}
-use Rattle.slice.specs.Slices.{component, bit}
 use Rattle.table.specs.Loads.{loaded_row}
 use Rattle.districts_forests.proofs.grow_forest.Given as goal
 

@@ -1,5 +1,4 @@
 -- `districts_forests::next_row` meets its contract: the cheapest of the rows that cross, else of those that neither slice has. Assumes nothing.
-use borrow.Author.Rules.{rules}
 use native.Mathlib.Omega.{arith}
 use Rattle.districts_forests.proofs.Growing.{first_found, second-found}
 use Rattle.districts_forests.proofs.next_row.Goals as goal

@@ -1,6 +1,4 @@
 -- `districts_forests::run_of` meets its contract: a slice's rows are positions 1 to 1,024. Assumes nothing.
-use borrow.Author.Rules.{rules}
-use mathlib.Core.Path.{◌∙◌}
 use Rattle.districts_forests.proofs.Runs.{run-rows}
 use Rattle.districts_forests.proofs.run_of.Goals as goal
 

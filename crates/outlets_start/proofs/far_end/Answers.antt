@@ -1,5 +1,4 @@
 -- `outlets_start::far_end` meets its contract: the left end is in the fragment, or it is not. Assumes nothing.
-use borrow.Author.Rules.{rules}
 use Prim.Native.Nat.{ℕ}
 use mathlib.Core.Bool.{Bool, true, false, cond}
 use mathlib.Core.Path.{◌≡◌}

@@ -1,21 +1,10 @@
 -- `outlets_start::grow` meets its contract. The loop's invariant: where MATCH gives the rows with each end, the slices are those of the fragment of k vertices. The measure is the number of vertices left.
 -- Assumes nothing.
-use Prim.Native.Nat.{ℕ, ◌≤◌, ◌<◌, ◌-◌, ◌^◌}
-use borrow.Author.Rules.{rules}
-use lib.ListN.{length}
-use mathlib.Core.Bool.{Bool}
-use mathlib.Core.Path.{◌≡◌, refl, ◌∙◌, ap, ap₂}
+use mathlib.Core.Path.{refl, ◌∙◌, ap, ap₂}
 use native.Mathlib.Omega.{arith}
-use Rattle.outlets_theory.specs.Degree.{touches, preferred}
-use Rattle.search_join.specs.Steps.Ends.{EachEnd}
-use Rattle.path_matrix.specs.Matrix.{matrix_column}
-use Rattle.rowset.specs.Columns.{width}
-use Rattle.rowset.specs.Integers.{integer_in}
-use Rattle.rowset.specs.Sets.{both, either}
+use Rattle.rowset.specs.Sets.{either}
 use Rattle.rowset.specs.Words.{in_words}
 use Rattle.slice.specs.Slices.{component, bit}
-use Rattle.table.specs.Loads.{loaded_row}
-use Rattle.outlets_start.specs.Steps.Start.{graph_in, Begun}
 use Rattle.outlets_start.proofs.Growth.{joined-two, starts_none, starts-whole, preferred-row, crossing-row, none_first, begins, none-next, begun_more}
 use Rattle.outlets_start.proofs.grow.Goals as goal
 
@@ -29,17 +18,16 @@ returns-then-i-eq0 c =
 
 pub loop-k-init : goal.loop-k-init
 unfolding in_words component bit
-loop-k-init c =
-    (
-      c.requires.0,
-      c.ranges.n.fits,
-      c.match_ends-2.ensures.size,
-      λ ml mr e row.
-          begins _ _ _ _ _ _ _ _ _ row (omega (arith, c.if-i-eq0.false)) c.end_at-a.ensures.end c.end_at-b.ensures.end
-          (joined-two _ _ c.match_ends.new.x c.match_ends.ensures.rows c.match_ends-2.ensures.rows ∙ ap₂ either (ml _) (ml _))
-          (joined-two _ _ c.match_ends-3.new.x c.match_ends-3.ensures.rows c.match_ends-4.ensures.rows ∙ ap₂ either (mr _) (mr _))
-          c.put_row.ensures.rows,
-    )
+loop-k-init c = (
+  c.requires.0,
+  c.ranges.n.fits,
+  c.match_ends-2.ensures.size,
+  λ ml mr e row.
+      begins _ _ _ _ _ _ _ _ _ row (omega (arith, c.if-i-eq0.false)) c.end_at-a.ensures.end c.end_at-b.ensures.end
+      (joined-two _ _ c.match_ends.new.x c.match_ends.ensures.rows c.match_ends-2.ensures.rows ∙ ap₂ either (ml _) (ml _))
+      (joined-two _ _ c.match_ends-3.new.x c.match_ends-3.ensures.rows c.match_ends-4.ensures.rows ∙ ap₂ either (mr _) (mr _))
+      c.put_row.ensures.rows,
+)
 
 pub returns-then-j-eq0 : goal.returns-then-j-eq0
 unfolding in_words component bit

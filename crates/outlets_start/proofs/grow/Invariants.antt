@@ -1,22 +1,18 @@
 -- `outlets_start::grow` meets its contract. The loop's invariant: where MATCH gives the rows with each end, the slices are those of the fragment of k vertices. The measure is the number of vertices left.
 -- Assumes nothing.
-use Prim.Native.Nat.{ℕ, ◌≤◌, ◌<◌, ◌-◌, ◌^◌}
-use borrow.Author.Rules.{rules}
+use Prim.Native.Nat.{◌≤◌, ◌<◌, ◌-◌, ◌^◌}
 use lib.ListN.{length}
-use mathlib.Core.Bool.{Bool}
-use mathlib.Core.Path.{◌≡◌, refl, ◌∙◌, ap, ap₂}
-use native.Mathlib.Omega.{arith}
+use mathlib.Core.Path.{◌≡◌}
 use Rattle.outlets_theory.specs.Degree.{touches, preferred}
 use Rattle.search_join.specs.Steps.Ends.{EachEnd}
 use Rattle.path_matrix.specs.Matrix.{matrix_column}
 use Rattle.rowset.specs.Columns.{width}
 use Rattle.rowset.specs.Integers.{integer_in}
-use Rattle.rowset.specs.Sets.{both, either}
+use Rattle.rowset.specs.Sets.{both}
 use Rattle.rowset.specs.Words.{in_words}
-use Rattle.slice.specs.Slices.{component, bit}
+use Rattle.slice.specs.Slices.{component}
 use Rattle.table.specs.Loads.{loaded_row}
 use Rattle.outlets_start.specs.Steps.Start.{graph_in, Begun}
-use Rattle.outlets_start.proofs.Growth.{joined-two, starts_none, starts-whole, preferred-row, crossing-row, none_first, begins, none-next, begun_more}
 use Rattle.outlets_start.proofs.grow.Given as goal
 
 abbrev pub invariant-loop-k : goal.invariant-loop-k

@@ -2,7 +2,6 @@
 use Prim.Native.Nat.{ℕ, zero, suc}
 use lib.IntN.{ℤ}
 use mathlib.Core.Bool.{Bool}
-use borrow.Author.Rules.{rules}
 use mathlib.Core.Path.{◌≡◌, refl}
 use Rattle.rowset.specs.Searches.{smallest}
 use Rattle.rowset.specs.Sets.{first_of, uppermost}

@@ -1,5 +1,4 @@
 -- `outlets_start::start_by` meets its contract: fewer than two vertices, or the tree that grows. Assumes nothing.
-use borrow.Author.Rules.{rules}
 use mathlib.Core.Path.{◌∙◌}
 use Rattle.rowset.specs.Words.{in_words}
 use Rattle.slice.specs.Slices.{component, bit}

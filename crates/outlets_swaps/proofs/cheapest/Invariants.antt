@@ -1,12 +1,8 @@
 -- `outlets_swaps::cheapest` meets its contract. The loop's invariant: the cheapest of the rows 1 to j. The measure is what is left of the column. Assumes nothing.
-use Prim.Native.Nat.{ℕ, suc, ◌+◌, ◌-◌, ◌≤◌}
-use borrow.Author.Rules.{rules}
-use lib.ListN.{length, get_or}
-use mathlib.Core.List.{List}
-use mathlib.Core.Path.{◌≡◌, refl, ap}
-use native.Mathlib.Numerals.{add-one}
-use native.Mathlib.Omega.{arith}
-use Rattle.outlets_kept.specs.Steps.Offers.{Pick, no_pick, cheaper, cheapest_to}
+use Prim.Native.Nat.{◌-◌, ◌≤◌}
+use lib.ListN.{length}
+use mathlib.Core.Path.{◌≡◌}
+use Rattle.outlets_kept.specs.Steps.Offers.{cheapest_to}
 use Rattle.outlets_swaps.specs.Steps.Columns.{pick_of}
 use Rattle.outlets_swaps.specs.Steps.Exchanges.{number_of}
 use Rattle.outlets_swaps.proofs.cheapest.Given as goal

@@ -1,8 +1,6 @@
 -- `outlets_swaps::cost_of` meets its contract: there is a row to go out, or there is none. Assumes nothing.
 use Prim.Native.Nat.{ℕ, zero, suc, ◌+◌, ◌-◌}
-use borrow.Author.Rules.{rules}
 use mathlib.Core.Path.{◌≡◌, refl}
-use native.Mathlib.Omega.{arith}
 use Rattle.outlets_kept.specs.Steps.Offers.{cost_of}
 use Rattle.outlets_swaps.proofs.cost_of.Goals as goal
 

@@ -1,6 +1,5 @@
 -- `outlets_swaps::dearest_at` meets its contract: the path has a row at r, or it has none. Assumes nothing.
 use Prim.Native.Nat.{ℕ}
-use borrow.Author.Rules.{rules}
 use borrow.Author.Tests.{not-true}
 use lib.IntN.{ℤ}
 use mathlib.Core.Bool.{Bool, true, not}

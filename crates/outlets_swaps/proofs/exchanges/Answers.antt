@@ -1,13 +1,9 @@
 -- `outlets_swaps::exchanges` meets its contract. The loop's invariant: the rows, the path matrix and what is kept are those after i exchanges. The measure is what is left of the exchanges. Assumes nothing.
-use Prim.Native.Nat.{◌-◌, ◌≤◌, ◌<◌, ◌^◌}
-use borrow.Author.Rules.{rules}
 use lib.ListN.{length}
-use mathlib.Core.Option.{some}
 use mathlib.Core.Path.{◌≡◌, refl, ◌∙◌, ap}
 use native.Mathlib.Omega.{arith}
 use Rattle.path_exchange.proofs.Turned.{length-all-turned}
-use Rattle.outlets_swaps.specs.Steps.Columns.{given_of}
-use Rattle.outlets_swaps.specs.Steps.Exchanges.{State, picked, exchanges_to}
+use Rattle.outlets_swaps.specs.Steps.Exchanges.{picked, exchanges_to}
 use Rattle.outlets_swaps.proofs.Fills.{length-filled}
 use Rattle.outlets_swaps.proofs.Turns.{exchanges-stuck, own-made, own-stuck, exchanges-more, ends-none, ends-made}
 use Rattle.slice.specs.Slices.{component}

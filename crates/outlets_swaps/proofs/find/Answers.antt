@@ -1,5 +1,4 @@
 -- `outlets_swaps::find` meets its contract, by what its calls ensure. Assumes nothing.
-use borrow.Author.Rules.{rules}
 use Rattle.outlets_swaps.specs.Steps.Exchanges.{dearest}
 use Rattle.outlets_swaps.proofs.find.Goals as goal
 

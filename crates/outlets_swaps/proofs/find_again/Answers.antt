@@ -1,18 +1,15 @@
 -- `outlets_swaps::find_again` meets its contract. The loop's invariant: the numbers before place j are written, and the others as they were. The measure is what is left of the column.
 -- Assumes nothing.
 use Prim.Native.Nat.{ℕ, ◌+◌, ◌-◌}
-use borrow.Author.Rules.{rules}
 use borrow.Author.Tests.{eq-eqb, ne_eqb}
 use lib.Dec.{eqb}
-use lib.ListN.{length, get_or}
+use lib.ListN.{get_or}
 use mathlib.Core.Bool.{Bool}
 use mathlib.Core.List.{List}
 use mathlib.Core.Path.{◌≡◌, sym, ◌∙◌, ap}
 use native.Mathlib.Omega.{arith}
-use Rattle.outlets_swaps.specs.Steps.Columns.{given_of}
-use Rattle.outlets_swaps.specs.Steps.Exchanges.{kept_as, dearest, costs}
-use Rattle.outlets_swaps.proofs.Fills.{Filling, filling-none, filling-more, filling-all}
-use Rattle.slice.specs.Slices.{component}
+use Rattle.outlets_swaps.specs.Steps.Exchanges.{kept_as}
+use Rattle.outlets_swaps.proofs.Fills.{filling-none, filling-more, filling-all}
 use Rattle.outlets_swaps.proofs.find_again.Goals as goal
 use Rattle.outlets_swaps.proofs.find_again.Goals.{then-out-j, else-out-j}
 
@@ -42,20 +39,18 @@ loop-j-preserved c =
     let low = c.loop-j-test.true in
     let old = l.invariant.0.rest l.j (omega arith) in
     elim c.if-out-j.branch [
-      then-out-j w ↦
-        let test = same_test a.out.now l.out a.e l.j _ old (eq-eqb _ _ w.if-out-j.true) in
-        (
-          filling-more _ _ _ _ _ _ _ l.invariant.0 (omega (arith, low, l.invariant.0.full)) test (w.out-is ∙ w.find.ensures.out),
-          filling-more _ _ _ _ _ _ _ l.invariant.1 (omega (arith, low, l.invariant.0.full, l.invariant.2)) test (w.cost-is ∙ w.find.ensures.cost),
-          l.invariant.2,
-        )
+      | then-out-j w ↦
+          let test = same_test a.out.now l.out a.e l.j _ old (eq-eqb _ _ w.if-out-j.true) in (
+            filling-more _ _ _ _ _ _ _ l.invariant.0 (omega (arith, low, l.invariant.0.full)) test (w.out-is ∙ w.find.ensures.out),
+            filling-more _ _ _ _ _ _ _ l.invariant.1 (omega (arith, low, l.invariant.0.full, l.invariant.2)) test (w.cost-is ∙ w.find.ensures.cost),
+            l.invariant.2,
+          )
       | else-out-j w ↦
-        let test = same_test a.out.now l.out a.e l.j _ old (ne_eqb _ _ w.if-out-j.false) in
-        (
-          filling-more _ _ _ _ _ _ _ l.invariant.0 (omega (arith, low, l.invariant.0.full)) test w.out-is,
-          filling-more _ _ _ _ _ _ _ l.invariant.1 (omega (arith, low, l.invariant.0.full, l.invariant.2)) test w.cost-is,
-          l.invariant.2,
-        )
+          let test = same_test a.out.now l.out a.e l.j _ old (ne_eqb _ _ w.if-out-j.false) in (
+            filling-more _ _ _ _ _ _ _ l.invariant.0 (omega (arith, low, l.invariant.0.full)) test w.out-is,
+            filling-more _ _ _ _ _ _ _ l.invariant.1 (omega (arith, low, l.invariant.0.full, l.invariant.2)) test w.cost-is,
+            l.invariant.2,
+          )
     ]
 
 pub shape_of-out : goal.shape_of-out

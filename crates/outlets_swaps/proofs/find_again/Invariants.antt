@@ -1,18 +1,11 @@
 -- `outlets_swaps::find_again` meets its contract. The loop's invariant: the numbers before place j are written, and the others as they were. The measure is what is left of the column.
 -- Assumes nothing.
-use Prim.Native.Nat.{ℕ, ◌+◌, ◌-◌}
-use borrow.Author.Rules.{rules}
-use borrow.Author.Tests.{eq-eqb, ne_eqb}
-use lib.Dec.{eqb}
-use lib.ListN.{length, get_or}
-use mathlib.Core.Bool.{Bool}
-use mathlib.Core.List.{List}
-use mathlib.Core.Logic.{⊎_elim}
-use mathlib.Core.Path.{◌≡◌, sym, ◌∙◌, ap}
-use native.Mathlib.Omega.{arith}
+use Prim.Native.Nat.{◌-◌}
+use lib.ListN.{length}
+use mathlib.Core.Path.{◌≡◌}
 use Rattle.outlets_swaps.specs.Steps.Columns.{given_of}
 use Rattle.outlets_swaps.specs.Steps.Exchanges.{kept_as, dearest, costs}
-use Rattle.outlets_swaps.proofs.Fills.{Filling, filling-none, filling-more, filling-all}
+use Rattle.outlets_swaps.proofs.Fills.{Filling}
 use Rattle.slice.specs.Slices.{component}
 use Rattle.outlets_swaps.proofs.find_again.Given as goal
 

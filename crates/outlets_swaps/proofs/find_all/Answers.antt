@@ -1,14 +1,8 @@
 -- `outlets_swaps::find_all` meets its contract. The loop's invariant: the numbers before place j are written, and the others as they were. The measure is what is left of the column.
 -- Assumes nothing.
-use Prim.Native.Nat.{◌-◌}
-use borrow.Author.Rules.{rules}
-use lib.ListN.{length}
-use mathlib.Core.Path.{◌≡◌, sym, ◌∙◌}
+use mathlib.Core.Path.{sym, ◌∙◌}
 use native.Mathlib.Omega.{arith}
-use Rattle.outlets_swaps.specs.Steps.Columns.{given_of}
-use Rattle.outlets_swaps.specs.Steps.Exchanges.{dearest, costs}
-use Rattle.outlets_swaps.proofs.Fills.{Filling, filling-none, filling-more, filling-all}
-use Rattle.slice.specs.Slices.{component}
+use Rattle.outlets_swaps.proofs.Fills.{filling-none, filling-more, filling-all}
 use Rattle.outlets_swaps.proofs.find_all.Goals as goal
 use Rattle.outlets_swaps.proofs.find_all.Goals.{then-get, else-get}
 
@@ -31,20 +25,18 @@ loop-j-preserved c =
     let low = c.loop-j-test.true in
     let is = c.get.ensures in
     elim c.if-get.branch [
-      then-get w ↦
-        let test = sym w.if-get.true ∙ is in
-        (
-          filling-more _ _ _ _ _ _ _ l.invariant.0 (omega (arith, low, l.invariant.0.full)) test (w.out-is ∙ w.find.ensures.out),
-          filling-more _ _ _ _ _ _ _ l.invariant.1 (omega (arith, low, l.invariant.0.full, l.invariant.2)) test (w.cost-is ∙ w.find.ensures.cost),
-          l.invariant.2,
-        )
+      | then-get w ↦
+          let test = sym w.if-get.true ∙ is in (
+            filling-more _ _ _ _ _ _ _ l.invariant.0 (omega (arith, low, l.invariant.0.full)) test (w.out-is ∙ w.find.ensures.out),
+            filling-more _ _ _ _ _ _ _ l.invariant.1 (omega (arith, low, l.invariant.0.full, l.invariant.2)) test (w.cost-is ∙ w.find.ensures.cost),
+            l.invariant.2,
+          )
       | else-get w ↦
-        let test = sym w.if-get.false ∙ is in
-        (
-          filling-more _ _ _ _ _ _ _ l.invariant.0 (omega (arith, low, l.invariant.0.full)) test w.out-is,
-          filling-more _ _ _ _ _ _ _ l.invariant.1 (omega (arith, low, l.invariant.0.full, l.invariant.2)) test w.cost-is,
-          l.invariant.2,
-        )
+          let test = sym w.if-get.false ∙ is in (
+            filling-more _ _ _ _ _ _ _ l.invariant.0 (omega (arith, low, l.invariant.0.full)) test w.out-is,
+            filling-more _ _ _ _ _ _ _ l.invariant.1 (omega (arith, low, l.invariant.0.full, l.invariant.2)) test w.cost-is,
+            l.invariant.2,
+          )
     ]
 
 pub shape_of-out : goal.shape_of-out

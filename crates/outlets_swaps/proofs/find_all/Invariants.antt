@@ -1,14 +1,11 @@
 -- `outlets_swaps::find_all` meets its contract. The loop's invariant: the numbers before place j are written, and the others as they were. The measure is what is left of the column.
 -- Assumes nothing.
 use Prim.Native.Nat.{◌-◌}
-use borrow.Author.Rules.{rules}
 use lib.ListN.{length}
-use mathlib.Core.Logic.{⊎_elim}
-use mathlib.Core.Path.{◌≡◌, sym, ◌∙◌}
-use native.Mathlib.Omega.{arith}
+use mathlib.Core.Path.{◌≡◌}
 use Rattle.outlets_swaps.specs.Steps.Columns.{given_of}
 use Rattle.outlets_swaps.specs.Steps.Exchanges.{dearest, costs}
-use Rattle.outlets_swaps.proofs.Fills.{Filling, filling-none, filling-more, filling-all}
+use Rattle.outlets_swaps.proofs.Fills.{Filling}
 use Rattle.slice.specs.Slices.{component}
 use Rattle.outlets_swaps.proofs.find_all.Given as goal
 

@@ -1,5 +1,4 @@
 -- `outlets_swaps::number_at` meets its contract: past the column's end the default is read. Assumes nothing.
-use borrow.Author.Rules.{rules}
 use lib.ListN.{get_or-eq_default}
 use mathlib.Core.Path.{sym}
 use Rattle.outlets_swaps.proofs.number_at.Goals as goal

@@ -1,5 +1,4 @@
 -- `outlets_swaps::path_of` meets its contract, by what its calls ensure. Assumes nothing.
-use borrow.Author.Rules.{rules}
 use Rattle.outlets_swaps.specs.Steps.Exchanges.{between}
 use Rattle.outlets_swaps.proofs.path_of.Goals as goal
 

@@ -1,5 +1,4 @@
 -- `outlets_swaps::reduce` meets its contract: all rows are looked at, and the exchanges are made. Assumes nothing.
-use borrow.Author.Rules.{rules}
 use Rattle.outlets_swaps.specs.Steps.Exchanges.{found, first_state}
 use Rattle.outlets_swaps.proofs.reduce.Goals as goal
 

@@ -1,11 +1,5 @@
 -- `outlets_swaps::swap` meets its contract, by what its calls ensure. Assumes nothing.
 use Rattle.outlets_swaps.specs.Steps.Exchanges.{swapped}
-use borrow.Author.Rules.{rules}
-use Rattle.outlets_swaps.proofs.swap.Reads as reads
-use Rattle.outlets_swaps.proofs.swap.Lts as lts
-use Rattle.path_exchange.proofs.turn_columns.Reads as turn-columns-reads
-use Rattle.outlets_swaps.proofs.path_of.Reads as path-of-reads
-use Rattle.slice.proofs.put.Reads as put_reads
 use Rattle.outlets_swaps.proofs.swap.Goals as goal
 
 -- src/lib.rt:206:1

@@ -1,10 +1,7 @@
 -- `quote::copied` meets its contract. The loop's invariant: the first i bytes are copied, and the others are 0. The measure is what is left of the column.
 -- Assumes nothing.
-use Prim.Native.Nat.{◌-◌, ◌≤◌}
-use borrow.Author.Rules.{rules}
-use lib.ListN.{length}
 use native.Mathlib.Omega.{arith}
-use Rattle.quote.proofs.Stores.{Copied, copied_none, copied_more, copied_all}
+use Rattle.quote.proofs.Stores.{copied_none, copied_more, copied_all}
 use Rattle.quote.proofs.copied.Goals as goal
 
 pub loop-i-init : goal.loop-i-init

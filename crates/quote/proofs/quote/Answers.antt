@@ -1,6 +1,5 @@
 -- `quote::quote` meets its contract in each of its three cases: the call is refused, there is no tree, or both trees are built.
 -- Assumes nothing.
-use borrow.Author.Rules.{rules}
 use borrow.Author.Tests.{not-true, not-false}
 use Rattle.quote.proofs.Answers.{call-refused, fits, no-tree, both-built}
 use Rattle.quote.specs.Answers.{answer_of}

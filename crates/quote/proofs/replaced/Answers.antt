@@ -1,5 +1,4 @@
 -- `quote::replaced` meets its contract: four bytes are stored in the copy. Assumes nothing.
-use borrow.Author.Rules.{rules}
 use native.Mathlib.Omega.{arith}
 use Rattle.quote.proofs.Stores.{replaced-rows, replaced-length}
 use Rattle.quote.proofs.replaced.Goals as goal

@@ -1,5 +1,4 @@
 -- `quote::row_check` meets its contract: the table's causes, and then that of the row. Assumes nothing.
-use borrow.Author.Rules.{rules}
 use Rattle.table_checks.proofs.Laws.{refusal-one, refusal-both}
 use Rattle.star_spec.specs.Call.{used}
 use Rattle.price_spec.specs.Quote.{no_row, row_asked}
