@@ -4,7 +4,7 @@ use Prim.Native.Nat.{ℕ, zero, suc, ◌≤◌, ◌<◌}
 use lib.IntN.{ℤ}
 use mathlib.Core.Bool.{Bool, false}
 use mathlib.Core.List.{List, [], ◌∷◌}
-use mathlib.Core.Path.{◌≡◌, refl, sym, ◌∙◌, ap}
+use mathlib.Core.Path.{◌≡◌, refl, ◌∙◌, ap}
 use Rattle.districts_theory.specs.Districts.{run, forests_after, forests, within}
 use Rattle.districts_theory.specs.Growing.{misses, next_row, with_row, grown, grown_forest}
 use Rattle.graph_theory.specs.Builder.{Fragment, cheapest}
@@ -13,7 +13,7 @@ use Rattle.mst1.proofs.Cut.{over}
 use Rattle.rowset.proofs.Laws.{refuted, clash, uppermost-cut}
 use Rattle.rowset.proofs.Searches.{smallest-in, smallest-cut}
 use Rattle.rowset.specs.Searches.{smallest}
-use Rattle.rowset.specs.Sets.{both, either}
+use Rattle.rowset.specs.Sets.{both}
 
 -- other rows of the graph
 row_within : (g : Graph) (Y : ℕ → Bool) (f : Fragment) (i : ℕ) → with_row (within g Y) f i ≡ with_row g f i

@@ -4,7 +4,7 @@
 -- Assumes nothing.
 use Prim.Native.Nat.{ℕ, zero, suc, ◌+◌, ◌≤◌}
 use lib.IntN.{ℤ}
-use mathlib.Core.Bool.{Bool, true, false, not, xor, ◌&&◌, and-false}
+use mathlib.Core.Bool.{Bool, true, false, not, ◌&&◌, and-false}
 use mathlib.Core.List.{List}
 use mathlib.Core.Path.{◌≡◌, refl, sym, ap, ◌∙◌, fun_ext, ap₂}
 use native.Mathlib.Numerals.{add-one}
@@ -12,7 +12,7 @@ use native.Mathlib.Omega.{arith}
 use Rattle.districts_theory.proofs.Growing.{grown-ended}
 use Rattle.districts_theory.specs.Growing.{misses, next_row, with_row, grown, grown_forest}
 use Rattle.graph_theory.specs.Builder.{Fragment, cheapest}
-use Rattle.graph_theory.specs.Graph.{Graph, crosses, with_ends}
+use Rattle.graph_theory.specs.Graph.{Graph, with_ends}
 use Rattle.search_join.specs.Steps.Ends.{ends_in, first_words, words_taken, EachEnd}
 use Rattle.mst1.proofs.Growth.{written_in}
 use Rattle.mst1.proofs.Steps.{touching-put, touching-one}

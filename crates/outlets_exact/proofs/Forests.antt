@@ -1,5 +1,5 @@
 -- The forest of one run that has every position is the forest of all rows (one-run); positions past the table's change nothing (forest-cut). Assumes nothing.
-use Prim.Native.Nat.{ℕ, ◌≤◌, ◌<◌}
+use Prim.Native.Nat.{ℕ, ◌≤◌}
 use lib.IntN.{ℤ}
 use mathlib.Core.Bool.{Bool, true, false, or-false}
 use mathlib.Core.List.{[], ◌∷◌}
@@ -12,7 +12,7 @@ use Rattle.graph_theory.specs.Graph.{Graph}
 use Rattle.mst1.proofs.Cut.{over}
 use Rattle.rowset.proofs.Laws.{clash, refuted, in-up_to, up_to-in}
 use Rattle.rowset.proofs.Members.{same_truth, both-in, in_both, in_without}
-use Rattle.rowset.specs.Sets.{empty, up_to, both, either, without}
+use Rattle.rowset.specs.Sets.{empty, up_to, either, without}
 use Rattle.slice.proofs.Laws.{component-outside}
 use Rattle.slice.specs.Slices.{size, component}
 use Rattle.slice.specs.declared.Slice.{Slice}

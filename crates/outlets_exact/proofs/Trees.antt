@@ -22,7 +22,7 @@ use Rattle.outlets_theory.specs.Degree as degree
 use Rattle.outlets_theory.specs.Degree.{touches, rows_at, row_in, start, swaps, reduced, tree_with}
 use Rattle.graph_theory.proofs.Builder.{built-spanning, not-built}
 use Rattle.graph_theory.specs.Builder.{Fragment, tree}
-use Rattle.graph_theory.specs.Graph.{Graph, Sound, joined}
+use Rattle.graph_theory.specs.Graph.{Graph, Sound}
 use Rattle.graph_theory.specs.Tree.{SpanningTree}
 use Rattle.mst1.proofs.Answers.{loaded-weights}
 use Rattle.mst1.proofs.Cut.{over, tree-cut}
@@ -47,7 +47,7 @@ use Rattle.star_spec.specs.Refusals.{is_none, Accepted}
 use Rattle.table.proofs.Loads.{load-taken, loaded-taken}
 use Rattle.table.specs.Loads.{loaded_row}
 use Rattle.outlets_exact.proofs.Forests.{forest-cut}
-use Rattle.outlets_exact.specs.Steps.Reduced.{reduced_by, reduced_from, walked, Held, used_in, loaded_in, weight_in, Makes}
+use Rattle.outlets_exact.specs.Steps.Reduced.{reduced_by, walked, Held, used_in, loaded_in, weight_in, Makes}
 
 -- ── Positions past the table's rows change nothing ──
 

@@ -5,7 +5,7 @@ use Prim.Native.Nat.{ℕ, zero, suc, ◌+◌, ◌≤◌, ◌<◌}
 use lib.Dec.{eqb}
 use lib.IntN.{ℤ}
 use lib.ListN.{replicate}
-use mathlib.Core.Bool.{Bool, true, false, cond, xor, ◌&&◌, ◌||◌}
+use mathlib.Core.Bool.{Bool, true, false, cond, ◌&&◌, ◌||◌}
 use mathlib.Core.List.{List}
 use mathlib.Core.Option.{none, some}
 use mathlib.Core.Path.{◌≡◌, refl, sym, ap, ap₂, ◌∙◌, fun_ext}
@@ -22,7 +22,7 @@ use Rattle.slice_words.proofs.Joining.{zeros-none, joined-none}
 use Rattle.mst1.proofs.Growth.{written_in}
 use Rattle.mst1.proofs.Steps.{touching-single, touching-put, touching-one}
 use Rattle.mst1.specs.Steps.Growth.{touching}
-use Rattle.rowset.proofs.Laws.{clash, upwards, in-up_to, uppermost-some}
+use Rattle.rowset.proofs.Laws.{clash, upwards, uppermost-some}
 use Rattle.rowset.proofs.Members.{both-in}
 use Rattle.rowset.proofs.Searches.{smallest-in}
 use Rattle.rowset.specs.Searches.{equal_to, smallest}

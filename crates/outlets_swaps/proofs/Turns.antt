@@ -1,7 +1,7 @@
 -- Exchanges one after the other by the calls that the code makes.
 -- Main statements: where no row can come in, no more exchanges are made (exchanges-stuck); the last state then and where all were made (own-stuck, own-made); one exchange more (exchanges-more); what is left (ends-made, ends-none). Assumes nothing.
 use Prim.Native.Nat.{ℕ, zero, suc, ◌+◌, ◌-◌, ◌<◌}
-use lib.ListN.{length, get_or}
+use lib.ListN.{get_or}
 use mathlib.Core.Bool.{Bool, true, false}
 use mathlib.Core.List.{List}
 use mathlib.Core.Option.{Option, none, some}

@@ -1,6 +1,5 @@
 -- `districts::ends_rise` meets its contract. The loop's invariant: the ends that are left rise from p exactly where all rise from 0.
 -- Assumes nothing.
-use Prim.Native.Nat.{◌-◌}
 use mathlib.Core.Path.{refl}
 use native.Mathlib.Omega.{arith}
 use Rattle.districts.proofs.Ends.{rises-not, rises-more, rises-last}

@@ -1,6 +1,5 @@
 -- `districts_forests::forests_in` meets its contract. The loop's invariant: the forests gathered, with those of the ends that are left, are all. The measure is the number of ends left.
 -- Assumes nothing.
-use Prim.Native.Nat.{◌-◌}
 use native.Mathlib.Omega.{arith}
 use Rattle.districts_forests.proofs.Runs.{gathered_none, gathered-more, gathered-all}
 use Rattle.districts_theory.specs.Districts.{run}

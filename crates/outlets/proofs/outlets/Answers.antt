@@ -1,7 +1,6 @@
 -- `outlets::outlets` meets its contract in each of its four cases: the table or the vertex is refused, there is no tree, none has exactly t rows at r, or a tree is built. Assumes nothing.
 use mathlib.Core.Logic.{⊎_elim}
 use mathlib.Core.Path.{◌∙◌}
-use borrow.Author.Rules.{rules}
 use borrow.Author.Tests.{not-true, not-false}
 use Rattle.outlets_exact.proofs.Trees.{no-tree, some-tree, left-tree}
 use Rattle.mst1.specs.Answers.{answer_of}

@@ -1,5 +1,4 @@
 -- `outlets::vertex_check` meets its contract: the table's causes, and then that of the vertex. Assumes nothing.
-use borrow.Author.Rules.{rules}
 use borrow.Author.Tests.{eq-eqb, ne_eqb}
 use Rattle.table_checks.proofs.Laws.{refusal-one, refusal-both}
 use Rattle.outlets_spec.specs.Outlets.{vertex_asked}
@@ -12,6 +11,6 @@ unfolding vertex_asked bad_source
 returns c =
     rw (refusal-both, refusal-one, c.first.ensures, c.refused_if.ensures, c.table_check-table.ensures)
     (elim c.if-r-eq0.branch [
-      then-r-eq0 w ↦ rw (w.refused_if-is, eq-eqb _ _ w.if-r-eq0.true)
+      | then-r-eq0 w ↦ rw (w.refused_if-is, eq-eqb _ _ w.if-r-eq0.true)
       | else-r-eq0 w ↦ rw (w.refused_if-is, ne_eqb _ _ w.if-r-eq0.false)
     ])

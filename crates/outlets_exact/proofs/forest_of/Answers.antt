@@ -1,5 +1,4 @@
 -- `outlets_exact::forest_of` meets its contract: a slice's rows are positions 1 to 1,024, so that one run has them all. Assumes nothing.
-use borrow.Author.Rules.{rules}
 use mathlib.Core.Path.{◌∙◌}
 use Rattle.outlets_exact.proofs.Forests.{one-run, slice_rows}
 use Rattle.outlets_exact.proofs.forest_of.Goals as goal

@@ -1,5 +1,4 @@
 -- `outlets_exact::reduce` meets its contract, by the number of rows at r. Assumes nothing.
-use borrow.Author.Rules.{rules}
 use mathlib.Core.Path.{refl, ◌∙◌, ap}
 use Rattle.rowset.specs.Sets.{count}
 use Rattle.slice.specs.Slices.{size}

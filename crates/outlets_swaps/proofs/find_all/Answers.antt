@@ -1,6 +1,5 @@
 -- `outlets_swaps::find_all` meets its contract. The loop's invariant: the numbers before place j are written, and the others as they were. The measure is what is left of the column.
 -- Assumes nothing.
-use Prim.Native.Nat.{◌-◌}
 use mathlib.Core.Path.{sym, ◌∙◌}
 use native.Mathlib.Omega.{arith}
 use Rattle.outlets_swaps.proofs.Fills.{filling-none, filling-more, filling-all}
