@@ -1,6 +1,6 @@
 #!/bin/sh
 # The doors as one WebAssembly module (32 bit), by the kit's own compiler and linker.
-# usage: page/module.sh OUT.wasm OBJECTS CRATE..   in the repository's root; CRATE is a door's crate.
+# usage: page/module.sh OUT.wasm OBJECTS CRATE..   in the repository's root; CRATE is a door's crate
 #
 # The kit's compiler hands LLVM code to clang for this machine. What was kept of that beside the
 # archives, OBJECTS/CRATE.bc, is compiled once more, for WebAssembly. No proof is made here: the

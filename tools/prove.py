@@ -41,7 +41,7 @@ def below(name, listed):
 
 
 def words(name, listed, root):
-    """What the compiler is told of a crate, as rt tells it."""
+    """What the compiler is told of a crate, as rt tells it, but for every processor of the kind."""
     def built(crate):
         return os.path.abspath(f'{root}/crates/{crate}/out/rlib')
 
@@ -51,8 +51,9 @@ def words(name, listed, root):
         out += ['--extern', f'{crate}={place}/{crate}.rlib']
     for place in [f'{KIT}/rlibs'] + [built(crate) for crate in below(name, listed)]:
         out += ['-L', f'dependency={place}']
-    return out + ['--antt-project', f'{KIT}/rattle/logic/antt-project.json', '--logic-built',
-                  f'{KIT}/logic_built', '--jobs', '1', '--backend', 'llvm']
+    out += ['--antt-project', f'{KIT}/rattle/logic/antt-project.json']
+    out += ['--logic-built', f'{KIT}/logic_built']
+    return out + ['--jobs', '1', '--backend', 'llvm', '--cpu', 'x86-64']
 
 
 def write(name, listed, root, folder, keeps):
