@@ -1,16 +1,16 @@
 -- The answer and both columns in each of the two cases: the call is refused, or groups and rings are told. Assumes nothing.
 use Prim.Native.Nat.{ℕ, suc, ◌≤◌, ◌<◌}
 use lib.Dec.{eqb}
-use lib.ListN.{length, get_or}
+use lib.ListN.{length}
 use lib.Seq.{ext_get_or}
 use mathlib.Core.Bool.{Bool, true, false, not, ◌||◌, and-eq-true_iff}
 use mathlib.Core.List.{List, [], ◌∷◌, ◌++◌}
-use mathlib.Core.Option.{Option, none, some}
+use mathlib.Core.Option.{none, some}
 use mathlib.Core.Path.{◌≡◌, refl, sym, ◌∙◌, ap}
 use native.Mathlib.Omega.{arith}
 use Rattle.claim.proofs.Laws.{claim_rows-marked}
 use Rattle.claim.specs.Claims.{claim_rows}
-use Rattle.graph_theory.specs.Graph.{Graph, Sound, Inside}
+use Rattle.graph_theory.specs.Graph.{Sound, Inside}
 use Rattle.groups.proofs.Visiting.{all-labels, all-rings, all-length}
 use Rattle.groups.specs.Steps.Machine.{all_visited}
 use Rattle.groups_spec.proofs.Causes.{checks-in-order, taken-means}

@@ -1,6 +1,6 @@
 -- The visits on the machine keep what the theory asks for (Kept), so that the labels are the groups and the rings the rows that close one (all-labels, all-rings).
 -- Assumes nothing.
-use Prim.Native.Nat.{ℕ, zero, suc, ◌+◌, ◌*◌, ◌≤◌, ◌<◌}
+use Prim.Native.Nat.{ℕ, zero, suc, ◌≤◌, ◌<◌}
 use lib.Dec.{eqb}
 use lib.ListN.{length, get_or, replicate, length-replicate, get_or-replicate, get_or-eq_default}
 use mathlib.Core.Bool.{Bool, true, false, cond, and-false}
@@ -21,13 +21,13 @@ use Rattle.mend_groups.proofs.Joining.{written_in}
 use Rattle.mend_groups.specs.Steps.Machine.{renamed, all_renamed, labels_from}
 use Rattle.mend_theory.proofs.Rings.{above-put, above_same}
 use Rattle.path_exchange.proofs.Turned.{InSize, column-in}
-use Rattle.path_matrix.specs.Matrix.{has_column, matrix_column}
+use Rattle.path_matrix.specs.Matrix.{matrix_column}
 use Rattle.rowset.proofs.Laws.{refuted, up_to-in, both-inside}
 use Rattle.rowset.proofs.Members.{both-in, put_all}
 use Rattle.rowset.specs.Bytes.{in_row}
 use Rattle.rowset.specs.Sets.{empty, up_to, both, one_of, put}
 use Rattle.slice.proofs.Bits.{bit-of-zero}
-use Rattle.slice.specs.Slices.{size, bit}
+use Rattle.slice.specs.Slices.{size}
 use Rattle.star_spec.proofs.Claims.{in_row-byte}
 
 -- the columns of a matrix of zeros are empty

@@ -1,10 +1,9 @@
 -- The mender's answer, the claim and the list in each of its three cases: the call is refused, there is no tree, or the claim is mended.
 -- Assumes nothing.
-use Prim.Native.Nat.{ℕ, ◌+◌, ◌*◌, ◌≤◌}
+use Prim.Native.Nat.{ℕ, ◌*◌, ◌≤◌}
 use borrow.Author.Tests.{ltb-false}
-use lib.Dec.{ltb}
 use lib.ListN.{length, get_or, drop, length-append}
-use mathlib.Core.Bool.{Bool, true, false}
+use mathlib.Core.Bool.{Bool}
 use mathlib.Core.List.{List, [], ◌∷◌, ◌++◌}
 use mathlib.Core.Option.{Option, none, some}
 use mathlib.Core.Path.{◌≡◌, refl, sym, ◌∙◌, ap, ap₂, subst}
@@ -23,7 +22,7 @@ use Rattle.graph_theory.specs.Graph.{Graph, Sound, Inside}
 use Rattle.graph_theory.specs.Tree.{SpanningTree, on_path}
 use Rattle.path_matrix.proofs.Laws.{length-matrix_words}
 use Rattle.mend_theory.proofs.Promise.{joined-tree, spanned, mends}
-use Rattle.mend_theory.specs.Mending.{Drawing, gapless, exchanged}
+use Rattle.mend_theory.specs.Mending.{gapless, exchanged}
 use Rattle.path.proofs.Paths as P
 use Rattle.mend_record.specs.declared.Record.{Record}
 use Rattle.mend_list.specs.Steps.Stored.{stored_to}
@@ -34,16 +33,13 @@ use Rattle.rowset.specs.Bytes.{in_row}
 use Rattle.rowset.specs.Integers.{signed}
 use Rattle.rowset.specs.Sets.{up_to, both}
 use Rattle.rowset.specs.Words.{column_words, matrix_words}
-use Rattle.slice.specs.Slices.{size}
-use Rattle.star_spec.proofs.Accepted.{none-head, none_tail, cause-none, refusal-append, Taken, taken, used-row, sound, accepted-means}
+use Rattle.star_spec.proofs.Accepted.{none-head, none_tail, cause-none, refusal-append, Taken, taken, sound, accepted-means}
 use Rattle.star_spec.proofs.Claims.{claim_of-length, marked-claim_of, claim_of-bytes}
-use Rattle.star_spec.specs.Accepted.{AcceptedTable}
-use Rattle.star_spec.specs.Call.{Call, rows_of, used, graph_of, weight_of, marked, claimed, with_claim, claim_of}
+use Rattle.star_spec.specs.Call.{Call, used, graph_of, weight_of, marked, claimed, with_claim, claim_of}
 use Rattle.star_spec.specs.MatrixPath.{path_column, matrix_path, matrix_or, matrix_after}
 use Rattle.star_spec.specs.Refusals.{Accepted, max_vertices, cause, is_none, no_tree, table_causes, bad_claim, bad_count, unjoined, cst_causes, or_else, refusal}
 use Rattle.table.specs.Loads.{loaded_row}
 use Rattle.mend_groups.proofs.Joining.{Second, passes-shown}
-use Rattle.mend_groups.proofs.Listed.{Shows}
 use Rattle.mend.proofs.Written.{stored-all, numbers-past}
 use Rattle.mend.proofs.Third.{Third, third-after}
 use Rattle.mend_groups.specs.Steps.Machine.{State, numbered, visits, two_passes}

@@ -1,17 +1,15 @@
 -- The third pass on the machine is that of the definition: the path matrix has the tree paths after each row (Third), and the row that goes out is the one that the definition names (out-rows).
 -- Assumes nothing.
-use Prim.Native.Nat.{ℕ, zero, suc, ◌+◌, ◌*◌, ◌≤◌, ◌<◌}
+use Prim.Native.Nat.{ℕ, zero, suc, ◌+◌, ◌*◌, ◌≤◌}
 use borrow.Author.Tests.{eq-eqb, ne_eqb}
-use lib.Dec.{eqb, ltb}
 use lib.IntN.{ℤ}
 use lib.ListN.{length}
-use lib.Signed.{lt_z}
-use mathlib.Core.Bool.{Bool, true, false, not, cond, ◌&&◌}
+use mathlib.Core.Bool.{Bool, true, false}
 use mathlib.Core.List.{List}
-use mathlib.Core.Path.{◌≡◌, refl, sym, ◌∙◌, ap, ap₂, subst, fun_ext}
+use mathlib.Core.Path.{◌≡◌, refl, sym, ◌∙◌, ap, ap₂, fun_ext}
 use native.Mathlib.Omega.{arith}
 use Rattle.path_exchange.proofs.Turned.{length-all-turned, paths-turned}
-use Rattle.path_exchange.specs.Turned.{columns_turned, PathsFrom, ring_of}
+use Rattle.path_exchange.specs.Turned.{PathsFrom, ring_of}
 use Rattle.graph_theory.proofs.Exchange.{exchange-spanning}
 use Rattle.graph_theory.proofs.Path.{path_inside, path-columns}
 use Rattle.graph_theory.proofs.Reach.{same_truth}
@@ -28,7 +26,6 @@ use Rattle.rowset.specs.Integers.{signed}
 use Rattle.rowset.specs.Searches.{largest}
 use Rattle.rowset.specs.Sets.{one_of, put, take_out, uppermost}
 use Rattle.rowset.specs.Words.{column_words}
-use Rattle.rowset.specs.Steps.Flipped.{flipped}
 use Rattle.slice.specs.Slices.{size, written}
 use Rattle.mend_groups.proofs.Joining.{written_out, written_in}
 use Rattle.mend_groups.proofs.Listed.{Shows, shows-noted}

@@ -1,7 +1,7 @@
 -- The first two passes on the machine are those of the definition: the labels tell the groups apart (Grouped), and the state shows the drawing after each row (first-after, second-after).
 -- Assumes nothing.
-use Prim.Native.Nat.{ℕ, zero, suc, ◌+◌, ◌*◌, ◌≤◌, ◌<◌}
-use borrow.Author.Tests.{eqb-true, eq-eqb, not-true, not-false}
+use Prim.Native.Nat.{ℕ, zero, suc, ◌+◌, ◌*◌, ◌≤◌}
+use borrow.Author.Tests.{eqb-true, eq-eqb}
 use lib.Dec.{eqb}
 use lib.ListN.{length}
 use mathlib.Core.Bool.{Bool, true, false, not, cond, ◌&&◌}
@@ -9,16 +9,15 @@ use mathlib.Core.List.{List}
 use mathlib.Core.Path.{◌≡◌, refl, sym, ◌∙◌, ap, subst, fun_ext}
 use native.Mathlib.Omega.{arith}
 use Rattle.graph_theory.proofs.Reach.{same_truth}
-use Rattle.graph_theory.specs.Graph.{Graph, Sound, Inside, joined}
+use Rattle.graph_theory.specs.Graph.{Graph, Sound, Inside}
 use Rattle.graph_theory.specs.Meaning.{Vertex}
 use Rattle.mend_theory.proofs.Drawing.{done-length}
 use Rattle.mend_theory.proofs.Groups.{Labels, relabelled, labels-start, labels-put}
 use Rattle.mend_theory.proofs.Rings.{above-put, above_same}
 use Rattle.mend_theory.specs.Mending as D
 use Rattle.mend_theory.specs.Mending.{Drawing, drop, addition, unmark_row, mark_row, apply, done, down, joins_ends, old, ringless, gapless}
-use Rattle.mend_record.specs.declared.Record.{Record}
-use Rattle.rowset.proofs.Laws.{clash, put-cases, take_out-same, take_out-other, take_out-in, up_to-in, in-up_to, both-inside}
-use Rattle.rowset.proofs.Members.{put_all, both-in, in_both}
+use Rattle.rowset.proofs.Laws.{take_out-same, take_out-other, take_out-in, up_to-in, in-up_to, both-inside}
+use Rattle.rowset.proofs.Members.{put_all, both-in}
 use Rattle.rowset.specs.Bytes.{in_row}
 use Rattle.rowset.specs.Sets.{empty, up_to, both, put, take_out}
 use Rattle.slice.specs.Slices.{size, written}
@@ -26,7 +25,7 @@ use Rattle.star_spec.proofs.Claims.{in_row-byte}
 use Rattle.mend_groups.proofs.Groups.{length-renamed, get_d-renamed, length-labels, get_d-labels, joined_same, joined-two}
 use Rattle.mend_groups.proofs.Listed.{Shows, shows-noted, shows-own}
 use Rattle.mend_groups.proofs.Steps.{drop-unmarked, drop-joins, drop-drops, add-unused, add-joined, add-adds}
-use Rattle.mend_groups.specs.Steps.Machine.{State, numbers_of, numbered, noted, renamed, all_renamed, labels_from, apart, joined_labels, drop_at, add_at, visits, two_passes}
+use Rattle.mend_groups.specs.Steps.Machine.{State, numbers_of, numbered, noted, renamed, all_renamed, labels_from, apart, drop_at, add_at, visits, two_passes}
 
 eqb_swap : (x y : ℕ) → eqb x y ≡ eqb y x
 eqb_swap x y = same_truth _ _ (λ t. eq-eqb y x (sym (eqb-true x y t))) (λ t. eq-eqb x y (sym (eqb-true y x t)))

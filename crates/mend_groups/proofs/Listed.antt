@@ -1,6 +1,6 @@
 -- The list of records: one record stored after the others is one record more of the list (numbered_more), and the machine's state shows a drawing (Shows).
 -- Assumes nothing.
-use Prim.Native.Nat.{ℕ, zero, suc, ◌+◌, ◌*◌, ◌≤◌}
+use Prim.Native.Nat.{ℕ, suc, ◌+◌, ◌*◌, ◌≤◌}
 use lib.ListN.{length, set, drop, length-append, length-drop}
 use lib.Seq.{drop-drop}
 use mathlib.Core.Bool.{Bool}

@@ -1,5 +1,4 @@
 -- `cst_compare::compared_rows` meets its contract: what each call ensures, put together. Assumes nothing.
-use borrow.Author.Rules.{rules}
 use Rattle.cst_compare.specs.Steps.Compared.{found_on}
 use Rattle.cst_compare.proofs.compared_rows.Goals as goal
 

@@ -1,5 +1,4 @@
 -- `groups::call_check` meets its contract: the causes in order. Assumes nothing.
-use borrow.Author.Rules.{rules}
 use Rattle.groups.proofs.Answers.{lent-in-order}
 use Rattle.groups.proofs.call_check.Goals as goal
 

@@ -1,14 +1,10 @@
 -- `groups::count_own` meets its contract. The loop's invariant: `total` is the number of vertices of 1 to v that have their own label. The measure is what is left of the vertices.
 -- Assumes nothing.
-use Prim.Native.Nat.{ℕ, ◌-◌, ◌≤◌}
-use borrow.Author.Rules.{rules}
+use Prim.Native.Nat.{◌-◌, ◌≤◌}
 use lib.Dec.{eqb}
-use mathlib.Core.Path.{◌≡◌, sym}
-use native.Mathlib.Omega.{arith}
-use Rattle.rowset.proofs.Laws.{count-bound}
+use mathlib.Core.Path.{◌≡◌}
 use Rattle.rowset.specs.Bytes.{in_row}
 use Rattle.rowset.specs.Sets.{count}
-use Rattle.slice_words.proofs.Counts.{bool_small, count_none, count-more}
 use Rattle.groups.proofs.count_own.Given as goal
 
 abbrev pub invariant-loop-v : goal.invariant-loop-v

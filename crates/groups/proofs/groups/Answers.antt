@@ -1,6 +1,5 @@
 -- `groups::groups` meets its contract in both cases: the call is refused, or both columns are written.
 -- Assumes nothing.
-use borrow.Author.Rules.{rules}
 use native.Mathlib.Omega.{arith}
 use Rattle.groups.proofs.Answers.{small_count, call-refused, small, few, groups-told}
 use Rattle.groups.specs.Answers.{answer_of}

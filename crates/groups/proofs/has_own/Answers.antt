@@ -1,6 +1,5 @@
 -- `groups::has_own` meets its contract: the vertex's byte is the vertex.
 -- Assumes nothing.
-use borrow.Author.Rules.{rules}
 use lib.Dec.{eqb}
 use mathlib.Core.Path.{ap}
 use Rattle.groups.proofs.has_own.Goals as goal

@@ -1,6 +1,5 @@
 -- `groups::join` meets its contract: the columns are turned over, and the labels renamed.
 -- Assumes nothing.
-use borrow.Author.Rules.{rules}
 use Rattle.groups.proofs.join.Goals as goal
 
 pub returns : goal.returns

@@ -1,7 +1,5 @@
 -- `groups::ring_at` meets its contract: the columns of both ends, their xor, and the row.
 -- Assumes nothing.
-use borrow.Author.Rules.{rules}
-use mathlib.Core.Path.{◌∙◌}
 use Rattle.groups.proofs.Steps.{ring-read}
 use Rattle.groups.proofs.ring_at.Goals as goal
 

@@ -1,6 +1,5 @@
 -- `groups::turn_column` meets its contract: the column is written where the vertex has the label, and nothing otherwise.
 -- Assumes nothing.
-use borrow.Author.Rules.{rules}
 use mathlib.Core.Path.{sym, ◌∙◌}
 use Rattle.groups.proofs.Steps.{turned-has, turned-lacks}
 use Rattle.groups.proofs.turn_column.Goals as goal

@@ -1,13 +1,9 @@
 -- `groups::turn_columns` meets its contract. The loop's invariant: the first v columns are turned over. The measure is what is left of the columns.
 -- Assumes nothing.
-use Prim.Native.Nat.{ℕ, ◌+◌, ◌-◌, ◌≤◌}
-use borrow.Author.Rules.{rules}
+use Prim.Native.Nat.{◌-◌, ◌≤◌}
 use lib.ListN.{length}
-use mathlib.Core.List.{List}
-use mathlib.Core.Path.{◌≡◌, refl, sym, ◌∙◌, ap}
-use native.Mathlib.Omega.{arith}
-use Rattle.groups.proofs.Steps.{turned-next}
-use Rattle.groups.specs.Steps.Machine.{column_turned, columns_turned}
+use mathlib.Core.Path.{◌≡◌}
+use Rattle.groups.specs.Steps.Machine.{columns_turned}
 use Rattle.slice.specs.Slices.{component}
 use Rattle.groups.proofs.turn_columns.Given as goal
 

@@ -1,7 +1,5 @@
 -- `groups::visit` meets its contract: the row closes a ring, or joins two groups.
 -- Assumes nothing.
-use borrow.Author.Rules.{rules}
-use native.Mathlib.Omega.{arith}
 use Rattle.groups.proofs.Steps.{visit-ring, visit-join}
 use Rattle.groups.proofs.visit.Goals as goal
 

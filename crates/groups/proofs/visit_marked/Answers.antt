@@ -1,7 +1,5 @@
 -- `groups::visit_marked` meets its contract: the row is not marked, or visited.
 -- Assumes nothing.
-use borrow.Author.Rules.{rules}
-use borrow.Author.Tests.{not-true, not-false}
 use mathlib.Core.Path.{sym, ◌∙◌}
 use Rattle.groups.proofs.Steps.{row-marked, row-unmarked}
 use Rattle.groups.proofs.visit_marked.Goals as goal

@@ -1,13 +1,9 @@
 -- `groups::visit_rows` meets its contract. The loop's invariant: the state is that after i rows. The measure is what is left of the rows.
 -- Assumes nothing.
-use Prim.Native.Nat.{ℕ, ◌+◌, ◌-◌, ◌≤◌}
-use borrow.Author.Rules.{rules}
+use Prim.Native.Nat.{◌-◌, ◌≤◌}
 use lib.ListN.{length}
-use mathlib.Core.Bool.{Bool}
-use mathlib.Core.Path.{◌≡◌, refl, sym, ◌∙◌, ap}
-use native.Mathlib.Omega.{arith}
-use Rattle.groups.proofs.Steps.{visits-next}
-use Rattle.groups.specs.Steps.Machine.{State, state_of, row_at, visits}
+use mathlib.Core.Path.{◌≡◌}
+use Rattle.groups.specs.Steps.Machine.{state_of, row_at, visits}
 use Rattle.rowset.specs.Sets.{empty}
 use Rattle.slice.specs.Slices.{component}
 use Rattle.groups.proofs.visit_rows.Given as goal

@@ -1,6 +1,5 @@
 -- `mend::mark_of` meets its contract: the row is in use, or it is not.
 -- Assumes nothing.
-use borrow.Author.Rules.{rules}
 use mathlib.Core.Bool.{Bool, true, false, cond}
 use mathlib.Core.Path.{◌≡◌, sym, ◌∙◌}
 use mir.Val.{bool_byte}

@@ -1,6 +1,5 @@
 -- `mend::mend` meets its contract: the call is refused, or the three passes are made.
 -- Assumes nothing.
-use borrow.Author.Rules.{rules}
 use mathlib.Core.Path.{sym, ◌∙◌, ap}
 use Rattle.mend_list.specs.Steps.Stored.{stored_to}
 use Rattle.refusal.specs.Outcomes.{refusal_of}

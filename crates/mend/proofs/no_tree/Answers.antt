@@ -1,5 +1,4 @@
 -- `mend::no_tree` meets its contract: that of a refusal. Assumes nothing.
-use borrow.Author.Rules.{rules}
 use Rattle.mend.proofs.no_tree.Goals as goal
 
 pub returns : goal.returns

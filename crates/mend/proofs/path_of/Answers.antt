@@ -1,6 +1,5 @@
 -- `mend::path_of` meets its contract, by what its calls ensure.
 -- Assumes nothing.
-use borrow.Author.Rules.{rules}
 use Rattle.mend.specs.Steps.Machine.{path_of}
 use Rattle.mend.proofs.path_of.Goals as goal
 

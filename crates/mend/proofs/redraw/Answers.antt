@@ -1,8 +1,8 @@
 -- `mend::redraw` meets its contract: there is no tree, or the claim is mended and the records are in the numbers.
 -- Assumes nothing.
-use Prim.Native.Nat.{ℕ, ◌*◌, ◌≤◌}
+use Prim.Native.Nat.{◌≤◌}
 use borrow.Author.Rules.{rules}
-use mathlib.Core.Path.{◌≡◌, refl, sym, ◌∙◌, ap}
+use mathlib.Core.Path.{refl, sym, ◌∙◌, ap}
 use native.Mathlib.Omega.{arith}
 use Rattle.mend_groups.proofs.Steps.{bounded-few}
 use Rattle.mend_list.specs.Steps.Stored.{stored_to}

@@ -1,9 +1,6 @@
 -- `mend::row_out_lem` meets its contract: the heaviest row is heavier than row i, or it is not.
 -- Assumes nothing.
-use borrow.Author.Rules.{rules}
-use borrow.Author.Tests.{lt-ltb, le-ltb}
-use mathlib.Core.Path.{◌≡◌, sym, ◌∙◌}
-use native.Mathlib.Omega.{arith}
+use mathlib.Core.Path.{sym, ◌∙◌}
 use Rattle.mend.proofs.Steps.{out-heavier, out_none}
 use Rattle.mend.specs.Steps.Machine.{heaviest}
 use Rattle.mend.proofs.row_out.Goals as goal

@@ -1,7 +1,5 @@
 -- `mend::swap` meets its contract, by what its calls ensure.
 -- Assumes nothing.
-use borrow.Author.Rules.{rules}
-use native.Mathlib.Omega.{arith}
 use Rattle.mend_groups.specs.Steps.Machine.{noted}
 use Rattle.mend.specs.Steps.Machine.{swapped}
 use Rattle.mend.proofs.swap.Goals as goal

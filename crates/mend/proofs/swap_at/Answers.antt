@@ -1,17 +1,9 @@
 -- `mend::swap_at` meets its contract: the row is not in use, is marked, no row goes out for it, or one does.
 -- Assumes nothing.
-use Prim.Native.Nat.{ℕ, ◌-◌}
-use borrow.Author.Rules.{rules}
-use borrow.Author.Tests.{not-true, not-false, eq-eqb, ne_eqb}
-use mathlib.Core.Path.{◌≡◌, sym, ◌∙◌}
+use borrow.Author.Tests.{eq-eqb, ne_eqb}
+use mathlib.Core.Path.{sym, ◌∙◌}
 use native.Mathlib.Omega.{arith}
-use Rattle.path_matrix.specs.Matrix.{matrix_column}
-use Rattle.rowset.specs.Columns.{width}
-use Rattle.rowset.specs.Integers.{integer_in}
-use Rattle.slice.specs.Slices.{component}
 use Rattle.mend.proofs.Steps.{swap-unused, swap-marked, swap-none, swap-swaps, out-bound}
-use Rattle.mend_groups.specs.Steps.Machine.{state_of}
-use Rattle.mend.specs.Steps.Machine.{swapped}
 use Rattle.mend.proofs.swap_at.Goals as goal
 
 pub returns-then-not-get : goal.returns-then-not-get

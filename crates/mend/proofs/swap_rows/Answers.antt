@@ -1,14 +1,12 @@
 -- `mend::swap_rows` meets its contract. The loop's invariant: the state is that after i rows, and there are at most 2 · m + i records. The measure is what is left of the rows.
 -- Assumes nothing.
-use Prim.Native.Nat.{ℕ, ◌+◌, ◌-◌, ◌*◌, ◌≤◌}
-use borrow.Author.Rules.{rules}
-use lib.ListN.{length}
+use Prim.Native.Nat.{◌+◌, ◌-◌}
 use mathlib.Core.Path.{◌≡◌, refl, sym, ◌∙◌, ap}
 use native.Mathlib.Omega.{arith}
 use Rattle.path_matrix.specs.Matrix.{matrix_column}
 use Rattle.rowset.specs.Columns.{width}
 use Rattle.rowset.specs.Integers.{integer_in}
-use Rattle.slice.specs.Slices.{size, component}
+use Rattle.slice.specs.Slices.{component}
 use Rattle.mend_groups.proofs.Steps.{visits-next}
 use Rattle.mend.proofs.Steps.{swap-count}
 use Rattle.mend_groups.specs.Steps.Machine.{State, state_of, visits}

@@ -1,17 +1,13 @@
 -- `mend::swap_rows` meets its contract. The loop's invariant: the state is that after i rows, and there are at most 2 · m + i records. The measure is what is left of the rows.
 -- Assumes nothing.
-use Prim.Native.Nat.{ℕ, ◌+◌, ◌-◌, ◌*◌, ◌≤◌}
-use borrow.Author.Rules.{rules}
+use Prim.Native.Nat.{◌+◌, ◌-◌, ◌*◌, ◌≤◌}
 use lib.ListN.{length}
-use mathlib.Core.Path.{◌≡◌, refl, sym, ◌∙◌, ap}
-use native.Mathlib.Omega.{arith}
+use mathlib.Core.Path.{◌≡◌}
 use Rattle.path_matrix.specs.Matrix.{matrix_column}
 use Rattle.rowset.specs.Columns.{width}
 use Rattle.rowset.specs.Integers.{integer_in}
 use Rattle.slice.specs.Slices.{size, component}
-use Rattle.mend_groups.proofs.Steps.{visits-next}
-use Rattle.mend.proofs.Steps.{swap-count}
-use Rattle.mend_groups.specs.Steps.Machine.{State, state_of, visits}
+use Rattle.mend_groups.specs.Steps.Machine.{state_of, visits}
 use Rattle.mend.specs.Steps.Machine.{swap_at}
 use Rattle.mend.proofs.swap_rows.Given as goal
 

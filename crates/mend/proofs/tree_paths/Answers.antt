@@ -9,7 +9,7 @@ use mathlib.Core.List.{List, ◌∷◌}
 use mathlib.Core.Path.{◌≡◌, refl, sym, ◌∙◌, ap, subst}
 use native.Mathlib.Omega.{arith}
 use Rattle.refusal.specs.Outcomes.{refusal_of}
-use Rattle.slice.specs.Slices.{size, component}
+use Rattle.slice.specs.Slices.{component}
 use Rattle.star_spec.specs.Call.{table_of, claim_from, claim_of}
 use Rattle.star_spec.specs.MatrixPath.{matrix_path, matrix_after}
 use Rattle.mend.proofs.tree_paths.Goals as goal

@@ -1,11 +1,9 @@
 -- `mend::write_marks` meets its contract. The loop's invariant: the first i bytes are those of the mended claim, and the others as they were. The measure is what is left of the column.
 -- Assumes nothing.
 use Prim.Native.Nat.{◌-◌}
-use borrow.Author.Rules.{rules}
 use lib.ListN.{length}
-use native.Mathlib.Omega.{arith}
 use Rattle.slice.specs.Slices.{component}
-use Rattle.mend.proofs.Redrawn.{Redrawing, redrawing-none, redrawing-more, redrawing-all}
+use Rattle.mend.proofs.Redrawn.{Redrawing}
 use Rattle.mend.proofs.write_marks.Given as goal
 
 abbrev pub invariant-loop-i : goal.invariant-loop-i

@@ -1,10 +1,7 @@
 -- `mend_groups::add_at` meets its contract: the row is not in use, joins no two groups, or is added.
 -- Assumes nothing.
-use borrow.Author.Rules.{rules}
-use borrow.Author.Tests.{not-true, not-false}
 use mathlib.Core.Bool.{true, false}
-use mathlib.Core.Path.{◌≡◌, sym, ◌∙◌, ap}
-use native.Mathlib.Omega.{arith}
+use mathlib.Core.Path.{◌≡◌, sym, ◌∙◌}
 use Rattle.slice.specs.Slices.{component}
 use Rattle.mend_groups.proofs.Steps.{add-unused, add-joined, add-adds}
 use Rattle.mend_groups.specs.Steps.Machine.{state_of, noted}

@@ -1,13 +1,10 @@
 -- `mend_groups::close_gaps` meets its contract. The loop's invariant: the state is that after i rows, and there are at most m + i records. The measure is what is left of the rows.
 -- Assumes nothing.
-use Prim.Native.Nat.{ℕ, ◌+◌, ◌-◌, ◌*◌, ◌≤◌}
-use borrow.Author.Rules.{rules}
+use Prim.Native.Nat.{◌+◌, ◌-◌, ◌*◌, ◌≤◌}
 use lib.ListN.{length}
-use mathlib.Core.Path.{◌≡◌, refl, sym, ◌∙◌, ap}
-use native.Mathlib.Omega.{arith}
+use mathlib.Core.Path.{◌≡◌}
 use Rattle.slice.specs.Slices.{size, component}
-use Rattle.mend_groups.proofs.Steps.{visits-next, add-count}
-use Rattle.mend_groups.specs.Steps.Machine.{State, state_of, add_at, visits}
+use Rattle.mend_groups.specs.Steps.Machine.{state_of, add_at, visits}
 use Rattle.mend_groups.proofs.close_gaps.Given as goal
 
 abbrev pub invariant-loop-i : goal.invariant-loop-i

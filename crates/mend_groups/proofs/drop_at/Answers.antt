@@ -1,9 +1,6 @@
 -- `mend_groups::drop_at` meets its contract: the row is not marked, joins two groups, or is dropped.
 -- Assumes nothing.
-use borrow.Author.Rules.{rules}
-use borrow.Author.Tests.{not-true, not-false}
 use mathlib.Core.Path.{sym, ◌∙◌}
-use native.Mathlib.Omega.{arith}
 use Rattle.mend_groups.proofs.Steps.{drop-unmarked, drop-joins, drop-drops}
 use Rattle.mend_groups.specs.Steps.Machine.{state_of, noted}
 use Rattle.mend_groups.proofs.drop_at.Goals as goal

@@ -1,9 +1,7 @@
 -- `mend_groups::join` meets its contract: the vertices have one label, or two.
 -- Assumes nothing.
-use borrow.Author.Rules.{rules}
-use mathlib.Core.Path.{◌≡◌, sym, ◌∙◌}
+use mathlib.Core.Path.{sym, ◌∙◌}
 use Rattle.mend_groups.proofs.Groups.{apart-same, apart-two, joined_same, joined-two}
-use Rattle.mend_groups.specs.Steps.Machine.{apart}
 use Rattle.mend_groups.proofs.join.Goals as goal
 
 pub returns-then-x-y : goal.returns-then-x-y

@@ -1,12 +1,11 @@
 -- `mend_groups::join_groups` meets its contract: one pass after the other.
 -- Assumes nothing.
 use Prim.Native.Nat.{ℕ}
-use borrow.Author.Rules.{rules}
 use mathlib.Core.List.{List}
-use mathlib.Core.Path.{◌≡◌, sym, ◌∙◌, ap}
+use mathlib.Core.Path.{◌∙◌, ap}
 use native.Mathlib.Omega.{arith}
 use Rattle.slice.specs.Slices.{component}
-use Rattle.mend_groups.specs.Steps.Machine.{State, state_of, add_at, drop_at, visits, two_passes, labels_from}
+use Rattle.mend_groups.specs.Steps.Machine.{State, add_at, drop_at, visits, two_passes}
 use Rattle.mend_groups.proofs.join_groups.Goals as goal
 
 pub drop_rings-ringless-requires : goal.drop_rings-ringless-requires

@@ -1,11 +1,8 @@
 -- `mend_groups::own_labels` meets its contract. The loop's invariant: the first i labels are 1 to i. The measure is what is left of the vertices.
 -- Assumes nothing.
 use Prim.Native.Nat.{ℕ, ◌+◌, ◌-◌}
-use borrow.Author.Rules.{rules}
-use mathlib.Core.Path.{◌≡◌, refl}
-use native.Mathlib.Omega.{arith}
-use Rattle.slice.proofs.Stores.{Filled, filled_none, filled_more, filled-all}
-use Rattle.mend_groups.proofs.Groups.{labels-whole}
+use mathlib.Core.Path.{◌≡◌}
+use Rattle.slice.proofs.Stores.{Filled}
 use Rattle.mend_groups.proofs.own_labels.Given as goal
 
 abbrev pub invariant-loop-i : goal.invariant-loop-i

@@ -1,6 +1,5 @@
 -- `mend_groups::put` meets its contract: past the end a list stays.
 -- Assumes nothing.
-use borrow.Author.Rules.{rules}
 use native.Mathlib.Omega.{arith}
 use Rattle.mend_list.proofs.Lists.{set_past}
 use Rattle.mend_groups.proofs.put.Goals as goal

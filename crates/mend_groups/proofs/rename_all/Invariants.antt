@@ -1,10 +1,8 @@
 -- `mend_groups::rename_all` meets its contract. The loop's invariant: the first i labels are renamed, and the others as they were. The measure is what is left of the labels.
 -- Assumes nothing.
 use Prim.Native.Nat.{◌-◌}
-use borrow.Author.Rules.{rules}
 use lib.ListN.{length}
-use native.Mathlib.Omega.{arith}
-use Rattle.mend_groups.proofs.Groups.{Renaming, renaming-none, renaming-more, renaming-all}
+use Rattle.mend_groups.proofs.Groups.{Renaming}
 use Rattle.mend_groups.proofs.rename_all.Given as goal
 
 abbrev pub invariant-loop-i : goal.invariant-loop-i

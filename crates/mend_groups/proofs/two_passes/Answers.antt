@@ -1,7 +1,6 @@
 -- `mend_groups::two_passes` meets its contract: the passes over at most 1,024 rows, with numbers that have room.
 -- Assumes nothing.
-use Prim.Native.Nat.{ℕ, ◌≤◌, ◌*◌}
-use borrow.Author.Rules.{rules}
+use Prim.Native.Nat.{ℕ, ◌≤◌}
 use borrow.Author.Tests.{ltb-true}
 use lib.Dec.{ltb}
 use mathlib.Core.Bool.{Bool, true, false, cond}

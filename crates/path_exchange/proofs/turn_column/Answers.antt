@@ -1,6 +1,5 @@
 -- `path_exchange::turn_column` meets its contract: the column is written where it has row e, and nothing otherwise.
 -- Assumes nothing.
-use borrow.Author.Rules.{rules}
 use mathlib.Core.Path.{sym, ◌∙◌}
 use Rattle.path_exchange.proofs.Turned.{turned-has, turned-lacks}
 use Rattle.path_exchange.proofs.turn_column.Goals as goal
