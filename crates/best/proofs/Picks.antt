@@ -3,10 +3,10 @@ use Prim.Native.Nat.{ℕ, zero, suc, ◌-◌, ◌≤◌, ◌<◌}
 use borrow.Author.Tests.{eq-eqb, ne_eqb, ltb-true, ltb-false}
 use lib.Dec.{eqb, ltb}
 use lib.IntN.{ℤ, pos, neg_ℤ}
-use lib.Signed.{lt_z, ◌<ℤ◌}
+use lib.Signed.{lt_z}
 use mathlib.Core.Bool.{Bool, true, false, cond, not, ◌&&◌, ◌||◌}
 use mathlib.Core.List.{List}
-use mathlib.Core.Path.{◌≡◌, refl, sym, ◌∙◌, ap, fun_ext}
+use mathlib.Core.Path.{◌≡◌, refl, ◌∙◌, ap, fun_ext}
 use native.Mathlib.Omega.{arith}
 use Rattle.rowset.proofs.Integers.{integers, pos-parts, neg-parts, lt_z-true, lt-lt_z, le-lt_z}
 use Rattle.rowset.proofs.Laws.{clash, refuted}

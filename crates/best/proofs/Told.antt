@@ -1,14 +1,14 @@
 -- What is kept of the exchanges of a claim that is not refused, and the tree that grows, are what the definition says (stays-told, saves-told). Assumes nothing.
-use Prim.Native.Nat.{ℕ, zero, suc, ◌*◌, ◌-◌, ◌≤◌, ◌<◌}
+use Prim.Native.Nat.{ℕ, zero, suc, ◌*◌, ◌-◌, ◌<◌}
 use lib.IntN.{ℤ, pos, nat_abs, ◌-ℤ◌}
 use lib.ListN.{length}
 use lib.Signed.{◌<ℤ◌}
-use mathlib.Core.Bool.{Bool, true, false, cond, and-eq-true_iff}
+use mathlib.Core.Bool.{Bool, true, and-eq-true_iff}
 use mathlib.Core.List.{List}
-use mathlib.Core.Option.{Option, none, some}
+use mathlib.Core.Option.{some}
 use mathlib.Core.Path.{◌≡◌, refl, sym, ◌∙◌, ap}
 use native.Mathlib.Omega.{arith}
-use Rattle.best_spec.specs.Best.{BestAnswer, unfound, stays, saves, row_into, row_for, least_total_of, best_with, best_or, best}
+use Rattle.best_spec.specs.Best.{unfound, stays, saves, row_into, row_for, least_total_of, best_with, best_or, best}
 use Rattle.claim.specs.Claims.{claim_rows}
 use Rattle.cst.specs.Steps.Paths.{weight_in, Walked}
 use Rattle.detour.proofs.Paths.{dearest-read, marks, weighs, refusal-own}
@@ -30,12 +30,12 @@ use Rattle.rowset.proofs.Signed.{signed_parts}
 use Rattle.rowset.specs.Bytes.{in_row}
 use Rattle.rowset.specs.Integers.{signed, total}
 use Rattle.rowset.specs.Searches.{largest}
-use Rattle.rowset.specs.Sets.{up_to, both, without, uppermost}
+use Rattle.rowset.specs.Sets.{up_to, both, without}
 use Rattle.rowset.specs.Words.{column_words}
 use Rattle.rowset.specs.Steps.Flipped.{flipped}
 use Rattle.slice.specs.Slices.{size}
 use Rattle.star_spec.proofs.Accepted.{Taken, taken}
-use Rattle.star_spec.specs.Call.{Call, rows_of, used, graph_of, weight_of, claimed, claim_weight}
+use Rattle.star_spec.specs.Call.{Call, rows_of, used, graph_of, weight_of, claimed}
 use Rattle.star_spec.specs.Mst1.{chosen_rows}
 use Rattle.star_spec.specs.Refusals.{max_vertices, cst_causes, refusal}
 use Rattle.table.specs.Loads.{loaded_row}

@@ -1,7 +1,7 @@
 -- Columns of numbers that are written: from the front, and at the rows of a slice, the uppermost first. Assumes nothing.
-use Prim.Native.Nat.{ℕ, zero, suc, ◌+◌, ◌-◌, ◌≤◌, ◌<◌}
+use Prim.Native.Nat.{ℕ, zero, suc, ◌+◌, ◌-◌, ◌≤◌}
 use lib.IntN.{ℤ}
-use lib.ListN.{length, get_or, set, length-set}
+use lib.ListN.{length, set, length-set}
 use lib.Seq.{ext_get_or, get_or-set_same, get_or-set_other}
 use mathlib.Core.Bool.{Bool, true, false, cond}
 use mathlib.Core.List.{List}
@@ -12,7 +12,7 @@ use native.Mathlib.Omega.{arith}
 use Rattle.detour_spec.proofs.Numbers.{numbers_of-length, number_in, number-outside}
 use Rattle.detour_spec.specs.Detours.{number_at, numbers_of}
 use Rattle.slice.proofs.Stores.{Filled, filled-all}
-use Rattle.rowset.proofs.Laws.{clash, refuted, take_out-same, take_out-other, take_out-in}
+use Rattle.rowset.proofs.Laws.{take_out-other, take_out-in}
 use Rattle.rowset.specs.Sets.{take_out}
 use Rattle.rowset.specs.Bytes.{in_row}
 use Rattle.rowset.specs.Integers.{signed}

@@ -6,10 +6,10 @@ use lib.ListN.{length}
 use mathlib.Core.Bool.{Bool, true, false, cond, ◌&&◌, and-eq-true_iff}
 use mathlib.Core.List.{List}
 use mathlib.Core.Logic.{◌≢◌}
-use mathlib.Core.Path.{◌≡◌, refl, sym, ◌∙◌, ap}
+use mathlib.Core.Path.{◌≡◌, refl, sym, ◌∙◌}
 use native.Mathlib.Omega.{arith}
 use Rattle.detour_spec.specs.Detours.{number_at}
-use Rattle.rowset.proofs.Laws.{clash, refuted, take_out-same, take_out-other, take_out-in, any_some, any_none, any_found, uppermost-some, uppermost-none, uppermost-zero, uppermost-is}
+use Rattle.rowset.proofs.Laws.{clash, refuted, take_out-other, take_out-in, any_some, any_found, uppermost-some, uppermost-zero, uppermost-is}
 use Rattle.rowset.proofs.Integers.{integers}
 use Rattle.rowset.proofs.Members.{both-in, in_both, without_in, in_without}
 use Rattle.rowset.proofs.Searches.{smallest-in, smallest-least, in-smallest, smallest-exists}

@@ -7,7 +7,7 @@ use lib.ListN.{length}
 use lib.Signed.{lt_z}
 use mathlib.Core.Bool.{Bool, true, false, cond, ◌&&◌, and-eq-true_iff}
 use mathlib.Core.List.{List}
-use mathlib.Core.Option.{Option, none, some}
+use mathlib.Core.Option.{none, some}
 use mathlib.Core.Path.{◌≡◌, refl, sym, ◌∙◌, ap, fun_ext}
 use native.Mathlib.Omega.{arith}
 use Rattle.claim.proofs.Laws.{claim_rows-marked}
@@ -25,7 +25,7 @@ use Rattle.path.specs.Steps.Walks.{own_path, own_after}
 use Rattle.refusal.specs.declared.Refusal.{Refusal}
 use Rattle.rowset.proofs.Integers.{total-cut}
 use Rattle.rowset.proofs.Laws.{clash, refuted, up_to-in, any-cut, uppermost-cut}
-use Rattle.rowset.proofs.Members.{both-in, in_both, without_in, in_without}
+use Rattle.rowset.proofs.Members.{both-in, without_in, in_without}
 use Rattle.rowset.proofs.Searches.{smallest-in, smallest-cut, largest-in}
 use Rattle.rowset.specs.Bytes.{in_row}
 use Rattle.rowset.specs.Integers.{total}
@@ -38,7 +38,7 @@ use Rattle.star_meaning.specs.Demand3.{ClaimTree}
 use Rattle.star_spec.proofs.Accepted.{Taken, taken, used-row, sound}
 use Rattle.star_spec.specs.Call.{Call, rows_of, used, graph_of, weight_of, marked, claimed, claim_weight}
 use Rattle.star_spec.specs.MatrixPath.{path_column}
-use Rattle.star_spec.specs.Mst1.{BuildAnswer, unbuilt, tree_built}
+use Rattle.star_spec.specs.Mst1.{unbuilt, tree_built}
 use Rattle.star_spec.specs.Refusals.{max_vertices, Accepted, cst_causes, refusal}
 use Rattle.detour.specs.Steps.Machine.{path_in, dearest_in, around_in, replaced_in, beside_in}
 

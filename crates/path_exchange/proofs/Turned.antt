@@ -12,15 +12,15 @@ use native.Mathlib.Omega.{arith}
 use Rattle.graph_theory.proofs.Path.{path_inside}
 use Rattle.graph_theory.proofs.Update.{path-turned}
 use Rattle.graph_theory.specs.Graph.{Graph, Sound}
-use Rattle.graph_theory.specs.Tree.{SpanningTree, on_path, exchange}
+use Rattle.graph_theory.specs.Tree.{SpanningTree, on_path}
 use Rattle.path_matrix.proofs.Laws.{length-with_column, with_column-same, with_column-other}
 use Rattle.path_matrix.specs.Matrix.{has_column, matrix_column, with_column}
 use Rattle.rowset.proofs.Laws.{up_to-in, both-inside, false-xor}
 use Rattle.rowset.proofs.Members.{put_all}
-use Rattle.rowset.specs.Sets.{up_to, one_of, put}
+use Rattle.rowset.specs.Sets.{up_to, one_of}
 use Rattle.rowset.specs.Words.{column_words}
 use Rattle.slice.specs.Slices.{size, bit}
-use Rattle.path_exchange.specs.Turned.{column_turned, columns_turned, PathsFrom, ring_of, PathsTurned}
+use Rattle.path_exchange.specs.Turned.{column_turned, columns_turned, ring_of, PathsTurned}
 
 -- the column is written where it has row e, and stays where it has not
 pub turned-has : (l : List ℕ) (j e : ℕ) (ring : ℕ → Bool) → matrix_column l j e ≡ true → column_turned l j e ring ≡ with_column l j (one_of (matrix_column l j) ring)

@@ -1,6 +1,5 @@
 -- `best::best` meets its contract: MatrixPath's refusal is CST's, and where it is done the matrix has the path columns that the exchanges are read from. Assumes nothing.
-use borrow.Author.Rules.{rules}
-use mathlib.Core.Path.{◌≡◌, refl, sym, ap, ◌∙◌}
+use mathlib.Core.Path.{refl, sym, ap, ◌∙◌}
 use Rattle.detour.proofs.Paths.{rows_walked, rows-loads, rows_few}
 use Rattle.refusal.specs.Outcomes.{refusal_of}
 use Rattle.best.proofs.Told.{refused-best}

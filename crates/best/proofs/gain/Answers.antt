@@ -1,5 +1,4 @@
 -- `best::gain` meets its contract, in both of its cases. Assumes nothing.
-use borrow.Author.Rules.{rules}
 use native.Mathlib.Omega.{arith}
 use Rattle.best.proofs.gain.Goals as goal
 

@@ -1,11 +1,9 @@
 -- `best::look` meets its contract: any other row is passed over; else the exchange of its dearest row is compared with what is kept. Assumes nothing.
 use Prim.Native.Nat.{ℕ, ◌-◌, ◌≤◌}
-use borrow.Author.Rules.{rules}
-use borrow.Author.Tests.{not-true, not-false}
 use lib.Dec.{ltb}
 use mathlib.Core.Bool.{Bool, true, false, cond}
 use mathlib.Core.List.{List}
-use mathlib.Core.Path.{◌≡◌, refl, sym, ◌∙◌, ap}
+use mathlib.Core.Path.{◌≡◌, sym, ◌∙◌}
 use Rattle.rowset.specs.Bytes.{in_row}
 use Rattle.rowset.specs.Steps.Flipped.{flipped}
 use Rattle.slice.specs.Slices.{size}

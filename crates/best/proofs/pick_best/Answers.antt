@@ -1,17 +1,15 @@
 -- `best::pick_best` meets its contract. The loop's invariant: the columns hold the weights, and what is kept is what the rows before row i + 1 give. The measure is how many rows are left. Assumes nothing.
-use Prim.Native.Nat.{ℕ, suc, ◌+◌, ◌-◌, ◌≤◌}
+use Prim.Native.Nat.{ℕ, suc, ◌+◌}
 use borrow.Author.Rules.{rules}
 use mathlib.Core.Bool.{Bool}
 use mathlib.Core.List.{List}
-use mathlib.Core.Path.{◌≡◌, refl, sym, ap, ◌∙◌}
+use mathlib.Core.Path.{◌≡◌, refl, ap, ◌∙◌}
 use native.Mathlib.Omega.{arith}
-use Rattle.cst.specs.Steps.Paths.{weight_in}
-use Rattle.search_columns.specs.Steps.Integers.{integers_after}
-use Rattle.slice.specs.Slices.{size, component}
+use Rattle.slice.specs.Slices.{component}
 use Rattle.slice_words.proofs.Laws.{component-words}
 use Rattle.table_loads.proofs.Numbers.{zeros, length-put}
 use Rattle.table_loads.proofs.Signs.{sign-integer}
-use Rattle.best.specs.Steps.Picks.{Picked, Small, pick_of, look_at, looked, best_to}
+use Rattle.best.specs.Steps.Picks.{Picked, look_at, looked}
 use Rattle.best.proofs.pick_best.Goals as goal
 
 -- one row more

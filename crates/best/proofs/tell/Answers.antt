@@ -1,9 +1,7 @@
 -- `best::tell` meets its contract: the slices of marked and unmarked rows are the claim's, and what is kept and grown is what the definition says. Assumes nothing.
 use Prim.Native.Nat.{ℕ}
-use borrow.Author.Rules.{rules}
 use mathlib.Core.Bool.{Bool}
-use mathlib.Core.Path.{◌≡◌, refl, sym, ap, ◌∙◌}
-use native.Mathlib.Omega.{arith}
+use mathlib.Core.Path.{ap, ◌∙◌}
 use Rattle.claim.specs.Claims.{claim_rows}
 use Rattle.rowset.specs.Sets.{both, without}
 use Rattle.slice.specs.Slices.{component}

@@ -1,5 +1,5 @@
 -- The exchange that is kept while the rows are looked at one by one. Assumes nothing.
-use Rattle.std.specs.Prelude.{ℕ, zero, suc, ◌-◌, ◌≤◌, ltb, ℤ, Bool, cond, List}
+use Rattle.std.specs.Prelude.{ℕ, zero, suc, ◌-◌, ◌≤◌, ltb, Bool, cond, List}
 use Rattle.detour.specs.Steps.Machine.{dearest_in}
 use Rattle.rowset.specs.Bytes.{in_row}
 use Rattle.rowset.specs.Integers.{signed}

@@ -1,6 +1,4 @@
 -- `detour::dearest_at` meets its contract: 0 at any other row, else FND of MAX over the path. Assumes nothing.
-use borrow.Author.Rules.{rules}
-use borrow.Author.Tests.{not-true, not-false}
 use mathlib.Core.Path.{sym, ap, ◌∙◌}
 use native.Mathlib.Omega.{arith}
 use Rattle.rowset.specs.Searches.{largest}

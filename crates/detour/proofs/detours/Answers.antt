@@ -1,8 +1,6 @@
 -- `detour::detours` meets its contract: MatrixPath's refusal is CST's, and where it is done the matrix has the path columns that the numbers are read from. Assumes nothing.
-use borrow.Author.Rules.{rules}
 use lib.ListN.{length}
 use mathlib.Core.Path.{◌≡◌, refl, sym, ap, ◌∙◌}
-use native.Mathlib.Omega.{arith}
 use Rattle.mst1.specs.Answers.{answer_of}
 use Rattle.refusal.specs.Outcomes.{refusal_of}
 use Rattle.detour.proofs.Paths.{refused-rows, rows_walked, rows-loads, rows_whole, lent_length}

@@ -1,6 +1,5 @@
 -- `detour::next_row` meets its contract, in both of its cases. Assumes nothing.
 use Prim.Native.Nat.{ℕ}
-use borrow.Author.Rules.{rules}
 use borrow.Author.Tests.{not-true, not-false}
 use lib.IntN.{ℤ}
 use mathlib.Core.Bool.{Bool, true, false}

@@ -1,5 +1,4 @@
 -- `detour::path_of` meets its contract, by what its calls ensure. Assumes nothing.
-use borrow.Author.Rules.{rules}
 use Rattle.detour.specs.Steps.Machine.{path_in}
 use Rattle.detour.proofs.path_of.Goals as goal
 

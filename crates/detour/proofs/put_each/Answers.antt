@@ -1,8 +1,6 @@
 -- `detour::put_each` meets its contract. The loop's invariant: the number stands at the rows of the slice that are not left, and k is the uppermost that is. The measure is how many are left. Assumes nothing.
 use Prim.Native.Nat.{ℕ, zero, suc, ◌≤◌}
-use borrow.Author.Rules.{rules}
-use lib.ListN.{length}
-use mathlib.Core.Bool.{Bool, true, false}
+use mathlib.Core.Bool.{true, false}
 use mathlib.Core.Logic.{◌≢◌}
 use mathlib.Core.Path.{◌≡◌, refl, sym, ap, ◌∙◌}
 use native.Mathlib.Omega.{arith}
@@ -12,7 +10,7 @@ use Rattle.slice.proofs.Laws.{written-false}
 use Rattle.slice.specs.Slices.{size, component}
 use Rattle.slice.specs.declared.Slice.{Slice}
 use Rattle.cst.proofs.Sets.{component-position}
-use Rattle.detour.proofs.Columns.{Putting, putting-none, putting-more, putting-all}
+use Rattle.detour.proofs.Columns.{putting-none, putting-more, putting-all}
 use Rattle.detour.proofs.put_each.Goals as goal
 
 -- the uppermost row of a slice, where it is not 0, is one of its rows

@@ -1,9 +1,8 @@
 -- `detour::tell` meets its contract: the slices of marked and unmarked rows are the claim's, and what is written and weighed is what the definition says. Assumes nothing.
 use Prim.Native.Nat.{ℕ, ◌≤◌}
-use borrow.Author.Rules.{rules}
 use lib.ListN.{length}
 use mathlib.Core.Bool.{Bool}
-use mathlib.Core.Path.{◌≡◌, refl, sym, ap, ◌∙◌}
+use mathlib.Core.Path.{ap, ◌∙◌}
 use native.Mathlib.Omega.{arith}
 use Rattle.claim.specs.Claims.{claim_rows}
 use Rattle.mst1.specs.Answers.{answer_of}

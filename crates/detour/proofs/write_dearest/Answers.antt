@@ -1,17 +1,12 @@
 -- `detour::write_dearest` meets its contract. The loop's invariant: the numbers before place j are written. The measure is what is left of the column. Assumes nothing.
-use Prim.Native.Nat.{ℕ, suc, ◌+◌, ◌-◌}
+use Prim.Native.Nat.{ℕ, ◌+◌}
 use borrow.Author.Rules.{rules}
-use lib.ListN.{length}
 use mathlib.Core.Bool.{Bool}
-use mathlib.Core.Path.{◌≡◌, refl, sym, ap, ◌∙◌}
+use mathlib.Core.Path.{refl, ap}
 use native.Mathlib.Omega.{arith}
-use Rattle.detour_spec.specs.Detours.{number_at}
-use Rattle.search_columns.specs.Steps.Integers.{integers_after}
-use Rattle.slice.proofs.Stores.{Filled, filled_none, filled_more, filled-all}
-use Rattle.slice.specs.Slices.{component}
+use Rattle.slice.proofs.Stores.{filled_none, filled_more}
 use Rattle.slice_words.proofs.Laws.{component-words}
-use Rattle.detour.proofs.Columns.{numbers-ext, filled-numbers}
-use Rattle.detour.specs.Steps.Machine.{dearest_in}
+use Rattle.detour.proofs.Columns.{filled-numbers}
 use Rattle.detour.proofs.write_dearest.Goals as goal
 
 pub loop-j-init : goal.loop-j-init

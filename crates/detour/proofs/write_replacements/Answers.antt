@@ -1,22 +1,18 @@
 -- `detour::write_replacements` meets its contract. The loop's invariant: the unmarked rows of x are left, the marked rows of y have no answer yet, and f is the next row. The measure is how many rows are left. Assumes nothing.
-use Prim.Native.Nat.{ℕ, zero, suc, ◌≤◌}
+use Prim.Native.Nat.{ℕ, ◌≤◌}
 use borrow.Author.Rules.{rules}
 use lib.ListN.{length}
-use mathlib.Core.Bool.{Bool, true, false}
-use mathlib.Core.Logic.{◌≢◌}
-use mathlib.Core.Path.{◌≡◌, refl, sym, ap, ◌∙◌}
+use mathlib.Core.Bool.{Bool}
+use mathlib.Core.Path.{sym, ap, ◌∙◌}
 use native.Mathlib.Omega.{arith}
 use Rattle.rowset.proofs.Laws.{count-take_out}
 use Rattle.rowset.proofs.Members.{both-in}
-use Rattle.rowset.specs.Sets.{count, both, without, take_out, uppermost}
-use Rattle.search_columns.specs.Steps.Integers.{integers_after}
+use Rattle.rowset.specs.Sets.{count, both, without}
 use Rattle.slice.proofs.Laws.{written-false}
 use Rattle.slice.specs.Slices.{size, component}
 use Rattle.cst.proofs.Sets.{component-position}
-use Rattle.detour_spec.specs.Detours.{number_at}
 use Rattle.detour.proofs.Columns.{numbers-ext}
-use Rattle.detour.proofs.Order.{Visited, visited-none, visited-all, next-in, next-taken}
-use Rattle.detour.specs.Steps.Machine.{next_in}
+use Rattle.detour.proofs.Order.{visited-none, visited-all, next-in, next-taken}
 use Rattle.detour.proofs.write_replacements.Goals as goal
 
 pub loop-f-init : goal.loop-f-init

@@ -1,6 +1,6 @@
 -- `path_exchange::turn_columns` meets its contract. The loop's invariant: the first j columns are turned over. The measure is what is left of the columns.
 -- Assumes nothing.
-use Prim.Native.Nat.{ℕ, ◌+◌, ◌-◌}
+use Prim.Native.Nat.{ℕ, ◌+◌}
 use Rattle.path_exchange.specs.Turned.{column_turned, columns_turned}
 use Rattle.slice.specs.Slices.{component}
 use mathlib.Core.List.{List}
