@@ -1,12 +1,11 @@
 -- `verdict::print_text` meets its contract: what follows from each of the reader's answers. Assumes nothing.
-use borrow.Author.Rules.{rules}
 use Rattle.verdict.proofs.Laws.{read-verdict, refused-verdict, told_text}
 use Rattle.verdict.proofs.print_text.Goals as goal
 
 pub returns-in-Read : goal.returns-in-Read
 returns-in-Read c =
-    let lent = c.read_table-taken.ensures in let told = told_text _ (read-verdict _ lent.answer c.in-Read.is lent.lent) c.table_verdict.ensures in record { puts = told.0; few = told.1; status = told.2 }
+    let lent = c.read_table-taken.ensures in let told = told_text _ (read-verdict _ lent.answer c.in-Read.is lent.lent) c.table_verdict.ensures in record { puts = told.0; few = told.1.0; status = told.1.1 }
 
 pub returns-in-Refused : goal.returns-in-Refused
 returns-in-Refused c =
-    let lent = c.read_table-taken.ensures in let told = told_text _ (refused-verdict _ lent.answer c.in-Refused.is) c.put_refused.ensures in record { puts = told.0; few = told.1; status = told.2 }
+    let lent = c.read_table-taken.ensures in let told = told_text _ (refused-verdict _ lent.answer c.in-Refused.is) c.put_refused.ensures in record { puts = told.0; few = told.1.0; status = told.1.1 }

@@ -1,5 +1,4 @@
 -- `verdict::table_verdict` meets its contract: what CST over the rows in use and `put_verdict` promise. Assumes nothing.
-use borrow.Author.Rules.{rules}
 use Rattle.verdict.proofs.Laws.{told_same}
 use Rattle.verdict.proofs.table_verdict.Goals as goal
 
