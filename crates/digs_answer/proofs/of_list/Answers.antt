@@ -1,5 +1,4 @@
 -- `digs_answer::of_list` meets its contract: each case's fields, written out. Assumes nothing.
-use borrow.Author.Rules.{rules}
 use mathlib.Core.Path.{refl}
 use Rattle.answer.specs.Records.{fields_of}
 use Rattle.digs_answer.specs.Steps.Fields.{table_fields}

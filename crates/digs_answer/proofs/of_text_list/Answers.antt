@@ -1,5 +1,4 @@
 -- `digs_answer::of_text_list` meets its contract: each case's fields, written out. Assumes nothing.
-use borrow.Author.Rules.{rules}
 use lib.IntN.{ℤ}
 use mathlib.Core.Path.{refl, ap}
 use native.Mathlib.Omega.{arith}

@@ -1,6 +1,4 @@
 -- `districts_door::star_work_districts` meets its contract: what `districts::districts`, `of_built` and `write_answer` promise, one after the other. Assumes nothing.
-use borrow.Author.Rules.{rules}
-use borrow.Author.Tests.{not-true, not-false}
 use mathlib.Core.Path.{sym, ◌∙◌}
 use Rattle.districts_spec.proofs.Bytes.{districts-call}
 use Rattle.districts_door.proofs.Laws.{districts-shut, districts-open}

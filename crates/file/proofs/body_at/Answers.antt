@@ -1,5 +1,4 @@
 -- `file::body_at` meets its contract: a text that opens with the mark has three bytes. Assumes nothing.
-use borrow.Author.Rules.{rules}
 use mathlib.Core.Path.{sym, ◌∙◌}
 use native.Mathlib.Omega.{arith}
 use Rattle.file_spec.specs.Reader.{body_at}

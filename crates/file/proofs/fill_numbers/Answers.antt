@@ -1,6 +1,6 @@
 -- `file::fill_numbers` meets its contract. The loop's invariant: the first `k` numbers are copied. The measure is what is left of the count.
 -- Assumes nothing.
-use Prim.Native.Nat.{ℕ, ◌+◌, ◌-◌, ◌≤◌, ◌<◌}
+use Prim.Native.Nat.{ℕ, ◌+◌, ◌-◌, ◌<◌}
 use lib.ListN.{length, get_or, set, length-set}
 use lib.Seq.{paste, paste-zero, paste-suc}
 use mathlib.Core.List.{List}

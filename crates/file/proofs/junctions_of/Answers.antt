@@ -1,7 +1,5 @@
 -- `file::junctions_of` meets its contract: what a line says, the number of names, or the largest end. Assumes nothing.
-use borrow.Author.Rules.{rules}
 use borrow.Author.Tests.{eq-eqb, ne_eqb}
-use mathlib.Core.Path.{◌∙◌}
 use Rattle.file_spec.specs.Reader.{told_or}
 use Rattle.file_reader.specs.Steps.State.{told_of}
 use Rattle.file.proofs.junctions_of.Goals as goal

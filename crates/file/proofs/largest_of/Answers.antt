@@ -1,10 +1,6 @@
 -- `file::largest_of` meets its contract. The loop's invariant: the largest byte is the larger of what was found and of what is left. Assumes nothing.
-use Prim.Native.Nat.{◌-◌, ◌≤◌, max}
-use borrow.Author.Rules.{rules}
-use lib.ListN.{length, drop}
-use mathlib.Core.Path.{◌≡◌}
+use Prim.Native.Nat.{◌-◌}
 use native.Mathlib.Omega.{arith}
-use Rattle.file_spec.specs.Reader.{largest}
 use Rattle.file.proofs.Laws.{largest-start, largest-turn, largest-end}
 use Rattle.file.proofs.largest_of.Goals as goal
 

@@ -1,11 +1,8 @@
 -- `file::largest_of` meets its contract. The loop's invariant: the largest byte is the larger of what was found and of what is left. Assumes nothing.
 use Prim.Native.Nat.{◌-◌, ◌≤◌, max}
-use borrow.Author.Rules.{rules}
 use lib.ListN.{length, drop}
 use mathlib.Core.Path.{◌≡◌}
-use native.Mathlib.Omega.{arith}
 use Rattle.file_spec.specs.Reader.{largest}
-use Rattle.file.proofs.Laws.{largest-start, largest-turn, largest-end}
 use Rattle.file.proofs.largest_of.Given as goal
 
 abbrev pub invariant-loop-k : goal.invariant-loop-k

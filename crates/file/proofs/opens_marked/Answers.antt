@@ -1,5 +1,4 @@
 -- `file::opens_marked` meets its contract: a text that is too short, or three bytes compared. Assumes nothing.
-use borrow.Author.Rules.{rules}
 use borrow.Author.Tests.{eq-eqb, ne_eqb}
 use mathlib.Core.Path.{sym, ◌∙◌}
 use native.Mathlib.Omega.{arith}

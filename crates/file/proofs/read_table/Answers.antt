@@ -1,6 +1,5 @@
 -- `file::read_table` meets its contract: a column of another length, or what follows the reading of the text. Assumes nothing.
-use borrow.Author.Rules.{rules}
-use mathlib.Core.Path.{◌≡◌, refl, sym, ◌∙◌}
+use mathlib.Core.Path.{refl, sym, ◌∙◌}
 use native.Mathlib.Omega.{arith}
 use Rattle.file_spec.specs.Table.{wrong_lent}
 use Rattle.file.specs.Answers.{answer_of}
@@ -17,7 +16,7 @@ returns-then-wrong_sizes c =
 
 pub read_text-s-requires : goal.read_text-s-requires
 read_text-s-requires c =
-     record { rows_value = nothing_yet _ _ _ _ _ _ _ _ _ _ refl refl refl refl; sized = (record { numbers = refl; starts-sized = refl; ends-sized = refl }, record { lefts = refl; rights = refl; weights = refl; marks = refl; strucks = refl; places = refl }); sound = record { few-names = omega arith; few-rows = omega arith; kept = record { order = λ k h. absurd (omega arith); high = λ k h. absurd (omega arith) } } }
+    record { rows_value = nothing_yet _ _ _ _ _ _ _ _ _ _ refl refl refl refl; sized = (record { numbers = refl; starts-sized = refl; ends-sized = refl }, record { lefts = refl; rights = refl; weights = refl; marks = refl; strucks = refl; places = refl }); sound = record { few-names = omega arith; few-rows = omega arith; kept = record { order = λ k h. absurd (omega arith); high = λ k h. absurd (omega arith) } } }
 
 pub settle-requires : goal.settle-requires
 unfolding wrong_lent

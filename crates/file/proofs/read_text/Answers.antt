@@ -1,12 +1,9 @@
 -- `file::read_text` meets its contract: too long, or its lines read. Assumes nothing.
-use borrow.Author.Rules.{rules}
 use lib.ListN.{length}
-use mathlib.Core.Path.{◌≡◌, sym, ap, ◌∙◌}
-use native.Mathlib.Omega.{arith}
+use mathlib.Core.Path.{sym, ap, ◌∙◌}
 use Rattle.file_spec.specs.Pieces.{lines}
 use Rattle.file_spec.specs.Reader.{Read, read_lines}
 use Rattle.file_text.specs.Steps.Spans.{part}
-use Rattle.file_reader.specs.Steps.State.{resumed}
 use Rattle.file.proofs.Laws.{too_long, taken-whole, never-read, told-broken}
 use Rattle.file.proofs.read_text.Goals as goal
 

@@ -1,6 +1,5 @@
 -- `file::rows_in_use` meets its contract. Assumes nothing.
-use borrow.Author.Rules.{rules}
-use mathlib.Core.Path.{◌≡◌, ◌∙◌}
+use mathlib.Core.Path.{◌∙◌}
 use Rattle.file.proofs.Laws.{in_use}
 use Rattle.file.proofs.rows_in_use.Goals as goal
 

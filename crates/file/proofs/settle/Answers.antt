@@ -1,8 +1,6 @@
 -- `file::settle` meets its contract: the refusal, or the sizes and the lent columns. Assumes nothing.
-use borrow.Author.Rules.{rules}
-use lib.ListN.{get_or}
 use lib.Seq.{length-take-le}
-use mathlib.Core.Path.{◌≡◌, sym, ap, ◌∙◌}
+use mathlib.Core.Path.{sym, ap, ◌∙◌}
 use native.Mathlib.Omega.{arith}
 use Rattle.file_spec.specs.Table.{answered}
 use Rattle.file.specs.Answers.{answer_of}

@@ -1,5 +1,4 @@
 -- `file::store` meets its contract. Assumes nothing.
-use borrow.Author.Rules.{rules}
 use Rattle.file.specs.Steps.Stored.{stored}
 use Rattle.file.proofs.Settling.{lent_same}
 use Rattle.file.proofs.store.Goals as goal

@@ -1,6 +1,5 @@
 -- `file::store_in_use` meets its contract: sixteen words are one column. Assumes nothing.
 use Prim.Native.Nat.{ℕ, ◌≤◌}
-use borrow.Author.Rules.{rules}
 use lib.ListN.{length, drop_of_length-le}
 use mathlib.Core.Bool.{Bool}
 use mathlib.Core.List.{List, ◌++◌, append-nil}

@@ -1,7 +1,6 @@
 -- `file::store_places` meets its contract: three columns are filled. Assumes nothing.
-use borrow.Author.Rules.{rules}
 use Rattle.file.proofs.store_places.Goals as goal
 
 pub returns : goal.returns
 returns c =
-     record { first = c.fill_numbers.ensures; last = c.fill_numbers-2.ensures; lines = c.fill_numbers-3.ensures }
+    record { first = c.fill_numbers.ensures; last = c.fill_numbers-2.ensures; lines = c.fill_numbers-3.ensures }

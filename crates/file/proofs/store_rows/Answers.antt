@@ -1,7 +1,6 @@
 -- `file::store_rows` meets its contract: four columns are filled. Assumes nothing.
-use borrow.Author.Rules.{rules}
 use Rattle.file.proofs.store_rows.Goals as goal
 
 pub returns : goal.returns
 returns c =
-     record { ends = c.fill.ensures; others = c.fill-2.ensures; prices = c.fill-3.ensures; marked = c.fill-4.ensures }
+    record { ends = c.fill.ensures; others = c.fill-2.ensures; prices = c.fill-3.ensures; marked = c.fill-4.ensures }

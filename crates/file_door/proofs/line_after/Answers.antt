@@ -1,8 +1,6 @@
 -- `file_door::line_after` meets its contract: CR, another byte than LF, LF after CR, or LF. Assumes nothing.
-use borrow.Author.Rules.{rules}
 use borrow.Author.Tests.{eq-eqb, ne_eqb}
 use native.Mathlib.Numerals.{add-one}
-use native.Mathlib.Omega.{arith}
 use Rattle.file_spec.specs.Places.{line_after}
 use Rattle.file_door.proofs.line_after.Goals as goal
 

@@ -1,5 +1,4 @@
 -- `file_door::of_taken` meets its contract: each case's fields, written out; n is what its own digits stand for. Assumes nothing.
-use borrow.Author.Rules.{rules}
 use lib.IntN.{ℤ}
 use mathlib.Core.Path.{refl, ap}
 use native.Mathlib.Omega.{arith}

@@ -1,11 +1,8 @@
 -- `file_door::star_line_of` meets its contract. The loop's invariant: the line, counted on over the bytes that are left, is the place's. Assumes nothing.
 use Prim.Native.Nat.{◌+◌, ◌-◌, ◌≤◌}
-use borrow.Author.Rules.{rules}
-use lib.ListN.{length, take, drop, get_or}
-use mathlib.Core.Path.{◌≡◌, refl, sym, ◌∙◌}
-use native.Mathlib.Omega.{arith}
+use lib.ListN.{length, take, drop}
+use mathlib.Core.Path.{◌≡◌}
 use Rattle.file_spec.specs.Places.{line_from, line_at}
-use Rattle.file_door.proofs.Lines.{after-most, start, turn, over}
 use Rattle.file_door.proofs.star_line_of.Given as goal
 
 abbrev pub invariant-loop-k : goal.invariant-loop-k

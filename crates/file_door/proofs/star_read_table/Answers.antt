@@ -1,5 +1,4 @@
 -- `file_door::star_read_table` meets its contract: what the reader, `of_taken` and `write_answer` promise, one after the other. Assumes nothing.
-use borrow.Author.Rules.{rules}
 use borrow.Author.Tests.{eq-eqb, ne_eqb}
 use lib.ListN.{length}
 use mathlib.Core.Path.{refl, ap, ◌∙◌}
@@ -12,7 +11,7 @@ use Rattle.file_door.proofs.star_read_table.Goals as goal
 pub returns-then-answer-ne16 : goal.returns-then-answer-ne16
 unfolding door_returns well_lent file_door answer_after file_door_lent
 returns-then-answer-ne16 c =
-     let told = read-table-call (rw (ne_eqb (length c.args.answer.now) 16 (λ e. omega arith)) (refl, (refl, refl))) in record { returned = told.0; answered = told.1.0; lent = told.1.1.0; means = told.1.1.1 }
+    let told = read-table-call (rw (ne_eqb (length c.args.answer.now) 16 (λ e. omega arith)) (refl, (refl, refl))) in record { returned = told.0; answered = told.1.0; lent = told.1.1.0; means = told.1.1.1 }
 
 pub returns : goal.returns
 unfolding door_returns well_lent file_door file_door_lent

@@ -1,5 +1,4 @@
 -- `file_write_checks::bad_end` meets its contract. Assumes nothing.
-use borrow.Author.Rules.{rules}
 use Rattle.file_write_checks.proofs.Laws.{end-made}
 use Rattle.file_write_checks.proofs.bad_end.Goals as goal
 

@@ -1,5 +1,4 @@
 -- `file_write_checks::between` meets its contract. Assumes nothing.
-use borrow.Author.Rules.{rules}
 use Rattle.stp_words.specs.Bytes.{within}
 use Rattle.file_write_checks.proofs.between.Goals as goal
 

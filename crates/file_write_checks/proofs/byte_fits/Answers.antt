@@ -1,5 +1,4 @@
 -- `file_write_checks::byte_fits` meets its contract. Assumes nothing.
-use borrow.Author.Rules.{rules}
 use Rattle.file_write_checks.proofs.Laws.{fits-made}
 use Rattle.file_write_checks.proofs.byte_fits.Goals as goal
 

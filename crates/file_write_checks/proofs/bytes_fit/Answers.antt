@@ -1,14 +1,8 @@
 -- `file_write_checks::bytes_fit` meets its contract. Assumes nothing.
-use Prim.Native.Nat.{◌-◌, ◌≤◌}
-use borrow.Author.Rules.{rules}
-use borrow.Author.Tests.{not-true, not-false}
-use lib.ListN.{length, drop}
-use mathlib.Core.Bool.{◌&&◌, ◌||◌}
-use mathlib.Core.Path.{◌≡◌, refl, sym, ap, ◌∙◌}
+use Prim.Native.Nat.{◌-◌}
+use mathlib.Core.Path.{refl, sym, ◌∙◌}
 use native.Mathlib.Omega.{arith}
-use Rattle.file_spec.specs.Names.{any_letter}
 use Rattle.file_write_checks.proofs.Laws.{fit-stop, fit-more, fit-last, or_right}
-use Rattle.file_write_checks.specs.Checks.{all_fit}
 use Rattle.file_write_checks.proofs.bytes_fit.Goals as goal
 
 pub loop-i-init : goal.loop-i-init

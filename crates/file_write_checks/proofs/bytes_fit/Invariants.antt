@@ -1,13 +1,9 @@
 -- `file_write_checks::bytes_fit` meets its contract. Assumes nothing.
 use Prim.Native.Nat.{◌-◌, ◌≤◌}
-use borrow.Author.Rules.{rules}
-use borrow.Author.Tests.{not-true, not-false}
 use lib.ListN.{length, drop}
 use mathlib.Core.Bool.{◌&&◌, ◌||◌}
-use mathlib.Core.Path.{◌≡◌, refl, sym, ap, ◌∙◌}
-use native.Mathlib.Omega.{arith}
+use mathlib.Core.Path.{◌≡◌}
 use Rattle.file_spec.specs.Names.{any_letter}
-use Rattle.file_write_checks.proofs.Laws.{fit-stop, fit-more, fit-last, or_right}
 use Rattle.file_write_checks.specs.Checks.{all_fit}
 use Rattle.file_write_checks.proofs.bytes_fit.Given as goal
 

@@ -1,5 +1,4 @@
 -- `file_write_checks::edges_full` meets its contract. Assumes nothing.
-use borrow.Author.Rules.{rules}
 use native.Mathlib.Omega.{arith}
 use Rattle.file_write_checks.proofs.Laws.{edges_none, edges-made}
 use Rattle.file_write_checks.proofs.edges_full.Goals as goal

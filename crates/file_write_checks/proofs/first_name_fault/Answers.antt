@@ -1,9 +1,7 @@
 -- `file_write_checks::first_name_fault` meets its contract. Assumes nothing.
-use Prim.Native.Nat.{◌-◌, ◌≤◌}
-use borrow.Author.Rules.{rules}
-use lib.ListN.{length}
+use Prim.Native.Nat.{◌-◌}
 use native.Mathlib.Omega.{arith}
-use Rattle.file_write_checks.proofs.Laws.{Clear, clear_none, clear-more, clear-found, clear-all}
+use Rattle.file_write_checks.proofs.Laws.{clear_none, clear-more, clear-found, clear-all}
 use Rattle.file_write_checks.specs.Checks.{name_fault}
 use Rattle.file_write_checks.proofs.first_name_fault.Goals as goal
 

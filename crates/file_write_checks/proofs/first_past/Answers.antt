@@ -1,9 +1,8 @@
 -- `file_write_checks::first_past` meets its contract. Assumes nothing.
-use Prim.Native.Nat.{◌+◌, ◌-◌, ◌≤◌}
-use borrow.Author.Rules.{rules}
+use Prim.Native.Nat.{◌+◌, ◌-◌}
 use mathlib.Core.Path.{sym, ◌∙◌}
 use native.Mathlib.Omega.{arith}
-use Rattle.table_checks.proofs.Laws.{Passed, passed_none, passed-more, passed-found, passed-all}
+use Rattle.table_checks.proofs.Laws.{passed_none, passed-more, passed-found, passed-all}
 use Rattle.file_write_checks.specs.Checks.{past_row}
 use Rattle.file_write_checks.proofs.first_past.Goals as goal
 

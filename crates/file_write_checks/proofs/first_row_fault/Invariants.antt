@@ -1,10 +1,8 @@
 -- `file_write_checks::first_row_fault` meets its contract. Assumes nothing.
 use Prim.Native.Nat.{◌-◌, ◌≤◌}
-use borrow.Author.Rules.{rules}
 use lib.ListN.{length}
-use native.Mathlib.Omega.{arith}
 use Rattle.file_writer.specs.Columns.{sheet_of}
-use Rattle.file_write_checks.proofs.Laws.{Clear, clear_none, clear-more, clear-found, clear-all}
+use Rattle.file_write_checks.proofs.Laws.{Clear}
 use Rattle.file_write_checks.specs.Checks.{row_fault}
 use Rattle.file_write_checks.proofs.first_row_fault.Given as goal
 

@@ -1,5 +1,4 @@
 -- `file_write_checks::is_blank` meets its contract. Assumes nothing.
-use borrow.Author.Rules.{rules}
 use Rattle.file_spec.specs.Pieces.{is_blank}
 use Rattle.file_write_checks.proofs.is_blank.Goals as goal
 

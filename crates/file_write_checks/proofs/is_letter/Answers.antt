@@ -1,5 +1,4 @@
 -- `file_write_checks::is_letter` meets its contract. Assumes nothing.
-use borrow.Author.Rules.{rules}
 use Rattle.file_write_checks.proofs.Laws.{letter-made}
 use Rattle.file_write_checks.proofs.is_letter.Goals as goal
 

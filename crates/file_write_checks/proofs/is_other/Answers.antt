@@ -1,5 +1,4 @@
 -- `file_write_checks::is_other` meets its contract. Assumes nothing.
-use borrow.Author.Rules.{rules}
 use Rattle.file_write_checks.proofs.Laws.{other-made}
 use Rattle.file_write_checks.proofs.is_other.Goals as goal
 

@@ -1,5 +1,4 @@
 -- `file_write_checks::is_separator` meets its contract. Assumes nothing.
-use borrow.Author.Rules.{rules}
 use Rattle.file_write_checks.proofs.Laws.{separator-made}
 use Rattle.file_write_checks.proofs.is_separator.Goals as goal
 

@@ -1,10 +1,7 @@
 -- `file_write_checks::longest` meets its contract. Assumes nothing.
 use Prim.Native.Nat.{◌-◌, ◌≤◌}
-use borrow.Author.Rules.{rules}
 use lib.ListN.{length}
 use mathlib.Core.Path.{◌≡◌}
-use native.Mathlib.Omega.{arith}
-use Rattle.file_write_checks.proofs.Laws.{longest-more, longest-none, longest-all}
 use Rattle.file_write_checks.specs.Checks.{longest_to}
 use Rattle.file_write_checks.proofs.longest.Given as goal
 

@@ -1,6 +1,4 @@
 -- `file_write_checks::name_fault` meets its contract. Assumes nothing.
-use borrow.Author.Rules.{rules}
-use native.Mathlib.Omega.{arith}
 use mathlib.Core.Path.{sym, ◌∙◌}
 use Rattle.file_write_checks.proofs.Laws.{fault-order, fault-high, fault-none, fault-name}
 use Rattle.file_write_checks.proofs.name_fault.Goals as goal

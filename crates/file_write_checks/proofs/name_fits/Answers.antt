@@ -1,5 +1,4 @@
 -- `file_write_checks::name_fits` meets its contract. Assumes nothing.
-use borrow.Author.Rules.{rules}
 use Rattle.file_write_checks.proofs.Laws.{name-made}
 use Rattle.file_write_checks.proofs.name_fits.Goals as goal
 

@@ -1,9 +1,5 @@
 -- `file_write_checks::names_check` meets its contract. Assumes nothing.
-use borrow.Author.Rules.{rules}
-use native.Mathlib.Omega.{arith}
-use mathlib.Core.Path.{sym, ap, ◌∙◌}
 use Rattle.file_write_checks.proofs.Laws.{fault-caused}
-use Rattle.file_write_checks.specs.Checks.{fault_cause}
 use Rattle.file_write_checks.proofs.names_check.Goals as goal
 
 pub returns : goal.returns

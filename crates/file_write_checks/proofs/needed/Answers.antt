@@ -1,6 +1,5 @@
 -- `file_write_checks::needed` meets its contract. Assumes nothing.
 use borrow.Author.Rules.{rules}
-use native.Mathlib.Omega.{arith}
 use Rattle.file_writer.specs.Columns.{room}
 use Rattle.file_write_checks.proofs.needed.Goals as goal
 

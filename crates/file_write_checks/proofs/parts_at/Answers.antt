@@ -1,5 +1,4 @@
 -- `file_write_checks::parts_at` meets its contract. Assumes nothing.
-use borrow.Author.Rules.{rules}
 use borrow.Author.Tests.{eq-eqb, ne_eqb}
 use Rattle.file_spec.specs.Pieces.{is_byte}
 use Rattle.file_writer.specs.Forms.{goes_before, parts}

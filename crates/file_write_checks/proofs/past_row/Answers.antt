@@ -1,5 +1,4 @@
 -- `file_write_checks::past_row` meets its contract. Assumes nothing.
-use borrow.Author.Rules.{rules}
 use borrow.Author.Tests.{le-ltb, lt-ltb}
 use Rattle.file_write_checks.specs.Checks.{past_row}
 use Rattle.file_write_checks.proofs.past_row.Goals as goal

@@ -1,6 +1,4 @@
 -- `file_write_checks::room_check` meets its contract. Assumes nothing.
-use borrow.Author.Rules.{rules}
-use native.Mathlib.Omega.{arith}
 use Rattle.refusal.specs.Outcomes.{refusal_of}
 use Rattle.file_write_checks.proofs.Laws.{room-long, room-short, room-enough}
 use Rattle.file_write_checks.proofs.room_check.Goals as goal

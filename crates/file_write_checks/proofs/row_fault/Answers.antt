@@ -1,6 +1,4 @@
 -- `file_write_checks::row_fault` meets its contract: the first test that holds decides. Assumes nothing.
-use borrow.Author.Rules.{rules}
-use native.Mathlib.Omega.{arith}
 use Rattle.file_write_checks.proofs.Laws.{fault-end, fault-struck, fault-mark, fault-word, fault-free}
 use Rattle.file_write_checks.proofs.row_fault.Goals as goal
 

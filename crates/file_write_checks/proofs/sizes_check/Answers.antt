@@ -1,5 +1,4 @@
 -- `file_write_checks::sizes_check` meets its contract. Assumes nothing.
-use borrow.Author.Rules.{rules}
 use Rattle.file_write_checks.proofs.Laws.{sizes-made}
 use Rattle.file_write_checks.proofs.sizes_check.Goals as goal
 

@@ -1,8 +1,5 @@
 -- `file_write_checks::write_check` meets its contract: the sizes are refused, or the names, the rows and the room decide in their order. Assumes nothing.
-use borrow.Author.Rules.{rules}
-use mathlib.Core.Option.{none}
-use mathlib.Core.Path.{◌≡◌, sym, ap, ◌∙◌}
-use lib.ListN.{length}
+use mathlib.Core.Path.{sym, ap, ◌∙◌}
 use Rattle.file_write_checks.proofs.Laws.{few-rows, few-names, write-refused, write_done}
 use Rattle.refusal.specs.Outcomes.{refusal_of}
 use Rattle.file_write_checks.proofs.write_check.Goals as goal

@@ -1,5 +1,4 @@
 -- `file_write_checks::wrong_columns` meets its contract. Assumes nothing.
-use borrow.Author.Rules.{rules}
 use borrow.Author.Tests.{eq-eqb, ne_eqb}
 use Rattle.file_write_checks.proofs.Laws.{four-odd, four-other, four-times}
 use Rattle.file_write_checks.specs.Checks.{wrong_columns}

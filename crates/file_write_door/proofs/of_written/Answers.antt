@@ -1,5 +1,4 @@
 -- `file_write_door::of_written` meets its contract: each case's fields, written out. Assumes nothing.
-use borrow.Author.Rules.{rules}
 use lib.IntN.{ℤ}
 use mathlib.Core.Path.{refl, ap}
 use native.Mathlib.Omega.{arith}

@@ -1,5 +1,4 @@
 -- `file_write_door::write_sheet` meets its contract: what is refused, or what was put. Assumes nothing.
-use borrow.Author.Rules.{rules}
 use mathlib.Core.Path.{refl}
 use Rattle.file_write_door.proofs.Told.{cause-told, cause-done}
 use Rattle.file_write_door.specs.Door.{sheet_text}

@@ -1,5 +1,4 @@
 -- `file_writer::has_header` meets its contract. Assumes nothing.
-use borrow.Author.Rules.{rules}
 use borrow.Author.Tests.{eq-eqb, ne_eqb}
 use Rattle.file_writer.specs.Forms.{headed}
 use Rattle.file_writer.proofs.has_header.Goals as goal

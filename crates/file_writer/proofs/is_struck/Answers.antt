@@ -1,5 +1,4 @@
 -- `file_writer::is_struck` meets its contract. Assumes nothing.
-use borrow.Author.Rules.{rules}
 use mathlib.Core.Path.{sym, ◌∙◌}
 use Rattle.file_writer.proofs.is_struck.Goals as goal
 

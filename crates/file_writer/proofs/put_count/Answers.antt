@@ -1,5 +1,4 @@
 -- `file_writer::put_count` meets its contract. Assumes nothing.
-use borrow.Author.Rules.{rules}
 use Rattle.file_writer.proofs.Writes.{puts_word, puts-count, junctions-word}
 use Rattle.file_writer.proofs.put_count.Goals as goal
 

@@ -1,5 +1,4 @@
 -- `file_writer::put_ends` meets its contract. Assumes nothing.
-use borrow.Author.Rules.{rules}
 use Rattle.file_writer.proofs.Writes.{puts-ends}
 use Rattle.file_writer.proofs.put_ends.Goals as goal
 

@@ -1,5 +1,4 @@
 -- `file_writer::put_junction` meets its contract. Assumes nothing.
-use borrow.Author.Rules.{rules}
 use native.Mathlib.Omega.{arith}
 use Rattle.file_writer.proofs.Writes.{puts-number, puts-named}
 use Rattle.file_writer.proofs.put_junction.Goals as goal

@@ -1,5 +1,4 @@
 -- `file_writer::put_name` meets its contract. Assumes nothing.
-use borrow.Author.Rules.{rules}
 use Rattle.file_writer.proofs.Writes.{puts-name}
 use Rattle.file_writer.proofs.put_name.Goals as goal
 

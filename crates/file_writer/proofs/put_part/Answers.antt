@@ -1,5 +1,4 @@
 -- `file_writer::put_part` meets its contract. Assumes nothing.
-use borrow.Author.Rules.{rules}
 use native.Mathlib.Omega.{arith}
 use Rattle.file_writer.proofs.Writes.{puts-part, none-part}
 use Rattle.file_writer.proofs.put_part.Goals as goal

@@ -1,5 +1,4 @@
 -- `file_writer::put_rest` meets its contract. Assumes nothing.
-use borrow.Author.Rules.{rules}
 use Rattle.file_writer.proofs.Writes.{puts-rest}
 use Rattle.file_writer.proofs.put_rest.Goals as goal
 

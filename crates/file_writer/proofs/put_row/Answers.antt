@@ -1,7 +1,5 @@
 -- `file_writer::put_row` meets its contract. Assumes nothing.
-use borrow.Author.Rules.{rules}
 use Rattle.file_writer.proofs.Writes.{puts-row}
-use Rattle.file_writer.specs.Columns.{sheet_of}
 use Rattle.file_writer.proofs.put_row.Goals as goal
 
 pub returns : goal.returns

@@ -1,12 +1,8 @@
 -- `file_writer::put_rows` meets its contract. The loop's invariant: the lines of the first i rows were put. Assumes nothing.
-use borrow.Author.Rules.{rules}
 use native.Mathlib.Omega.{arith}
-use Prim.Native.Nat.{ℕ, ◌-◌, ◌≤◌}
+use Prim.Native.Nat.{◌-◌}
 use Rattle.decimal.proofs.Laws.{puts-length}
-use Rattle.decimal.specs.Puts.{Puts}
 use Rattle.file_writer.proofs.Writes.{none_rows, puts-more, puts-done}
-use Rattle.file_writer.specs.Columns.{sheet_of, trench_of}
-use Rattle.file_writer.specs.Steps.Rows.{line_put, rows_put}
 use Rattle.file_writer.proofs.put_rows.Goals as goal
 
 pub loop-i-init : goal.loop-i-init

@@ -1,5 +1,4 @@
 -- `file_writer::put_word` meets its contract. Assumes nothing.
-use borrow.Author.Rules.{rules}
 use Rattle.file_writer.proofs.Writes.{puts_word}
 use Rattle.file_writer.proofs.put_word.Goals as goal
 

@@ -1,5 +1,4 @@
 -- `file_writer::write_table` meets its contract. Assumes nothing.
-use borrow.Author.Rules.{rules}
 use Rattle.file_writer.proofs.Writes.{puts-all}
 use Rattle.file_writer.proofs.write_table.Goals as goal
 

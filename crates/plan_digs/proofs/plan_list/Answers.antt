@@ -1,5 +1,4 @@
 -- `plan_digs::plan_list` meets its contract in both of its cases: the plan is refused, or its rows are listed. Assumes nothing.
-use borrow.Author.Rules.{rules}
 use mathlib.Core.Path.{refl}
 use Rattle.digs.specs.Lists.{Lists}
 use Rattle.in_use.specs.Tables.{table_in}

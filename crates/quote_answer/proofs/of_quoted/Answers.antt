@@ -1,5 +1,4 @@
 -- `quote_answer::of_quoted` meets its contract: each case's fields, written out, with the totals' bits handed on. Assumes nothing.
-use borrow.Author.Rules.{rules}
 use mathlib.Core.Path.{refl}
 use Rattle.answer.specs.Records.{fields_of}
 use Rattle.quote.specs.Answers.{answer_of}
@@ -11,9 +10,9 @@ use Rattle.quote_answer.proofs.of_quoted.Goals as goal
 pub returns-in-Totals : goal.returns-in-Totals
 unfolding fields_of quote_fields after_of answer_of
 returns-in-Totals c = record {
-      first = rw c.in-Totals.is refl;
-      after = rw c.in-Totals.is refl;
-    }
+  first = rw c.in-Totals.is refl;
+  after = rw c.in-Totals.is refl;
+}
 
 pub returns-in-Refused : goal.returns-in-Refused
 unfolding quote_fields after_of answer_of from_bits fields

@@ -1,5 +1,4 @@
 -- `stp::import` meets its contract: what follows the reading is told of the whole text. Assumes nothing.
-use borrow.Author.Rules.{rules}
 use Rattle.stp_spec.specs.Import.{imported, import_refusal, left_after, right_after, weight_after}
 use Rattle.stp.proofs.import.Goals as goal
 

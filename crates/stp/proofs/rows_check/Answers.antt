@@ -1,11 +1,10 @@
 -- `stp::rows_check` meets its contract: the lent columns' lengths, and then the rows by the table's own check. Assumes nothing.
 use Prim.Native.Nat.{◌≤◌}
-use borrow.Author.Rules.{rules}
-use borrow.Author.Tests.{ne_eqb, eqb-true, not-false}
+use borrow.Author.Tests.{ne_eqb}
 use lib.Seq.{length-take-le}
 use mathlib.Core.Bool.{or-true}
 use mathlib.Core.Logic.{⊎_elim}
-use mathlib.Core.Path.{refl, sym, ap, ◌∙◌}
+use mathlib.Core.Path.{sym, ap, ◌∙◌}
 use native.Mathlib.Omega.{arith}
 use Rattle.refusal.specs.Outcomes.{refusal_of}
 use Rattle.star_spec.proofs.Accepted.{none-cons}

@@ -1,13 +1,11 @@
 -- `stp::settle` meets its contract: the refusal, or the sizes and the lent columns with the rows that were read. Assumes nothing.
 use Prim.Native.Nat.{◌*◌, ◌≤◌}
-use borrow.Author.Rules.{rules}
 use lib.ListN.{length, take}
 use lib.Seq.{length-take-le}
 use mathlib.Core.Option.{none}
 use mathlib.Core.Path.{◌≡◌, sym, ap, ◌∙◌}
 use native.Mathlib.Omega.{arith}
 use Rattle.refusal.specs.Outcomes.{refusal_of}
-use Rattle.stp_spec.specs.Reader.{Read}
 use Rattle.stp_reader.specs.Readings.{read_of, rows_of, finished}
 use Rattle.stp.specs.Answers.{answer_of}
 use Rattle.stp.specs.Steps.Settled.{refusal_for}

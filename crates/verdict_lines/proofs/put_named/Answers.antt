@@ -1,5 +1,4 @@
 -- `verdict_lines::put_named` meets its contract. Assumes nothing.
-use borrow.Author.Rules.{rules}
 use Rattle.decimal.proofs.Laws.{puts-append}
 use Rattle.verdict_lines.proofs.put_named.Goals as goal
 

@@ -1,5 +1,4 @@
 -- `verdict_lines::put_only` meets its contract. Assumes nothing.
-use borrow.Author.Rules.{rules}
 use Rattle.verdict_lines.proofs.Laws.{only-put, none-put}
 use Rattle.verdict_lines.proofs.put_only.Goals as goal
 

@@ -1,5 +1,4 @@
 -- `verdict_lines::put_passed` meets its contract. Assumes nothing.
-use borrow.Author.Rules.{rules}
 use Rattle.decimal.proofs.Laws.{puts-append}
 use Rattle.stp_words.specs.Bytes.{bytes}
 use Rattle.verdict_spec.specs.VerdictText.{verdict_line}

@@ -1,5 +1,4 @@
 -- `verdict_lines::put_verdict` meets its contract: what is told of each of its cases. Assumes nothing.
-use borrow.Author.Rules.{rules}
 use Rattle.verdict_lines.proofs.Laws.{verdict-passed, verdict-cheaper, verdict-refused}
 use Rattle.verdict_lines.proofs.put_verdict.Goals as goal
 

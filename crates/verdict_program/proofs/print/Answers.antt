@@ -1,5 +1,4 @@
 -- `verdict_program::print` meets its contract: what is handed on is the line, whole. Assumes nothing.
-use borrow.Author.Rules.{rules}
 use Rattle.decimal.proofs.Laws.{puts_whole}
 use mathlib.Core.Path.{◌∙◌}
 use native.Mathlib.Omega.{arith}

@@ -1,5 +1,4 @@
 -- `best_door::best_door::of_best` meets its contract: each case's fields, written out, with the totals' bits handed on; a saving is what its own digits stand for. Assumes nothing.
-use borrow.Author.Rules.{rules}
 use lib.IntN.{ℤ}
 use mathlib.Core.Path.{refl, ap}
 use native.Mathlib.Omega.{arith}
@@ -14,9 +13,9 @@ use Rattle.best_door.proofs.best_door.of_best.Goals as goal
 pub returns-in-Stays : goal.returns-in-Stays
 unfolding fields_of best_fields least_of answer_of
 returns-in-Stays c = record {
-      first = rw c.in-Stays.is refl;
-      least = rw c.in-Stays.is refl;
-    }
+  first = rw c.in-Stays.is refl;
+  least = rw c.in-Stays.is refl;
+}
 
 pub returns-in-Saves : goal.returns-in-Saves
 unfolding fields_of best_fields least_of answer_of

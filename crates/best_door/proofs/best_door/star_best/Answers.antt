@@ -1,5 +1,4 @@
 -- `best_door::best_door::star_best` meets its contract: what the best exchange, `of_best` and `write_quote` promise, one after the other. Assumes nothing.
-use borrow.Author.Rules.{rules}
 use native.Mathlib.Omega.{arith}
 use Rattle.best_door.proofs.Told.{best-shut, best-open}
 use Rattle.best_spec.proofs.Bytes.{best-call}

@@ -1,5 +1,4 @@
 -- `breaking_door::breaking_door::of_breaks` meets its contract: each case's fields, written out, with the price's bits widened. Assumes nothing.
-use borrow.Author.Rules.{rules}
 use mathlib.Core.Path.{refl}
 use Rattle.answer.specs.Records.{fields_of}
 use Rattle.breaking.specs.Answers.{answer_of}

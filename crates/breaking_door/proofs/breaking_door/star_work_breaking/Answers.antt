@@ -1,6 +1,4 @@
 -- `breaking_door::breaking_door::star_work_breaking` meets its contract: what the breaking price, `of_breaks` and `write_answer` promise, one after the other. Assumes nothing.
-use borrow.Author.Rules.{rules}
-use borrow.Author.Tests.{not-true, not-false}
 use mathlib.Core.Path.{sym, ◌∙◌}
 use Rattle.breaking_door.proofs.Laws.{breaking-shut, breaking-open}
 use Rattle.price_meaning.proofs.Breaking.{breaking-call}

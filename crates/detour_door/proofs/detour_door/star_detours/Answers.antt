@@ -1,6 +1,4 @@
 -- `detour_door::detour_door::star_detours` meets its contract: what the dearest of each detour, `of_built` and `write_answer` promise, one after the other. Assumes nothing.
-use borrow.Author.Rules.{rules}
-use borrow.Author.Tests.{not-true, not-false}
 use mathlib.Core.Path.{refl, sym, ap, ◌∙◌}
 use Rattle.detour_spec.proofs.Bytes.{detours-call}
 use Rattle.detour_spec.specs.Door.{detours_door, detours_door_rows}

@@ -1,6 +1,4 @@
 -- `digs_door::work_digs_door::star_work_digs` meets its contract: what the list of the working table, `of_list` and `write_answer` promise, one after the other. Assumes nothing.
-use borrow.Author.Rules.{rules}
-use borrow.Author.Tests.{not-true, not-false}
 use mathlib.Core.Path.{sym, ◌∙◌}
 use native.Mathlib.Omega.{arith}
 use Rattle.digs_spec.proofs.Bytes.{digs-call}
@@ -9,11 +7,11 @@ use Rattle.digs_door.proofs.work_digs_door.star_work_digs.Goals as goal
 
 pub returns-then-not-well_lent : goal.returns-then-not-well_lent
 returns-then-not-well_lent c =
-     let told = digs-call (no_answer _ _ _ _ (sym c.well_lent.ensures ∙ c.if-not-well_lent.true)) in record { returned = told.0; answered = told.1.0; listed = told.1.1.0; means = told.1.1.1 }
+    let told = digs-call (no_answer _ _ _ _ (sym c.well_lent.ensures ∙ c.if-not-well_lent.true)) in record { returned = told.0; answered = told.1.0; listed = told.1.1.0; means = told.1.1.1 }
 
 pub returns-then-text-lt-LIST_BYTES : goal.returns-then-text-lt-LIST_BYTES
 returns-then-text-lt-LIST_BYTES c =
-     let told = digs-call (no_room _ _ _ _ (omega (arith, c.if-text-lt-LIST_BYTES.true))) in record { returned = told.0; answered = told.1.0; listed = told.1.1.0; means = told.1.1.1 }
+    let told = digs-call (no_room _ _ _ _ (omega (arith, c.if-text-lt-LIST_BYTES.true))) in record { returned = told.0; answered = told.1.0; listed = told.1.1.0; means = told.1.1.1 }
 
 pub returns : goal.returns
 returns c =

@@ -1,6 +1,4 @@
 -- `outlets_door::outlets_door::star_work_outlets` meets its contract: what the tree with exactly t rows at r, `of_built` and `write_answer` promise, one after the other. Assumes nothing.
-use borrow.Author.Rules.{rules}
-use borrow.Author.Tests.{not-true, not-false}
 use mathlib.Core.Path.{sym, ◌∙◌}
 use Rattle.outlets_spec.proofs.Bytes.{outlets-call}
 use Rattle.outlets_door.proofs.Laws.{outlets-shut, outlets-open}

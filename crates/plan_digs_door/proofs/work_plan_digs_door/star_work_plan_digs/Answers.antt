@@ -1,6 +1,4 @@
 -- `plan_digs_door::work_plan_digs_door::star_work_plan_digs` meets its contract: what the list of the plan, `of_list` and `write_answer` promise, one after the other. Assumes nothing.
-use borrow.Author.Rules.{rules}
-use borrow.Author.Tests.{not-true, not-false}
 use mathlib.Core.Path.{sym, ◌∙◌}
 use native.Mathlib.Omega.{arith}
 use Rattle.digs_answer.proofs.Told.{no_answer, no_room, table-told}
@@ -9,11 +7,11 @@ use Rattle.plan_digs_door.proofs.work_plan_digs_door.star_work_plan_digs.Goals a
 
 pub returns-then-not-well_lent : goal.returns-then-not-well_lent
 returns-then-not-well_lent c =
-     let told = plan-digs-call (no_answer _ _ _ _ (sym c.well_lent.ensures ∙ c.if-not-well_lent.true)) in record { returned = told.0; answered = told.1.0; listed = told.1.1.0; means = told.1.1.1 }
+    let told = plan-digs-call (no_answer _ _ _ _ (sym c.well_lent.ensures ∙ c.if-not-well_lent.true)) in record { returned = told.0; answered = told.1.0; listed = told.1.1.0; means = told.1.1.1 }
 
 pub returns-then-text-lt-LIST_BYTES : goal.returns-then-text-lt-LIST_BYTES
 returns-then-text-lt-LIST_BYTES c =
-     let told = plan-digs-call (no_room _ _ _ _ (omega (arith, c.if-text-lt-LIST_BYTES.true))) in record { returned = told.0; answered = told.1.0; listed = told.1.1.0; means = told.1.1.1 }
+    let told = plan-digs-call (no_room _ _ _ _ (omega (arith, c.if-text-lt-LIST_BYTES.true))) in record { returned = told.0; answered = told.1.0; listed = told.1.1.0; means = told.1.1.1 }
 
 pub returns : goal.returns
 returns c =

@@ -1,5 +1,4 @@
 -- `quote_door::quote_door::star_work_quote` meets its contract: what the quote, `of_quoted` and `write_quote` promise, one after the other. Assumes nothing.
-use borrow.Author.Rules.{rules}
 use native.Mathlib.Omega.{arith}
 use Rattle.quote_door.proofs.Told.{quote-shut, quote-open}
 use Rattle.price_spec.proofs.Bytes.{quote-call}

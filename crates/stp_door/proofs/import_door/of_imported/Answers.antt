@@ -1,5 +1,4 @@
 -- `stp_door::import_door::of_imported` meets its contract: each case's fields, written out; a place is what its own digits stand for. Assumes nothing.
-use borrow.Author.Rules.{rules}
 use lib.IntN.{ℤ}
 use mathlib.Core.Path.{refl, ap}
 use native.Mathlib.Omega.{arith}

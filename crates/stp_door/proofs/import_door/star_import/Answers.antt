@@ -1,6 +1,4 @@
 -- `stp_door::import_door::star_import` meets its contract: what the import, `of_imported` and `write_answer` promise, one after the other. Assumes nothing.
-use borrow.Author.Rules.{rules}
-use borrow.Author.Tests.{not-true, not-false}
 use mathlib.Core.Path.{refl, sym, ap, ◌∙◌}
 use Rattle.stp_meaning.proofs.Bytes.{import-call}
 use Rattle.star_spec.specs.Door.{answer_after, door_returns}
