@@ -4,8 +4,12 @@ use Rattle.verdict.proofs.print_text.Goals as goal
 
 pub returns-in-Read : goal.returns-in-Read
 returns-in-Read c =
-    let lent = c.read_table-taken.ensures in let told = told_text _ (read-verdict _ lent.answer c.in-Read.is lent.lent) c.table_verdict.ensures in record { puts = told.0; few = told.1.0; status = told.1.1 }
+    let lent = c.read_table-taken.ensures in
+    let told = told_text _ (read-verdict _ lent.answer c.in-Read.is lent.lent) c.table_verdict.ensures in
+    record { puts = told.0; few = told.1.0; status = told.1.1 }
 
 pub returns-in-Refused : goal.returns-in-Refused
 returns-in-Refused c =
-    let lent = c.read_table-taken.ensures in let told = told_text _ (refused-verdict _ lent.answer c.in-Refused.is) c.put_refused.ensures in record { puts = told.0; few = told.1.0; status = told.1.1 }
+    let lent = c.read_table-taken.ensures in
+    let told = told_text _ (refused-verdict _ lent.answer c.in-Refused.is) c.put_refused.ensures in
+    record { puts = told.0; few = told.1.0; status = told.1.1 }
