@@ -29,7 +29,9 @@ chmod +x "$work/no-rt/rt"
 
 at=$work/copy
 mkdir -p "$at/target"
-cp -a .ci Makefile ./*.mk crates crates.txt crates.sum tools include console programs "$at"
+# Of the crates what rt keeps is left out.
+tar cf - --exclude 'crates/*/out' .ci Makefile ./*.mk crates crates.txt crates.sum tools include \
+    console programs | tar xf - -C "$at"
 restore() { # puts back what a trial has changed
     rm -rf "${at:?}/target" "${work:?}/usr"
     mkdir "$at/target"

@@ -99,8 +99,10 @@ sed -i 's/^\t@$(MAKE).* outside-built$/\t@:/' "$at/Makefile"
 mkdir "$at/tests"
 echo 'echo outside >>asked; echo 100 passed, 0 failed' >"$at/tests/outside.sh"
 gate() { asked bash .ci/run; }
+touch "$at/target/of-an-earlier-run"
 gate
 holds 'gate: passes' [ $? = 0 ]
+holds 'gate: from nothing' [ ! -e "$at/target/of-an-earlier-run" ]
 holds 'gate: its parts' [ "$(paste -sd ' ' "$at/asked")" = 'ci outside' ]
 holds 'gate: each archive' [ "$(written)" = "$(sorted "${exports[@]}")" ]
 lines=$((1 + crates))
