@@ -1,4 +1,4 @@
-// Reads an STP text on standard input and prints its dig list, or the line of a refusal: the function of crate programs, whose exit status it ends with.
+// Reads an STP text on standard input and prints its dig list, or the line of a refusal: the function of crate programs. It ends with 2 where a read or a write failed.
 
 #![tactic(auto)]
 
@@ -8,5 +8,6 @@ fn main(rt: HostRuntime) -> ExitCode {
     let mut input = rt.stdin();
     let mut output = rt.stdout();
     let status = programs::diglist::run(&mut input, &mut output, &rt);
-    ExitCode::from(status as u8)
+    // A refusal is an answer, which ends with 0 as a list does.
+    ExitCode::from(if status == 2 { 2 } else { 0 })
 }
