@@ -13,5 +13,5 @@ returns-then-not-well_lent c =
 
 pub returns : goal.returns
 returns c =
-     let told = write-call (omega (arith, (goal.at.returns c).Else-not-well_lent))
-    (told _ _ _ _ _ _ (omega (arith, (goal.at.returns c).Else-not-well_lent)) (sym c.well_lent.ensures ∙ c.if-not-well_lent.false) _ c.write_sheet-w.ensures c.write_answer.ensures c.of_written-x.ensures) in record { returned = told.0; answered = told.1.0; written = told.1.1.0; means = told.1.1.1 }
+     let told = write-call (omega arith)
+    (told _ _ _ _ _ _ (omega arith) (sym c.well_lent.ensures ∙ c.if-not-well_lent.false) _ c.write_sheet-w.ensures c.write_answer.ensures c.of_written-x.ensures) in record { returned = told.0; answered = told.1.0; written = told.1.1.0; means = told.1.1.1 }
