@@ -1,6 +1,4 @@
 -- `cst_door::work_cst_door::star_work_cst` meets its contract: what CST over the rows in use, `of_verdict` and `write_answer` promise, one after the other. Assumes nothing.
-use borrow.Author.Rules.{rules}
-use borrow.Author.Tests.{not-true, not-false}
 use mathlib.Core.Path.{sym, ◌∙◌}
 use Rattle.cst_door.proofs.Laws.{cst-shut, cst-open}
 use Rattle.promise.proofs.Doors.{work-cst}

@@ -1,6 +1,4 @@
 -- `cst_door::work_other_door::star_work_other` meets its contract: what CST over the rows in use, `of_checked` and `write_answer` promise, one after the other. Assumes nothing.
-use borrow.Author.Rules.{rules}
-use borrow.Author.Tests.{not-true, not-false}
 use mathlib.Core.Path.{sym, ◌∙◌}
 use Rattle.cst_door.proofs.Laws.{other-shut, other-open}
 use Rattle.promise.proofs.Doors.{work-other}
