@@ -156,8 +156,7 @@ fn read_sections(
     read_lines(text, step.at, heading.graph, found, left, right, weight)
 }
 
-// The lines of a section: of Graph, or of one that is skipped. It is not taken into the two readers, so that they take little of the stack.
-#[inline(never)]
+// The lines of a section: of Graph, or of one that is skipped.
 fn section_lines(
     text: &[u8],
     at: usize,
