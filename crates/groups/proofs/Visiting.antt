@@ -14,7 +14,8 @@ use Rattle.graph_theory.specs.Graph.{Graph, Sound, Inside}
 use Rattle.graph_theory.specs.Meaning.{Vertex}
 use Rattle.groups.proofs.Steps.{larger-first, larger-second, smaller-first, smaller-second, row-marked, row-unmarked, visit-closes, visit-joins, xor-in, length-all-turned, column-turned}
 use Rattle.groups.specs.Steps.Machine.{State, larger, smaller, ring_at, columns_turned, joined_at, visit_at, row_at, visits, all_visited}
-use Rattle.groups_theory.proofs.Held.{Held, ring_of, relabelled, turned, held_start, held_same, held-ring, held-join, held-group, held-closes}
+use Rattle.groups_theory.proofs.Rings.{ring_of}
+use Rattle.groups_theory.proofs.Held.{Held, relabelled, turned, held_start, held_same, held-ring, held-join, held-group, held-closes}
 use Rattle.groups_theory.specs.Groups.{group_of, closes_ring}
 use Rattle.mend_groups.proofs.Groups.{length-renamed, get_d-renamed, length-labels, get_d-labels}
 use Rattle.mend_groups.proofs.Joining.{written_in}

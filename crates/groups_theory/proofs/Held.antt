@@ -1,7 +1,7 @@
 -- Labels, columns and rings as a machine can keep them while it visits the rows of a set one after the other.
 -- A row whose ends have two labels goes into a forest, the larger label becomes the smaller, and the columns of its vertices are turned over by the row's ring; then the columns of the ends of each
 -- row of the forest differ in that row alone. A row whose ends have one label stays out, and its ring, the row and the rows in which the columns of its ends differ, are rows that close rings.
--- Defines: ring_of, relabelled, turned, own, Held.
+-- Defines: relabelled, turned, own, Held.
 -- Main statements: held_start, held-ring, held-join (what the visits keep), held-group (labels are groups), held-closes (the rings are the rows that close one). Assumes nothing.
 use Prim.Native.Nat.{ℕ, zero, suc, ◌+◌, ◌≤◌, ◌<◌}
 use borrow.Author.Tests.{eqb-true, eq-eqb, ne_eqb}
@@ -15,14 +15,11 @@ use Rattle.districts_theory.proofs.Walks.{Through, around-or-through}
 use Rattle.graph_theory.proofs.Reach.{Joins, rightward, leftward, walk-then, walk-back, walk-over-more, walk-one-side, joined-walk, walk-joined}
 use Rattle.graph_theory.specs.Graph.{Graph, Sound, Inside, Walk, stay, ahead, back, joined}
 use Rattle.graph_theory.specs.Meaning.{Vertex}
+use Rattle.groups_theory.proofs.Rings.{ring_of, Less}
 use Rattle.groups_theory.specs.Groups.{group_of, closes_ring}
 use Rattle.rowset.proofs.Laws.{clash, refuted, put_same, put_other, put_keeps, put-cases, take_out-other, take_out-in, uppermost-is, sum-ext, count-put, count-take_out, count-empty, count-full, xor_self, xor-swap, xor-false, false-xor, xor-false-same}
 use Rattle.rowset.proofs.Members.{same_truth, put_all, either-in, in_either}
 use Rattle.rowset.specs.Sets.{empty, either, one_of, put, take_out, count}
-
--- the ring of row f: the rows in which the columns of its ends differ, with f itself
-unfoldable pub ring_of : Graph → (ℕ → ℕ → Bool) → ℕ → ℕ → Bool
-ring_of g P f = put (one_of (P (g.a f)) (P (g.b f))) f
 
 -- the labels with y in place of x
 unfoldable pub relabelled : (ℕ → ℕ) → (x y : ℕ) → ℕ → ℕ
@@ -176,7 +173,7 @@ module _ (g : Graph) (ok : Sound g) where
         }
 
     -- a row whose ends c and d have two labels goes into the forest: the larger label becomes the smaller, and the columns of its vertices are turned over
-    module _ (i : ℕ) (row : g.rows i ≡ true) (new : S i ≡ false) (c d : ℕ) (joins : Joins g i c d) (less : L c < L d) where
+    module _ (i : ℕ) (row : g.rows i ≡ true) (new : S i ≡ false) (c d : ℕ) (joins : Joins g i c d) (less : Less L c d) where
       abbrev y : ℕ
       y = L c
 
