@@ -23,12 +23,6 @@ if [ $# = 3 ] && [ "$(printf '%s\n' "${together[@]:${#doors[@]}}" "${alone[@]}" 
     failed=1
 fi
 
-# Parts that the gate leaves out, while it has a reason to.
-for name in ${LEFT_OUT:-}; do
-    echo "left out: $name"
-    read -ra together < <(printf '%s\n' "${together[@]}" | grep -vx "$name" | paste -sd ' ')
-done
-
 # Makes parts, some at a time. The seconds of a part, by the clock and of processors, are there when
 # it has ended; no shell of a test is in the background, where signals are ignored.
 made='TIMEFORMAT="%R %U %S"

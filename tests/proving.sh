@@ -120,7 +120,8 @@ holds 'gate: over what was there' [ $? = 0 ]
 holds 'gate: a copy' [ "$(paste -sd ' ' "$at/asked")" = 'ci ci outside' ]
 rmdir "$at/crates/slice/out"
 
-# A crate that is not proved fails it, and so does a wrong program that could not be tried.
+# A crate that is not proved fails it, and so does a wrong program that could not be tried or met a
+# limit of the prover, which is no verdict.
 touch "$at/fault"
 gate
 holds 'gate: not proved' [ $? != 0 ]
@@ -132,6 +133,9 @@ gate
 holds 'gate: a bad wrong program' [ $? != 0 ]
 holds 'gate: nothing after a bad one' [ "$(cat "$at/asked")" = ci ]
 holds 'gate: bad ones counted' [ "$(last)" = "$((lines + crates + 100)) passed, 3 failed" ]
+echo ', 2 of them only by a limit' >"$at/bad"
+gate
+holds 'gate: wrong programs at a limit' [ "$(last)" = "$((lines + crates + 100)) passed, 2 failed" ]
 rm "$at/bad"
 
 # A record without the proved code fails it; one of other sources does so before anything is proved.
@@ -148,23 +152,5 @@ holds 'gate: told of it' says 'record: the sources of slice differ; make sums wr
 holds 'gate: told at once' fails grep -q . "$at/asked"
 holds 'gate: the last line' [ "$(last)" = "$crates passed, 1 failed" ]
 restore
-
-# Crates that are out of the tree for now.
-LEFT=PORTING-LEFT.md
-touch "$at/$LEFT"
-printf ' ' >>"$at/crates/slice/src/lib.rt"
-gate
-holds 'left: no record' [ $? = 0 ]
-holds 'left: told' says "^left out while $LEFT stands: the record"
-holds 'left: the archives' [ "$(written)" = "$(sorted "${exports[@]}")" ]
-sed -i '/^cst_door /d' "$at/crates.txt"
-gate
-holds 'left: no archive' [ $? = 0 ]
-holds 'left: no archive written' [ ! -s "$at/written" ]
-holds 'left: format' [ "$(last)" = "$((crates - 1 + 200)) passed, 0 failed" ]
-holds 'left: no archive told' says "^left out while $LEFT stands: the archives, and what needs them (no cst_door)$"
-rm "$at/$LEFT"
-gate
-holds 'left: without the page' [ $? != 0 ]
 
 count
