@@ -19,7 +19,7 @@ int main(void) {
     signal(SIGPIPE, SIG_IGN);
     uint32_t status = star_run_verdict(buffer, sizeof buffer);
     if (status < 3 && close(STDOUT_FILENO) != 0) {
-        perror("the line is not printed whole");
+        perror("verdict: the line is not printed whole");
         return 5;
     }
     return (int)status;
