@@ -8,7 +8,7 @@ PAGE_SOURCES := page/build.mjs page/page.html $(wildcard page/*.css page/src/*.j
 # What the console and the page draw by.
 PICTURE := console/places.h $(addprefix console/,$(addsuffix .c,places shapes bends coordinates))
 
-$(PAGE_MODULE): page/module.sh $(ARCHIVES) $(wildcard page/freestanding/*.h) include/star.c include/star.h $(PICTURE)
+$(PAGE_MODULE): page/module.sh $(ARCHIVES) $(wildcard page/freestanding/*.[ch]) include/star.c include/star.h $(PICTURE)
 	@mkdir -p $(BUILD)
 	sh page/module.sh $@ $(OBJECTS) $(DOORS)
 

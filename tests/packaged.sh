@@ -28,7 +28,7 @@ taken() { # the members of the package's library are the objects that the copy h
     done
 }
 
-# Compiled without a proof, and of the record.
+# Of the record, and with no sign of a proof made here.
 packaged
 holds 'record: packaged' [ $? = 0 ]
 holds 'record: told' says 'the same bytes as the one that the gate proved with this kit'
