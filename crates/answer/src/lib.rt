@@ -85,10 +85,8 @@ pub fn write_answer(answer: &mut [u8], x: Record)
         return;
     }
     let bytes = bytes_of(x);
-    let mut i = 0;
-    while i < 16 {
+    for i in 0..16 {
         answer[i] = bytes[i];
-        i += 1;
     }
 }
 

@@ -126,8 +126,7 @@ fn pick_best(
         out: 0,
         saving: 0,
     };
-    let mut i = 0;
-    while i < m {
+    for i in 0..m {
         kept = look(
             own,
             &weights,
@@ -139,7 +138,6 @@ fn pick_best(
             kept,
             i + 1,
         );
-        i += 1;
     }
     kept
 }

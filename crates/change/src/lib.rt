@@ -78,11 +78,9 @@ fn keep_rows(column: &mut [u8], x: Slice, width: usize) -> usize
     ensures { (result ≡ length (kept_rows (component x) width column.old)) × (take result column.new ≡ kept_rows (component x) width column.old) × (length column.new ≡ length column.old) }
 {
     let mut kept = 0;
-    let mut b = 0;
-    while b < column.len() {
+    for b in 0..column.len() {
         column[kept] = column[b];
         kept += slice::get(x, b / width + 1) as usize;
-        b += 1;
     }
     kept
 }
@@ -92,10 +90,8 @@ pub(crate) fn clear_from(column: &mut [u8], from: usize)
     requires { from ≤ length column.old }
     ensures { column.new ≡ take from column.old ++ replicate (length column.old - from) 0 }
 {
-    let mut k = from;
-    while k < column.len() {
+    for k in from..column.len() {
         column[k] = 0;
-        k += 1;
     }
 }
 
@@ -114,13 +110,11 @@ fn number_rows(numbers: &mut [u32], x: Slice, packing: bool)
     ensures { numbers.new ≡ numbers_from (cond packing (new_number (component x)) (own_number (component x))) 0 max_rows }
 {
     let mut count = 0;
-    let mut i = 0;
-    while i < SIZE {
+    for i in 0..SIZE {
         let used = slice::get(x, i + 1);
         count += used as usize;
         let position = choose(packing, count, i + 1);
         numbers[i] = choose(used, position, 0) as u32;
-        i += 1;
     }
 }
 
@@ -129,10 +123,8 @@ pub(crate) fn write_bytes(column: &mut [u8], start: usize, bytes: &[u8])
     requires { start + length bytes.now ≤ length column.old }
     ensures { column.new ≡ take start column.old ++ bytes.now ++ drop (start + length bytes.now) column.old }
 {
-    let mut k = 0;
-    while k < bytes.len() {
+    for k in 0..bytes.len() {
         column[start + k] = bytes[k];
-        k += 1;
     }
 }
 

@@ -63,10 +63,8 @@ pub fn claim_rows(mark: &[u8], rows: Slice) -> Slice
 pub fn write_claim(mark: &mut [u8], rows: Slice)
     ensures { mark.new ≡ claim_of (length mark.old) (component rows) }
 {
-    let mut i = 0;
-    while i < mark.len() {
+    for i in 0..mark.len() {
         mark[i] = slice_words::row_in(&rows.words, i + 1) as u8;
-        i += 1;
     }
 }
 
@@ -111,10 +109,8 @@ pub fn weigh(weight: &[u8], rows: Slice) -> u64
     ensures { from_bits 64 result ≡ total size (λ i. signed (in_row 4 weight.now i)) (component rows) }
 {
     let mut sums = Sums { above: 0, taken: 0 };
-    let mut k = 0;
-    while k < slice::WORDS {
+    for k in 0..slice::WORDS {
         sums = add_word(weight, rows.words[k], k, sums);
-        k += 1;
     }
     std::num::wrapping_sub_u64(sums.above, sums.taken)
 }

@@ -29,10 +29,8 @@ pub fn put_text(out: &mut [u8], at: usize, text: &[u8]) -> usize
     ensures { Puts out.old at text.now out.new result }
 {
     let mut next = if at < out.len() { at } else { out.len() };
-    let mut i = 0;
-    while i < text.len() {
+    for i in 0..text.len() {
         next = put_byte(out, next, text[i]);
-        i += 1;
     }
     next
 }

@@ -68,10 +68,8 @@ fn write_dearest(
 )
     ensures { rows.new ≡ numbers_of (length rows.old) (dearest_in (integers_after weights.now first) own.now left.now right.now (component unmarked)) }
 {
-    let mut j = 0;
-    while j < rows.len() {
+    for j in 0..rows.len() {
         rows[j] = dearest_at(own, weights, first, left, right, &unmarked.words, j + 1) as u32;
-        j += 1;
     }
 }
 

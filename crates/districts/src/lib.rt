@@ -38,14 +38,12 @@ fn ends_rise(ends: &[u32], m: usize) -> bool
     ensures { result ≡ rises_to m 0 ends.now }
 {
     let mut p: usize = 0;
-    let mut j = 0;
-    while j < ends.len() {
+    for j in 0..ends.len() {
         let q = ends[j] as usize;
         if q <= p {
             return false;
         }
         p = q;
-        j += 1;
     }
     p == m
 }

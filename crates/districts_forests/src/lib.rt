@@ -48,8 +48,7 @@ fn grow_forest(
     let mut lefts = [0u64; WORDS];
     let mut rights = [0u64; WORDS];
     let mut chosen = [0u64; WORDS];
-    let mut k = 0;
-    while k < n {
+    for k in 0..n {
         let i = next_row(
             weight,
             first,
@@ -67,7 +66,6 @@ fn grow_forest(
         search_join::match_ends(&mut rights, right_ends, u, &rows.words, words);
         search_join::match_ends(&mut rights, right_ends, v, &rows.words, words);
         slice_words::put_row(&mut chosen, i);
-        k += 1;
     }
     Slice { words: chosen }
 }
@@ -116,14 +114,12 @@ fn forests_in(
 {
     let mut all = Slice::empty();
     let mut p: usize = 0;
-    let mut j = 0;
-    while j < ends.len() {
+    for j in 0..ends.len() {
         let q = ends[j] as usize;
         let run = run_of(rows, p, q);
         let forest = forest_of(left, right, left_ends, right_ends, weight, first, run, n);
         all = slice::or(all, forest);
         p = q;
-        j += 1;
     }
     all
 }

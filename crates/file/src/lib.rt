@@ -116,10 +116,8 @@ fn largest_of(column: &[u8]) -> u32
     ensures { result ≡ largest column.now }
 {
     let mut most = 0;
-    let mut k = 0;
-    while k < column.len() {
+    for k in 0..column.len() {
         most = larger(most, number_of(column[k]));
-        k += 1;
     }
     most
 }
@@ -149,10 +147,8 @@ fn fill(column: &mut [u8], own: &[u8], count: usize)
     requires { (count ≤ length column.old) × (count ≤ length own.now) }
     ensures { column.new ≡ take count own.now ++ drop count column.old }
 {
-    let mut k = 0;
-    while k < count {
+    for k in 0..count {
         column[k] = own[k];
-        k += 1;
     }
 }
 
@@ -161,10 +157,8 @@ fn fill_numbers(column: &mut [u32], own: &[u32], count: usize)
     requires { (count ≤ length column.old) × (count ≤ length own.now) }
     ensures { column.new ≡ take count own.now ++ drop count column.old }
 {
-    let mut k = 0;
-    while k < count {
+    for k in 0..count {
         column[k] = own[k];
-        k += 1;
     }
 }
 

@@ -97,12 +97,10 @@ pub extern "C" fn star_line_of(text: &[u8], place: u32) -> u64
     let end = bytes_before(place, text.len());
     let mut line = 1;
     let mut after = false;
-    let mut k = 0;
-    while k < end {
+    for k in 0..end {
         let b = text[k];
         line = line_after(after, line, b);
         after = b == 13;
-        k += 1;
     }
     line
 }

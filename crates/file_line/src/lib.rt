@@ -93,14 +93,12 @@ fn is_name(w: &[u8]) -> bool
     ensures { result ≡ is_name w.now }
 {
     let mut letter = false;
-    let mut i = 0;
-    while i < w.len() {
+    for i in 0..w.len() {
         let b = w[i];
         if !of_names(b) {
             return false;
         }
         letter = either(letter, is_letter(b));
-        i += 1;
     }
     letter
 }

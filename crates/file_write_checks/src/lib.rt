@@ -106,14 +106,12 @@ fn bytes_fit(s: u8, w: &[u8]) -> bool
     ensures { result ≡ (any_letter w.now && all_fit s w.now) }
 {
     let mut letter = false;
-    let mut i = 0;
-    while i < w.len() {
+    for i in 0..w.len() {
         let b = w[i];
         if !byte_fits(s, b) {
             return false;
         }
         letter = either(letter, is_letter(b));
-        i += 1;
     }
     letter
 }
@@ -404,10 +402,8 @@ fn longest(starts: &[u32], ends: &[u32]) -> usize
     ensures { (result ≡ longest_to starts.now ends.now (length starts.now)) × (result ≤ 4294967295) }
 {
     let mut most = 3;
-    let mut k = 0;
-    while k < starts.len() {
+    for k in 0..starts.len() {
         most = larger(most, span(entry(starts, k), entry(ends, k)));
-        k += 1;
     }
     most
 }

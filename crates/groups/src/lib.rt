@@ -161,10 +161,8 @@ fn own_labels(labels: &mut [u8])
     requires { length labels.old ≤ 255 }
     ensures { labels.new ≡ labels_from 0 (length labels.old) }
 {
-    let mut i = 0;
-    while i < labels.len() {
+    for i in 0..labels.len() {
         labels[i] = (i + 1) as u8;
-        i += 1;
     }
 }
 

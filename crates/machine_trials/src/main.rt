@@ -87,10 +87,8 @@ fn sample(i: usize) -> u8 {
 }
 
 fn fill(column: &mut [u8]) {
-    let mut i = 0;
-    while i < column.len() {
+    for i in 0..column.len() {
         column[i] = sample(i);
-        i += 1;
     }
 }
 
@@ -114,12 +112,10 @@ fn handed_in(i: usize, taken: usize, four: bool) -> u32 {
 // How many rows are as they were handed in.
 fn rows_right(t: Table, taken: usize, four: bool) -> usize {
     let mut right: usize = 0;
-    let mut i: usize = 0;
-    while i < 1024 {
+    for i in 0usize..1024 {
         if table::row_of(t, i + 1) == handed_in(i, taken, four) {
             right += 1;
         }
-        i += 1;
     }
     right
 }
@@ -207,10 +203,8 @@ fn small() -> Table {
 // The rows 1 to 6.
 fn six() -> Slice {
     let mut x = slice::clr();
-    let mut i: usize = 1;
-    while i <= 6 {
+    for i in 1usize..=6 {
         x = slice::put(x, i, true);
-        i += 1;
     }
     x
 }

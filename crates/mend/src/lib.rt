@@ -147,8 +147,7 @@ fn swap_rows(
     ensures few { result.count ≤ 3 * m }
 {
     let mut s = start;
-    let mut i = 0;
-    while i < m {
+    for i in 0..m {
         s = swap_at(
             n,
             used,
@@ -162,7 +161,6 @@ fn swap_rows(
             list,
             own,
         );
-        i += 1;
     }
     s
 }
@@ -231,10 +229,8 @@ fn mark_of(old: u8, used: Slice, marks: Slice, i: usize) -> u8
 fn write_marks(mark: &mut [u8], used: Slice, marks: Slice)
     ensures { mark.new ≡ redrawn (component used) (component marks) mark.old }
 {
-    let mut i = 0;
-    while i < mark.len() {
+    for i in 0..mark.len() {
         mark[i] = mark_of(mark[i], used, marks, i + 1);
-        i += 1;
     }
 }
 

@@ -66,10 +66,8 @@ fn rename(z: u8, x: u8, y: u8) -> u8
 pub fn rename_all(labels: &mut [u8], x: u8, y: u8)
     ensures { labels.new ≡ all_renamed labels.old x y }
 {
-    let mut i = 0;
-    while i < labels.len() {
+    for i in 0..labels.len() {
         labels[i] = rename(labels[i], x, y);
-        i += 1;
     }
 }
 
@@ -78,10 +76,8 @@ fn own_labels() -> Labels
     ensures { result.labels ≡ labels_from 0 255 }
 {
     let mut labels = [0u8; VERTICES];
-    let mut i = 0;
-    while i < VERTICES {
+    for i in 0..VERTICES {
         labels[i] = (i + 1) as u8;
-        i += 1;
     }
     Labels { labels: labels }
 }
@@ -143,10 +139,8 @@ fn drop_rings(
         marks: marked,
         count: 0,
     };
-    let mut i = 0;
-    while i < m {
+    for i in 0..m {
         s = drop_at(left, right, i + 1, s, list, labels);
-        i += 1;
     }
     s
 }
@@ -193,10 +187,8 @@ fn close_gaps(
     ensures few { result.count ≤ 2 * m }
 {
     let mut s = start;
-    let mut i = 0;
-    while i < m {
+    for i in 0..m {
         s = add_at(used, left, right, i + 1, s, list, labels);
-        i += 1;
     }
     s
 }

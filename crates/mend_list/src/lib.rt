@@ -45,10 +45,8 @@ fn store(records: &mut [Record], k: usize, r: Record)
 fn store_all(records: &mut [Record], list: &[u32; NUMBERS], count: usize)
     ensures { records.new ≡ stored_to count list.now records.old }
 {
-    let mut k = 0;
-    while k < count {
+    for k in 0..count {
         store(records, k, record_at(list, k));
-        k += 1;
     }
 }
 

@@ -110,8 +110,7 @@ fn grow_from(
     let mut lefts = start.lefts.words;
     let mut rights = start.rights.words;
     let mut chosen = start.chosen.words;
-    let mut k = 2;
-    while k < n {
+    for k in 2..n {
         let i = cheapest(
             weight,
             first,
@@ -128,7 +127,6 @@ fn grow_from(
         search_join::match_ends(&mut lefts, left_ends, far, &rows.words, words);
         search_join::match_ends(&mut rights, right_ends, far, &rows.words, words);
         slice_words::put_row(&mut chosen, i);
-        k += 1;
     }
     Grown {
         whole: true,

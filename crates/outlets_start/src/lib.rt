@@ -97,8 +97,7 @@ fn grow(
     search_join::match_ends(&mut y, right_ends, b, &rows.words, words);
     let mut chosen = [0u64; WORDS];
     slice_words::put_row(&mut chosen, i);
-    let mut k = 2;
-    while k < n {
+    for k in 2..n {
         let crossing = slice::xor(Slice { words: x }, Slice { words: y });
         let j = preferred(weights, first, crossing, at);
         if j == 0 {
@@ -108,7 +107,6 @@ fn grow(
         search_join::match_ends(&mut x, left_ends, far, &rows.words, words);
         search_join::match_ends(&mut y, right_ends, far, &rows.words, words);
         slice_words::put_row(&mut chosen, j);
-        k += 1;
     }
     Started {
         whole: true,

@@ -144,12 +144,10 @@ fn find_all(
     ensures cost { let x = given_of left.now right.now weight.now weights.now first (component at) in
         cost.new ≡ filled (component rows) (costs x own.now) 0 cost.old }
 {
-    let mut j = 0;
-    while j < out.len() {
+    for j in 0..out.len() {
         if slice::get(rows, j + 1) {
             find(left, right, weight, weights, first, at, own, j, out, cost);
         }
-        j += 1;
     }
 }
 
@@ -172,12 +170,10 @@ fn find_again(
     ensures cost { let x = given_of left.now right.now weight.now weights.now first (component at) in
         cost.new ≡ filled (kept_as out.old e) (costs x own.now) 0 cost.old }
 {
-    let mut j = 0;
-    while j < out.len() {
+    for j in 0..out.len() {
         if out[j] == e {
             find(left, right, weight, weights, first, at, own, j, out, cost);
         }
-        j += 1;
     }
 }
 
@@ -196,10 +192,8 @@ fn cheapest(cost: &[u64]) -> usize
     ensures { result ≡ (cheapest_to (number_of cost.now) (length cost.now)).row }
 {
     let mut best = Pick { row: 0, cost: NONE };
-    let mut j = 0;
-    while j < cost.len() {
+    for j in 0..cost.len() {
         best = cheaper(best, j + 1, cost[j]);
-        j += 1;
     }
     best.row
 }
@@ -244,8 +238,7 @@ fn exchanges(
         own.new ≡ (last_state x n k (record { chosen = component tree; own = own.old; out = out.old; cost = cost.old })).own }
 {
     let mut chosen = tree;
-    let mut i = 0;
-    while i < k {
+    for i in 0..k {
         let f = cheapest(cost);
         if f == 0 {
             return Reduced {
@@ -256,7 +249,6 @@ fn exchanges(
         let e = number_at(out, f - 1);
         chosen = swap(n, left, right, e, f, chosen, own);
         find_again(left, right, weight, weights, first, at, own, e, out, cost);
-        i += 1;
     }
     Reduced {
         whole: true,

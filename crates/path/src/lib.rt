@@ -37,10 +37,8 @@ fn fill(r: &mut [u64], own: &[u64], count: usize)
     requires { (count ≤ length r.old) × (count ≤ length own.now) }
     ensures { r.new ≡ take count own.now ++ drop count r.old }
 {
-    let mut k = 0;
-    while k < count {
+    for k in 0..count {
         r[k] = own[k];
-        k += 1;
     }
 }
 

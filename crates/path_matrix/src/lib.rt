@@ -24,10 +24,8 @@ pub fn read_column(matrix: &[u64], j: usize) -> Slice
         return r;
     }
     let from = WORDS * (j - 1);
-    let mut k = 0;
-    while k < WORDS {
+    for k in 0..WORDS {
         r.words[k] = matrix[from + k];
-        k += 1;
     }
     r
 }
@@ -43,10 +41,8 @@ pub fn write_column(matrix: &mut [u64], j: usize, x: Slice)
         return;
     }
     let to = WORDS * (j - 1);
-    let mut k = 0;
-    while k < WORDS {
+    for k in 0..WORDS {
         matrix[to + k] = x.words[k];
-        k += 1;
     }
 }
 

@@ -55,8 +55,7 @@ fn walk_found(
     search_join::match_ends(&mut rights, right_ends, s, rows, words);
     let mut reached = [0u64; WORDS];
     slice_words::put_row(&mut reached, s as usize);
-    let mut k = 0;
-    while k < n {
+    for k in 0..n {
         let i = slice_words::first_difference(&lefts, &rights);
         if i == 0 {
             return Slice { words: reached };
@@ -70,7 +69,6 @@ fn walk_found(
         search_join::match_ends(&mut lefts, left_ends, v, rows, words);
         search_join::match_ends(&mut rights, right_ends, v, rows, words);
         slice_words::put_row(&mut reached, v as usize);
-        k += 1;
     }
     Slice { words: reached }
 }

@@ -62,10 +62,8 @@ fn copied(weight: &[u8]) -> Prices
     ensures sized { length result.bytes ≡ 4096 }
 {
     let mut bytes = [0u8; PRICES];
-    let mut i = 0;
-    while i < weight.len() {
+    for i in 0..weight.len() {
         bytes[i] = weight[i];
-        i += 1;
     }
     Prices { bytes: bytes }
 }

@@ -76,9 +76,7 @@ pub fn write_quote(answer: &mut [u8], x: QuoteRecord)
         return;
     }
     let bytes = quote_bytes(x);
-    let mut i = 0;
-    while i < LENGTH {
+    for i in 0..LENGTH {
         answer[i] = bytes[i];
-        i += 1;
     }
 }

@@ -33,10 +33,8 @@ pub fn columns_of(t: Table) -> Stored
     ensures { matrix_column result.columns ≡ column t }
 {
     let mut columns = [0u64; ALL];
-    let mut j = 0;
-    while j < WIDTH {
+    for j in 0..WIDTH {
         path_matrix::write_column(&mut columns, j + 1, t.columns[j]);
-        j += 1;
     }
     Stored { columns: columns }
 }
@@ -106,9 +104,7 @@ pub fn keep_rows(z: &mut [u64], columns: &[u64], j: usize, b: bool, used: usize)
     let from = COLUMN * j;
     let most = if z.len() < COLUMN { z.len() } else { COLUMN };
     let words = if used < most { used } else { most };
-    let mut k = 0;
-    while k < words {
+    for k in 0..words {
         z[k] = z[k] & (columns[from + k] ^ mask);
-        k += 1;
     }
 }

@@ -29,10 +29,8 @@ fn joined_rows(z: &[u64], columns: &[u64], j: usize, b: bool, used: usize) -> u6
     let mask = search_columns::mask_of(b);
     let from = COLUMN * j;
     let mut joined: u64 = 0;
-    let mut k = 0;
-    while k < used {
+    for k in 0..used {
         joined = joined | (z[k] & (columns[from + k] ^ mask));
-        k += 1;
     }
     joined
 }
@@ -43,8 +41,7 @@ fn single(z: &[u64], used: usize) -> bool
     ensures { result ≡ true → AtMostOne (rows_of z.now) }
 {
     let mut found: u64 = 0;
-    let mut k = 0;
-    while k < used {
+    for k in 0..used {
         let w = z[k];
         if w != 0 {
             if found != 0 {
@@ -52,7 +49,6 @@ fn single(z: &[u64], used: usize) -> bool
             }
             found = w;
         }
-        k += 1;
     }
     if found == 0 {
         return false;
@@ -93,13 +89,11 @@ fn extreme_from(columns: &[u64], first: usize, high: bool, x: Slice) -> Slice
 {
     let mut z = x.words;
     let used = search_columns::words_used(&z);
-    let mut j = first;
-    while j < WIDTH {
+    for j in first..WIDTH {
         let b = wanted(first, high, j);
         if prefer_rows(&mut z, columns, j, b, used) {
             return Slice { words: z };
         }
-        j += 1;
     }
     Slice { words: z }
 }

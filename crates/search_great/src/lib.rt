@@ -69,10 +69,8 @@ fn grow_rows(g: &mut [u64], z: &[u64], columns: &[u64], j: usize, b: bool, used:
 {
     let mask = search_columns::mask_of(b);
     let from = COLUMN * j;
-    let mut k = 0;
-    while k < used {
+    for k in 0..used {
         g[k] = g[k] | (z[k] & (columns[from + k] ^ mask));
-        k += 1;
     }
 }
 
@@ -109,8 +107,7 @@ pub fn great_from(columns: &[u64], first: usize, w: u32, x: Slice) -> Compared
     let four = in_four(columns, &x.words);
     let mut g = [0u64; COLUMN];
     let mut z = x.words;
-    let mut j = first;
-    while j < WIDTH {
+    for j in first..WIDTH {
         if slice::zero(Slice { words: z }) {
             return Compared {
                 greater: Slice { words: g },
@@ -128,7 +125,6 @@ pub fn great_from(columns: &[u64], first: usize, w: u32, x: Slice) -> Compared
             g = more.words;
             z = rest.words;
         }
-        j += 1;
     }
     Compared {
         greater: Slice { words: g },

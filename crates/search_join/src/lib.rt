@@ -48,10 +48,8 @@ fn none_in(z: &[u64], used: usize) -> bool
     ensures some { result ≡ false → any size (rows_of z.now) ≡ true }
 {
     let mut joined: u64 = 0;
-    let mut k = 0;
-    while k < used {
+    for k in 0..used {
         joined = joined | z[k];
-        k += 1;
     }
     joined == 0
 }
@@ -73,10 +71,8 @@ fn put_words(x: &mut [u64], z: &[u64; COLUMN], used: usize)
     requires { (length x.old ≡ 16) × (used ≤ 16) × NonePast used (rows_of z.now) }
     ensures { rows_of x.new ≡ either (rows_of x.old) (rows_of z.now) }
 {
-    let mut i = 0;
-    while i < used {
+    for i in 0..used {
         x[i] = x[i] | z[i];
-        i += 1;
     }
 }
 

@@ -10,11 +10,9 @@ pub fn without(x: Slice, y: Slice) -> Slice
     ensures { component result ≡ without (component x) (component y) }
 {
     let mut r = x;
-    let mut k = 0;
-    while k < WORDS {
+    for k in 0..WORDS {
         let w = r.words[k];
         r.words[k] = w ^ (w & y.words[k]);
-        k += 1;
     }
     r
 }

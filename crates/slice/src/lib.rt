@@ -107,10 +107,8 @@ pub fn and(x: Slice, y: Slice) -> Slice
     ensures { component result ≡ both (component x) (component y) }
 {
     let mut r = x;
-    let mut k = 0;
-    while k < WORDS {
+    for k in 0..WORDS {
         r.words[k] = r.words[k] & y.words[k];
-        k += 1;
     }
     r
 }
@@ -120,10 +118,8 @@ pub fn or(x: Slice, y: Slice) -> Slice
     ensures { component result ≡ either (component x) (component y) }
 {
     let mut r = x;
-    let mut k = 0;
-    while k < WORDS {
+    for k in 0..WORDS {
         r.words[k] = r.words[k] | y.words[k];
-        k += 1;
     }
     r
 }
@@ -133,10 +129,8 @@ pub fn xor(x: Slice, y: Slice) -> Slice
     ensures { component result ≡ one_of (component x) (component y) }
 {
     let mut r = x;
-    let mut k = 0;
-    while k < WORDS {
+    for k in 0..WORDS {
         r.words[k] = r.words[k] ^ y.words[k];
-        k += 1;
     }
     r
 }
@@ -152,14 +146,12 @@ pub fn not(x: Slice) -> Slice
 pub fn fnd(x: Slice) -> usize
     ensures { result ≡ uppermost size (component x) }
 {
-    let mut k = 0;
-    while k < WORDS {
+    for k in 0..WORDS {
         let w = x.words[k];
         if w != 0 {
             let z = u64::trailing_zeros(w) as usize;
             return BITS * k + z + 1;
         }
-        k += 1;
     }
     0
 }
@@ -169,10 +161,8 @@ pub fn some(x: Slice) -> bool
     ensures { result ≡ any size (component x) }
 {
     let mut joined: u64 = 0;
-    let mut k = 0;
-    while k < WORDS {
+    for k in 0..WORDS {
         joined = joined | x.words[k];
-        k += 1;
     }
     joined != 0
 }

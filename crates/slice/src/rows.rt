@@ -24,10 +24,8 @@ pub fn rows_to(m: usize) -> Slice
     ensures { component result ≡ both (up_to size) (up_to m) }
 {
     let mut r = Slice::EMPTY;
-    let mut k = 0;
-    while k < WORDS {
+    for k in 0..WORDS {
         r.words[k] = first_word(m, k);
-        k += 1;
     }
     r
 }

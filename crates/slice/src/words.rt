@@ -20,10 +20,8 @@ pub fn rows_in_use(words: &[u64]) -> Slice
     ensures { component result ≡ in_words words.now }
 {
     let mut r = Slice::EMPTY;
-    let mut k = 0;
-    while k < WORDS {
+    for k in 0..WORDS {
         r.words[k] = word_at(words, k);
-        k += 1;
     }
     r
 }

@@ -62,10 +62,8 @@ fn gather(column: &[u8], stride: usize, offset: usize) -> Blocks
     let mut blocks = Blocks {
         blocks: [0; BLOCKS],
     };
-    let mut b = 0;
-    while b < BLOCKS {
+    for b in 0..BLOCKS {
         blocks.blocks[b] = block(column, stride, offset, 64 * (b / 8) + b % 8);
-        b += 1;
     }
     blocks
 }
@@ -90,10 +88,8 @@ fn plane(blocks: &[u64], k: usize) -> Slice
     ensures { (q : ℕ) → q < 16 → get_or result.words q 0 ≡ word_of blocks.now k q }
 {
     let mut x = Slice::EMPTY;
-    let mut q = 0;
-    while q < WORDS {
+    for q in 0..WORDS {
         x.words[q] = word(blocks, k, q);
-        q += 1;
     }
     x
 }
@@ -107,10 +103,8 @@ pub fn split(column: &[u8], stride: u32, offset: u32) -> Planes
     let mut p = Planes {
         planes: [Slice::EMPTY; 8],
     };
-    let mut k = 0;
-    while k < 8 {
+    for k in 0..8 {
         p.planes[k] = plane(&blocks.blocks, k);
-        k += 1;
     }
     p
 }

@@ -102,13 +102,11 @@ pub fn last_row(words: &[u64; slice::WORDS]) -> usize
 pub fn first_difference(x: &[u64; slice::WORDS], y: &[u64; slice::WORDS]) -> usize
     ensures { result ≡ uppermost size (one_of (in_words x.now) (in_words y.now)) }
 {
-    let mut k = 0;
-    while k < slice::WORDS {
+    for k in 0..slice::WORDS {
         let w = x[k] ^ y[k];
         if w != 0 {
             return BITS * k + lowest(w) + 1;
         }
-        k += 1;
     }
     0
 }

@@ -86,13 +86,11 @@ fn checked(rt: &impl Print, x: Checked) -> io::Result<()> {
 
 // The marked rows of a claim, each after a blank.
 fn rows(rt: &impl Print, mark: &[u8]) -> io::Result<()> {
-    let mut i: usize = 0;
-    while i < mark.len() {
+    for i in 0usize..mark.len() {
         if mark[i] == 1 {
             text(rt, b" ")?;
             number(rt, (i + 1) as u64)?;
         }
-        i += 1;
     }
     Ok(())
 }
@@ -135,12 +133,10 @@ fn positions(rt: &impl Print, x: Slice) -> io::Result<()> {
 
 // The columns of a path matrix.
 fn columns(rt: &impl Print, matrix: &[u64], n: usize) -> io::Result<()> {
-    let mut j: usize = 0;
-    while j < n {
+    for j in 0usize..n {
         text(rt, b" {")?;
         positions(rt, path_matrix::read_column(matrix, j + 1))?;
         text(rt, b" }")?;
-        j += 1;
     }
     text(rt, b"\n")
 }
@@ -148,12 +144,10 @@ fn columns(rt: &impl Print, matrix: &[u64], n: usize) -> io::Result<()> {
 // How many words of R are 7, as they were beforehand.
 fn sevens(matrix: &[u64]) -> usize {
     let mut k: usize = 0;
-    let mut i: usize = 0;
-    while i < matrix.len() {
+    for i in 0usize..matrix.len() {
         if matrix[i] == 7 {
             k += 1;
         }
-        i += 1;
     }
     k
 }
@@ -241,12 +235,10 @@ fn bytes(s: &[u8], from: usize, room: &mut [u8]) -> Column
     let head = read(s, from);
     let count = least(head.value as usize, room.len());
     let mut at = head.next;
-    let mut i: usize = 0;
-    while i < count {
+    for i in 0usize..count {
         let r = read(s, at);
         room[i] = (r.value % 256) as u8;
         at = r.next;
-        i += 1;
     }
     Column { count, next: at }
 }
@@ -271,12 +263,10 @@ fn prices(s: &[u8], from: usize, room: &mut [u8]) -> Column
     let head = read(s, from);
     let count = least(head.value as usize, room.len() / 4);
     let mut at = head.next;
-    let mut i: usize = 0;
-    while i < count {
+    for i in 0usize..count {
         let r = read(s, at);
         store(room, i, r.value);
         at = r.next;
-        i += 1;
     }
     Column {
         count: 4 * count,
@@ -406,15 +396,13 @@ fn name(rt: &impl Print, s: &[u8], from: usize) -> io::Result<usize> {
 
 fn trials(rt: &impl Print, s: &[u8]) -> io::Result<()> {
     let mut at: usize = 0;
-    let mut k: usize = 0;
-    while k < 1000 {
+    for k in 0usize..1000 {
         let next = digit_or_letter(s, at);
         if s.len() <= next {
             return Ok(());
         }
         let colon = name(rt, s, next)?;
         at = numbers(rt, s, colon)?;
-        k += 1;
     }
     Ok(())
 }

@@ -104,10 +104,8 @@ fn fill(column: &mut [u8], own: &[u8], count: usize)
     requires { (count ≤ length column.old) × (count ≤ length own.now) }
     ensures { column.new ≡ take count own.now ++ drop count column.old }
 {
-    let mut k = 0;
-    while k < count {
+    for k in 0..count {
         column[k] = own[k];
-        k += 1;
     }
 }
 

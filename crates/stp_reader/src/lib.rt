@@ -266,10 +266,8 @@ fn place(step: Step) -> usize
 fn clear_from(column: &mut [u8], from: usize)
     ensures { column.new ≡ take from column.old ++ replicate (length column.old - from) 0 }
 {
-    let mut k = from;
-    while k < column.len() {
+    for k in from..column.len() {
         column[k] = 0;
-        k += 1;
     }
 }
 

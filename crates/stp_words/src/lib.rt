@@ -156,12 +156,10 @@ pub fn same(word: &[u8], name: &[u8]) -> bool
     if word.len() != name.len() {
         return false;
     }
-    let mut i = 0;
-    while i < word.len() {
+    for i in 0..word.len() {
         if upper(word[i]) != upper(name[i]) {
             return false;
         }
-        i += 1;
     }
     true
 }
@@ -186,8 +184,7 @@ fn digits_to(word: &[u8], from: usize, most: u32) -> Number
     }
     let top = most as u64;
     let mut v: u64 = 0;
-    let mut i = from;
-    while i < word.len() {
+    for i in from..word.len() {
         let b = word[i];
         if !is_digit(b) {
             return Number::Missing;
@@ -196,7 +193,6 @@ fn digits_to(word: &[u8], from: usize, most: u32) -> Number
         if top < v {
             return Number::Missing;
         }
-        i += 1;
     }
     Number::Value(v as u32)
 }

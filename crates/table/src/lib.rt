@@ -63,10 +63,8 @@ pub fn row_of(t: Table, i: usize) -> u32
     ensures { result ≡ row t i }
 {
     let mut r: u32 = 0;
-    let mut j = 0;
-    while j < WIDTH {
+    for j in 0..WIDTH {
         r = r * 2 + slice::get(t.columns[j], i) as u32;
-        j += 1;
     }
     r
 }
@@ -77,15 +75,13 @@ fn append(t: Table, p: Planes) -> Table
     ensures { row result ≡ (λ i. 256 * row t i + byte_in p i) }
 {
     let mut r = t;
-    let mut j = 0;
-    while j < WIDTH {
+    for j in 0..WIDTH {
         let x = if j < UPPER {
             t.columns[j + 8]
         } else {
             p.planes[WIDTH - 1 - j]
         };
         r.columns[j] = x;
-        j += 1;
     }
     r
 }

@@ -194,12 +194,10 @@ fn first_bad_row(n: u32, m: usize, rows: Slice, left: &[u8], right: &[u8]) -> us
     requires { m ≤ max_rows }
     ensures { result ≡ uppermost m (wrong_row (component rows) n left.now right.now) }
 {
-    let mut i = 1;
-    while i <= m {
+    for i in 1..=m {
         if wrong_row(n, &rows.words, left, right, i) {
             return i;
         }
-        i += 1;
     }
     0
 }
@@ -222,8 +220,7 @@ fn first_repeat_in(above: &mut [u64], m: usize, rows: Slice, left: &[u8], right:
     requires room { Room (component rows) left.now right.now m (length above.old) }
     ensures { result ≡ uppermost m (repeats_above (component rows) left.now right.now) }
 {
-    let mut row = 1;
-    while row <= m {
+    for row in 1..=m {
         if repeated(
             above,
             &rows.words,
@@ -233,7 +230,6 @@ fn first_repeat_in(above: &mut [u64], m: usize, rows: Slice, left: &[u8], right:
         ) {
             return row;
         }
-        row += 1;
     }
     0
 }
@@ -308,12 +304,10 @@ fn first_bad_mark(m: usize, rows: Slice, mark: &[u8]) -> usize
     requires { m ≤ max_rows }
     ensures { result ≡ uppermost m (wrong_byte (component rows) mark.now) }
 {
-    let mut at = 1;
-    while at <= m {
+    for at in 1..=m {
         if wrong_mark(&rows.words, mark, at) {
             return at;
         }
-        at += 1;
     }
     0
 }
@@ -354,12 +348,10 @@ fn count_marks(m: usize, rows: Slice, mark: &[u8]) -> usize
     ensures { result ≡ count m (both (component rows) (marked mark.now)) }
 {
     let mut marks = 0;
-    let mut i = 0;
-    while i < m {
+    for i in 0..m {
         if marked_row(&rows.words, mark, i + 1) {
             marks += 1;
         }
-        i += 1;
     }
     marks
 }

@@ -55,10 +55,8 @@ fn whole(column: &[u8], stride: usize, offset: usize, q: usize, rows: usize) -> 
     ensures size { length result.blocks ≡ 8 }
 {
     let mut blocks = Blocks { blocks: [0; 8] };
-    let mut g = 0;
-    while g < 8 {
+    for g in 0..8 {
         blocks.blocks[g] = block(column, stride, offset, BITS * q + g, 8);
-        g += 1;
     }
     blocks
 }
@@ -71,10 +69,8 @@ fn part(column: &[u8], stride: usize, offset: usize, q: usize, rows: usize) -> B
 {
     let left = rows - BITS * q;
     let mut blocks = Blocks { blocks: [0; 8] };
-    let mut g = 0;
-    while g < 8 {
+    for g in 0..8 {
         blocks.blocks[g] = block(column, stride, offset, BITS * q + g, (left + 7 - g) / 8);
-        g += 1;
     }
     blocks
 }
@@ -111,10 +107,8 @@ fn put_planes(columns: &mut [u64; ALL], blocks: &[u64], at: usize)
     requires { (length blocks.now ≡ 8) × (112 ≤ at) × (at < 512) }
     ensures { columns.new ≡ with_planes columns.old at (λ k. word_of blocks.now k 0) 8 }
 {
-    let mut k = 0;
-    while k < 8 {
+    for k in 0..8 {
         columns[at - COLUMN * k] = word(blocks, k);
-        k += 1;
     }
 }
 
@@ -123,11 +117,9 @@ fn put_bytes(columns: &mut [u64; ALL], column: &[u8], stride: usize, q: usize, r
     requires { Rows column.now stride rows × (64 * q < rows) }
     ensures { columns.new ≡ with_bytes columns.old column.now stride q stride }
 {
-    let mut offset = 0;
-    while offset < stride {
+    for offset in 0..stride {
         let b = gather(column, stride, offset, q, rows);
         put_planes(columns, &b.blocks, COLUMN * (WIDTH - 1 - 8 * offset) + q);
-        offset += 1;
     }
 }
 

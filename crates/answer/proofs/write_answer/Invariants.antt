@@ -7,6 +7,3 @@ use Rattle.answer.proofs.write_answer.Given as goal
 
 abbrev pub invariant-loop-i : goal.invariant-loop-i
 invariant-loop-i l = (l.i ≤ 16) × (length l.answer ≡ 16) × (length l.bytes ≡ 16) × (take l.i l.answer ≡ take l.i l.bytes)
-
-abbrev pub decreases-loop-i : goal.decreases-loop-i
-decreases-loop-i l = 16 - l.i

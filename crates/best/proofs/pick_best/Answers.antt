@@ -1,4 +1,4 @@
--- `best::pick_best` meets its contract. The loop's invariant: the columns hold the weights, and what is kept is what the rows before row i + 1 give. The measure is how many rows are left. Assumes nothing.
+-- `best::pick_best` meets its contract. The loop's invariant: the columns hold the weights, and what is kept is what the rows before row i + 1 give. Assumes nothing.
 use Prim.Native.Nat.{ℕ, suc, ◌+◌}
 use borrow.Author.Rules.{rules}
 use mathlib.Core.Bool.{Bool}

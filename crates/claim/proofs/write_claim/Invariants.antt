@@ -1,5 +1,5 @@
 -- `claim::write_claim` meets its contract. The loop's invariant: the bytes before index i are those of the claim, and the length is as it was.
--- The measure is what is left of the column. Assumes nothing.
+-- Assumes nothing.
 use Rattle.std.proofs.Common.{◌≡◌, ℕ, ◌+◌, ◌-◌, Bool, cond, length}
 use Rattle.slice.specs.Slices.{component}
 use Rattle.slice.proofs.Stores.{Filled}
@@ -11,6 +11,3 @@ Byte S k b = b ≡ cond (S (k + 1)) 1 0
 
 abbrev pub invariant-loop-i : goal.invariant-loop-i
 invariant-loop-i l = Filled (length l.initial.mark) 0 (Byte (component l.rows)) l.mark l.i
-
-abbrev pub decreases-loop-i : goal.decreases-loop-i
-decreases-loop-i l = length l.initial.mark - l.i

@@ -1,4 +1,4 @@
--- `detour::write_dearest` meets its contract. The loop's invariant: the numbers before place j are written. The measure is what is left of the column. Assumes nothing.
+-- `detour::write_dearest` meets its contract. The loop's invariant: the numbers before place j are written. Assumes nothing.
 use Prim.Native.Nat.{ℕ, ◌+◌}
 use borrow.Author.Rules.{rules}
 use mathlib.Core.Bool.{Bool}

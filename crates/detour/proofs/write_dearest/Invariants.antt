@@ -1,4 +1,4 @@
--- `detour::write_dearest` meets its contract. The loop's invariant: the numbers before place j are written. The measure is what is left of the column. Assumes nothing.
+-- `detour::write_dearest` meets its contract. The loop's invariant: the numbers before place j are written. Assumes nothing.
 use Prim.Native.Nat.{◌+◌, ◌-◌}
 use lib.ListN.{length}
 use mathlib.Core.Path.{◌≡◌}
@@ -10,6 +10,3 @@ use Rattle.detour.proofs.write_dearest.Given as goal
 
 abbrev pub invariant-loop-j : goal.invariant-loop-j
 invariant-loop-j l = Filled (length l.initial.rows) 0 (λ k x. x ≡ dearest_in (integers_after l.weights l.first) l.own l.left l.right (component l.unmarked) (k + 1)) l.rows l.j
-
-abbrev pub decreases-loop-j : goal.decreases-loop-j
-decreases-loop-j l = length l.initial.rows - l.j

@@ -8,6 +8,3 @@ use Rattle.districts.proofs.ends_rise.Given as goal
 
 abbrev pub invariant-loop-j : goal.invariant-loop-j
 invariant-loop-j l = (l.j ≤ length l.ends) × (rises_to l.m l.p (drop l.j l.ends) ≡ rises_to l.m 0 l.ends)
-
-abbrev pub decreases-loop-j : goal.decreases-loop-j
-decreases-loop-j l = length l.ends - l.j

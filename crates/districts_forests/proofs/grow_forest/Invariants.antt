@@ -1,5 +1,4 @@
--- `districts_forests::grow_forest` meets its contract. The loop's invariant: the slices are those of the forest after k rows. The measure is the number of rows left.
--- Assumes nothing.
+-- `districts_forests::grow_forest` meets its contract. The loop's invariant: the slices are those of the forest after k rows. -- Assumes nothing.
 use Prim.Native.Nat.{◌≤◌, ◌<◌, ◌-◌, ◌^◌}
 use Rattle.districts_forests.proofs.Growing.{Grew}
 use Rattle.search_columns.specs.Steps.Integers.{integers_after}
@@ -12,6 +11,3 @@ abbrev pub invariant-loop-k : goal.invariant-loop-k
 invariant-loop-k l =
     (l.k ≤ l.n) × Grew (graph_by (loaded_row 1 l.left) (loaded_row 1 l.right) l.rows l.n) (integers_after l.weight l.first) l.k (in_words l.lefts) (in_words l.rights) (in_words l.chosen)
     × (l.n < 2 ^ 64)
-
-abbrev pub decreases-loop-k : goal.decreases-loop-k
-decreases-loop-k l = l.n - l.k

@@ -1,5 +1,4 @@
--- `file::fill` meets its contract. The loop's invariant: the first `k` bytes are copied. The measure is what is left of the count.
--- Assumes nothing.
+-- `file::fill` meets its contract. The loop's invariant: the first `k` bytes are copied. -- Assumes nothing.
 use Prim.Native.Nat.{◌-◌, ◌≤◌}
 use lib.ListN.{length}
 use lib.Seq.{paste}
@@ -8,6 +7,3 @@ use Rattle.file.proofs.fill.Given as goal
 
 abbrev pub invariant-loop-k : goal.invariant-loop-k
 invariant-loop-k l = (l.k ≤ l.count) × (l.column ≡ paste l.initial.column 0 l.own l.k) × (length l.column ≡ length l.initial.column)
-
-abbrev pub decreases-loop-k : goal.decreases-loop-k
-decreases-loop-k l = l.count - l.k

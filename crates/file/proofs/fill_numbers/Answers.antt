@@ -1,5 +1,4 @@
--- `file::fill_numbers` meets its contract. The loop's invariant: the first `k` numbers are copied. The measure is what is left of the count.
--- Assumes nothing.
+-- `file::fill_numbers` meets its contract. The loop's invariant: the first `k` numbers are copied. -- Assumes nothing.
 use Prim.Native.Nat.{ℕ, ◌+◌, ◌-◌, ◌<◌}
 use lib.ListN.{length, get_or, set, length-set}
 use lib.Seq.{paste, paste-zero, paste-suc}

@@ -7,6 +7,3 @@ use Rattle.file.proofs.largest_of.Given as goal
 
 abbrev pub invariant-loop-k : goal.invariant-loop-k
 invariant-loop-k l = (l.k ≤ length l.column) × (largest l.column ≡ max l.most (largest (drop l.k l.column)))
-
-abbrev pub decreases-loop-k : goal.decreases-loop-k
-decreases-loop-k l = length l.column - l.k

@@ -8,6 +8,3 @@ use Rattle.file_line.proofs.is_name.Given as goal
 
 abbrev pub invariant-loop-i : goal.invariant-loop-i
 invariant-loop-i l = (l.i ≤ length l.w) × (((l.letter || any_letter (drop l.i l.w)) && all_of_names (drop l.i l.w)) ≡ is_name l.w)
-
-abbrev pub decreases-loop-i : goal.decreases-loop-i
-decreases-loop-i l = length l.w - l.i

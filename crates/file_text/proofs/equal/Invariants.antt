@@ -7,6 +7,3 @@ use Rattle.file_text.proofs.equal.Given as goal
 
 abbrev pub invariant-loop-i : goal.invariant-loop-i
 invariant-loop-i l = (l.i ≤ length l.a) × (equal (drop l.i l.a) (drop l.i l.b) ≡ equal l.a l.b)
-
-abbrev pub decreases-loop-i : goal.decreases-loop-i
-decreases-loop-i l = length l.a - l.i

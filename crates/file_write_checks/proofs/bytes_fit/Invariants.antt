@@ -9,6 +9,3 @@ use Rattle.file_write_checks.proofs.bytes_fit.Given as goal
 
 abbrev pub invariant-loop-i : goal.invariant-loop-i
 invariant-loop-i l = (l.i ≤ length l.w) × (((l.letter || any_letter (drop l.i l.w)) && all_fit l.s (drop l.i l.w)) ≡ (any_letter l.w && all_fit l.s l.w))
-
-abbrev pub decreases-loop-i : goal.decreases-loop-i
-decreases-loop-i l = length l.w - l.i

@@ -7,6 +7,3 @@ use Rattle.file_write_checks.proofs.longest.Given as goal
 
 abbrev pub invariant-loop-k : goal.invariant-loop-k
 invariant-loop-k l = (l.k ≤ length l.starts) × (l.most ≡ longest_to l.starts l.ends l.k) × (l.most ≤ 4294967295)
-
-abbrev pub decreases-loop-k : goal.decreases-loop-k
-decreases-loop-k l = length l.starts - l.k

@@ -1,5 +1,4 @@
--- `groups::own_labels` meets its contract. The loop's invariant: the first i labels are 1 to i. The measure is what is left of the vertices.
--- Assumes nothing.
+-- `groups::own_labels` meets its contract. The loop's invariant: the first i labels are 1 to i. -- Assumes nothing.
 use mathlib.Core.Path.{refl}
 use native.Mathlib.Omega.{arith}
 use Rattle.mend_groups.proofs.Groups.{labels-whole}

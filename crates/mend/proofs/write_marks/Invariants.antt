@@ -1,5 +1,4 @@
--- `mend::write_marks` meets its contract. The loop's invariant: the first i bytes are those of the mended claim, and the others as they were. The measure is what is left of the column.
--- Assumes nothing.
+-- `mend::write_marks` meets its contract. The loop's invariant: the first i bytes are those of the mended claim, and the others as they were. -- Assumes nothing.
 use Prim.Native.Nat.{◌-◌}
 use lib.ListN.{length}
 use Rattle.slice.specs.Slices.{component}
@@ -8,6 +7,3 @@ use Rattle.mend.proofs.write_marks.Given as goal
 
 abbrev pub invariant-loop-i : goal.invariant-loop-i
 invariant-loop-i l = Redrawing l.initial.mark (component l.used) (component l.marks) l.mark l.i
-
-abbrev pub decreases-loop-i : goal.decreases-loop-i
-decreases-loop-i l = length l.initial.mark - l.i

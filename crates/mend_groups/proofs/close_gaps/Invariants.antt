@@ -1,5 +1,4 @@
--- `mend_groups::close_gaps` meets its contract. The loop's invariant: the state is that after i rows, and there are at most m + i records. The measure is what is left of the rows.
--- Assumes nothing.
+-- `mend_groups::close_gaps` meets its contract. The loop's invariant: the state is that after i rows, and there are at most m + i records. -- Assumes nothing.
 use Prim.Native.Nat.{◌+◌, ◌-◌, ◌*◌, ◌≤◌}
 use lib.ListN.{length}
 use mathlib.Core.Path.{◌≡◌}
@@ -9,6 +8,3 @@ use Rattle.mend_groups.proofs.close_gaps.Given as goal
 
 abbrev pub invariant-loop-i : goal.invariant-loop-i
 invariant-loop-i l = (l.i ≤ l.m) × (l.m ≤ size) × (6 * l.m ≤ length l.list) × (l.s.count ≤ l.m + l.i) × (state_of l.s l.list l.labels ≡ visits (add_at (component l.used) l.left l.right) l.i (state_of l.initial.s l.initial.list l.initial.labels)) × (length l.list ≡ length l.initial.list) × (length l.labels ≡ length l.initial.labels)
-
-abbrev pub decreases-loop-i : goal.decreases-loop-i
-decreases-loop-i l = l.m - l.i

@@ -1,5 +1,4 @@
--- `mend_groups::own_labels` meets its contract. The loop's invariant: the first i labels are 1 to i. The measure is what is left of the vertices.
--- Assumes nothing.
+-- `mend_groups::own_labels` meets its contract. The loop's invariant: the first i labels are 1 to i. -- Assumes nothing.
 use borrow.Author.Rules.{rules}
 use mathlib.Core.Path.{refl}
 use native.Mathlib.Omega.{arith}

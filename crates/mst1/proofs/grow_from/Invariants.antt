@@ -1,5 +1,5 @@
 -- `mst1::grow_from` meets its contract. The loop's invariant: the slices are those of the fragment of k vertices.
--- The measure is the number of vertices left. Assumes nothing.
+-- Assumes nothing.
 use Prim.Native.Nat.{◌≤◌, ◌<◌, ◌-◌, ◌^◌}
 use mathlib.Core.Path.{◌≡◌}
 use lib.ListN.{length}
@@ -14,6 +14,3 @@ invariant-loop-k l =
     (l.k ≤ l.n) × Reached (graph_by (loaded_row 1 l.left) (loaded_row 1 l.right) l.rows l.n) (integers_after l.weight l.first) l.k (in_words l.lefts) (in_words l.rights) (in_words l.chosen)
     × (l.n < 2 ^ 64)
     × (length l.lefts ≡ 16)
-
-abbrev pub decreases-loop-k : goal.decreases-loop-k
-decreases-loop-k l = l.n - l.k

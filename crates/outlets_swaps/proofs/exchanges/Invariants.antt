@@ -1,4 +1,4 @@
--- `outlets_swaps::exchanges` meets its contract. The loop's invariant: the rows, the path matrix and what is kept are those after i exchanges. The measure is what is left of the exchanges. Assumes nothing.
+-- `outlets_swaps::exchanges` meets its contract. The loop's invariant: the rows, the path matrix and what is kept are those after i exchanges. Assumes nothing.
 use Prim.Native.Nat.{◌-◌, ◌≤◌, ◌<◌, ◌^◌}
 use lib.ListN.{length}
 use mathlib.Core.Option.{some}
@@ -12,6 +12,3 @@ abbrev pub invariant-loop-i : goal.invariant-loop-i
 invariant-loop-i l =
     (l.i ≤ l.k) × (l.k < 2 ^ 64) × (length l.own ≡ length l.initial.own) × (length l.out ≡ length l.initial.out) × (length l.cost ≡ length l.initial.cost) × (length l.initial.out ≡ length l.initial.cost)
     × (exchanges_to (given_of l.left l.right l.weight l.weights l.first (component l.at)) l.n l.i (record { chosen = component l.initial.chosen; own = l.initial.own; out = l.initial.out; cost = l.initial.cost }) ≡ some (record { chosen = component l.chosen; own = l.own; out = l.out; cost = l.cost }))
-
-abbrev pub decreases-loop-i : goal.decreases-loop-i
-decreases-loop-i l = l.k - l.i

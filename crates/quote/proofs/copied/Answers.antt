@@ -1,5 +1,4 @@
--- `quote::copied` meets its contract. The loop's invariant: the first i bytes are copied, and the others are 0. The measure is what is left of the column.
--- Assumes nothing.
+-- `quote::copied` meets its contract. The loop's invariant: the first i bytes are copied, and the others are 0. -- Assumes nothing.
 use native.Mathlib.Omega.{arith}
 use Rattle.quote.proofs.Stores.{copied_none, copied_more, copied_all}
 use Rattle.quote.proofs.copied.Goals as goal

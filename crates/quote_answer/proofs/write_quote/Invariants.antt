@@ -7,6 +7,3 @@ use Rattle.quote_answer.proofs.write_quote.Given as goal
 
 abbrev pub invariant-loop-i : goal.invariant-loop-i
 invariant-loop-i l = (l.i ≤ 24) × (length l.answer ≡ 24) × (length l.bytes ≡ 24) × (take l.i l.answer ≡ take l.i l.bytes)
-
-abbrev pub decreases-loop-i : goal.decreases-loop-i
-decreases-loop-i l = 24 - l.i

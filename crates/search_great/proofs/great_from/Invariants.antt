@@ -1,5 +1,5 @@
 -- `search_great::great_from` meets its contract. The loop's invariant: z has the rows that equal v in the columns read, of which the first is turned over, and g those that are greater there; where `four` is true, z has no row past four words.
--- The measure is what is left of the columns. Assumes nothing.
+-- Assumes nothing.
 use Prim.Native.Nat.{◌-◌}
 use mathlib.Core.Bool.{true}
 use mathlib.Core.Path.{◌≡◌}
@@ -12,6 +12,3 @@ use Rattle.search_great.proofs.great_from.Given as goal
 
 abbrev pub invariant-loop-j : goal.invariant-loop-j
 invariant-loop-j l = Comparing (turned l.first (matrix_column l.columns)) l.first l.v (record { words = l.initial.z }) (record { words = l.g }) (record { words = l.z }) l.j × (l.four ≡ true → NonePast 4 (rows_of l.z)) × (length l.g ≡ 16) × (length l.z ≡ 16)
-
-abbrev pub decreases-loop-j : goal.decreases-loop-j
-decreases-loop-j l = 32 - l.j

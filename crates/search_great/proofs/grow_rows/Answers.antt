@@ -1,5 +1,5 @@
 -- `search_great::grow_rows` meets its contract. The loop's invariant: the first k words have also the rows that are kept, and the others are as they were.
--- The measure is what is left of the words. Assumes nothing.
+-- Assumes nothing.
 use Prim.Native.Nat.{◌-◌}
 use native.Mathlib.Omega.{arith}
 use Rattle.search_great.proofs.Words.{widened_none, widened_more, widened-all}

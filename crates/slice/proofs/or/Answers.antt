@@ -1,5 +1,5 @@
 -- `slice::or` meets its contract, by the law of the loop that and, or and xor share. The loop's invariant: the words below `k` are joined, and the others are those of `x`.
--- The measure is what is left of the words. Assumes nothing.
+-- Assumes nothing.
 use Prim.Native.Nat.{◌-◌}
 use mathlib.Core.Bool.{◌||◌}
 use mathlib.Core.Path.{refl}

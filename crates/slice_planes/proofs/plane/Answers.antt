@@ -1,5 +1,4 @@
--- `slice_planes::plane` meets its contract. The loop's invariant: the words before q are right. The measure is what is left of them.
--- Assumes nothing.
+-- `slice_planes::plane` meets its contract. The loop's invariant: the words before q are right. -- Assumes nothing.
 use mathlib.Core.Path.{refl}
 use Prim.Native.Nat.{◌-◌}
 use Rattle.slice.proofs.Stores.{filled_none, filled_more, filled-all}

@@ -1,5 +1,4 @@
--- `slice_planes::plane` meets its contract. The loop's invariant: the words before q are right. The measure is what is left of them.
--- Assumes nothing.
+-- `slice_planes::plane` meets its contract. The loop's invariant: the words before q are right. -- Assumes nothing.
 use mathlib.Core.Path.{◌≡◌}
 use Prim.Native.Nat.{◌-◌}
 use Rattle.slice_planes.specs.Steps.Blocks.{word_of}
@@ -8,6 +7,3 @@ use Rattle.slice_planes.proofs.plane.Given as goal
 
 abbrev pub invariant-loop-q : goal.invariant-loop-q
 invariant-loop-q l = Filled 16 0 (λ q w. w ≡ word_of l.blocks l.k q) l.x.words l.q
-
-abbrev pub decreases-loop-q : goal.decreases-loop-q
-decreases-loop-q l = 16 - l.q

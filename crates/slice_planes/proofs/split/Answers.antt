@@ -1,5 +1,4 @@
--- `slice_planes::split` meets its contract. The loop's invariant: the planes before k are right. The measure is what is left of them.
--- Assumes nothing.
+-- `slice_planes::split` meets its contract. The loop's invariant: the planes before k are right. -- Assumes nothing.
 use mathlib.Core.Path.{refl}
 use Prim.Native.Nat.{◌-◌}
 use native.Mathlib.Omega.{arith}

@@ -1,5 +1,4 @@
--- `slice_planes::split` meets its contract. The loop's invariant: the planes before k are right. The measure is what is left of them.
--- Assumes nothing.
+-- `slice_planes::split` meets its contract. The loop's invariant: the planes before k are right. -- Assumes nothing.
 use mathlib.Core.Path.{◌≡◌}
 use Prim.Native.Nat.{◌-◌}
 use Rattle.slice_planes.specs.Planes.{blank, bit_plane}
@@ -9,6 +8,3 @@ use Rattle.slice_planes.proofs.split.Given as goal
 
 abbrev pub invariant-loop-k : goal.invariant-loop-k
 invariant-loop-k l = Filled 8 blank (λ k x. component x ≡ bit_plane l.column l.stride l.offset k) l.p.planes l.k
-
-abbrev pub decreases-loop-k : goal.decreases-loop-k
-decreases-loop-k l = 8 - l.k

@@ -1,5 +1,4 @@
--- `slice_words::first_difference` meets its contract. The loop's invariant: the slices have the same components in the words below `k`. The measure is what is left of the words.
--- Assumes nothing.
+-- `slice_words::first_difference` meets its contract. The loop's invariant: the slices have the same components in the words below `k`. -- Assumes nothing.
 use Prim.Native.Nat.{◌-◌}
 use mathlib.Core.Path.{sym}
 use native.Mathlib.Omega.{arith}

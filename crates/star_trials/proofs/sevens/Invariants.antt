@@ -4,6 +4,3 @@ use Rattle.star_trials.proofs.sevens.Given as goal
 
 abbrev pub invariant-loop-i : goal.invariant-loop-i
 invariant-loop-i l = (l.k ≤ l.i) × (l.i ≤ length l.matrix)
-
-abbrev pub decreases-loop-i : goal.decreases-loop-i
-decreases-loop-i l = length l.matrix - l.i

@@ -1,5 +1,4 @@
--- `stp::fill` meets its contract. The loop's invariant: the first `k` bytes are copied. The measure is what is left of the count.
--- Assumes nothing.
+-- `stp::fill` meets its contract. The loop's invariant: the first `k` bytes are copied. -- Assumes nothing.
 use Prim.Native.Nat.{ℕ, ◌+◌, ◌<◌}
 use lib.ListN.{length, get_or, set, length-set}
 use lib.Seq.{paste, paste-zero, paste-suc}

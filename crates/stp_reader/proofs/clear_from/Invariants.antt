@@ -14,6 +14,3 @@ pub record Clearing (l : List ℕ) (start : ℕ) (column : List ℕ) (k : ℕ) :
 
 abbrev pub invariant-loop-k : goal.invariant-loop-k
 invariant-loop-k l = Clearing l.initial.column l.from l.column l.k
-
-abbrev pub decreases-loop-k : goal.decreases-loop-k
-decreases-loop-k l = length l.initial.column - l.k

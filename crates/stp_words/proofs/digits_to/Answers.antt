@@ -1,5 +1,5 @@
 -- `stp_words::digits_to` meets its contract. The loop's invariant: v is not too large, and what is left of the word, read after v, decides.
--- The measure is what is left of the word. Assumes nothing.
+-- Assumes nothing.
 use Prim.Native.Nat.{◌+◌, ◌-◌, ◌*◌, ◌≤◌}
 use lib.ListN.{get_or, drop}
 use mathlib.Core.Bool.{true}

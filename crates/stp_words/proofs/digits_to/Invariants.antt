@@ -1,5 +1,5 @@
 -- `stp_words::digits_to` meets its contract. The loop's invariant: v is not too large, and what is left of the word, read after v, decides.
--- The measure is what is left of the word. Assumes nothing.
+-- Assumes nothing.
 use Prim.Native.Nat.{◌-◌, ◌≤◌}
 use lib.ListN.{length, drop}
 use mathlib.Core.Path.{◌≡◌}
@@ -9,6 +9,3 @@ use Rattle.stp_words.proofs.digits_to.Given as goal
 
 abbrev pub invariant-loop-i : goal.invariant-loop-i
 invariant-loop-i l = (l.i ≤ length l.word) × (l.v ≤ l.most) × (reading l.most l.v (drop l.i l.word) ≡ digits_to l.most (drop l.from l.word))
-
-abbrev pub decreases-loop-i : goal.decreases-loop-i
-decreases-loop-i l = length l.word - l.i

@@ -1,5 +1,4 @@
--- `stp_words::same` meets its contract. The loop's invariant: what is left of the word and the name decides. The measure is what is left of the word.
--- Assumes nothing.
+-- `stp_words::same` meets its contract. The loop's invariant: what is left of the word and the name decides. -- Assumes nothing.
 use mathlib.Core.Path.{refl, sym, ◌∙◌}
 use native.Mathlib.Omega.{arith}
 use Rattle.stp_words.proofs.Loops.{same-lengths, same_more, same_stop, same-last}

@@ -1,5 +1,4 @@
--- `table::append` meets its contract. The loop's invariant: the columns before index j are right. The measure is what is left of them.
--- Assumes nothing.
+-- `table::append` meets its contract. The loop's invariant: the columns before index j are right. -- Assumes nothing.
 use Prim.Native.Nat.{◌-◌}
 use mathlib.Core.Logic.{⊎_elim}
 use mathlib.Core.Path.{◌≡◌, ap, ◌∙◌}

@@ -1,5 +1,4 @@
--- `table::append` meets its contract. The loop's invariant: the columns before index j are right. The measure is what is left of them.
--- Assumes nothing.
+-- `table::append` meets its contract. The loop's invariant: the columns before index j are right. -- Assumes nothing.
 use Prim.Native.Nat.{suc, ◌-◌}
 use mathlib.Core.Path.{◌≡◌}
 use Rattle.slice.specs.Slices.{component}
@@ -10,6 +9,3 @@ use Rattle.table.proofs.append.Given as goal
 
 abbrev pub invariant-loop-j : goal.invariant-loop-j
 invariant-loop-j l = Filled 32 blank (λ j x. component x ≡ moved l.t l.p (suc j)) l.r.columns l.j
-
-abbrev pub decreases-loop-j : goal.decreases-loop-j
-decreases-loop-j l = 32 - l.j

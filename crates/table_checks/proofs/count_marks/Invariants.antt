@@ -1,5 +1,5 @@
 -- `table_checks::count_marks` meets its contract. The loop's invariant: `marks` is the number of marked rows of 1 to i.
--- The measure is what is left of the rows. Assumes nothing.
+-- Assumes nothing.
 use Prim.Native.Nat.{◌-◌, ◌≤◌}
 use mathlib.Core.Path.{◌≡◌}
 use Rattle.rowset.specs.Sets.{both, count}
@@ -9,6 +9,3 @@ use Rattle.table_checks.proofs.count_marks.Given as goal
 
 abbrev pub invariant-loop-i : goal.invariant-loop-i
 invariant-loop-i l = (l.i ≤ l.m) × (l.marks ≡ count l.i (both (in_words l.rows.words) (marked l.mark)))
-
-abbrev pub decreases-loop-i : goal.decreases-loop-i
-decreases-loop-i l = l.m - l.i

@@ -1,5 +1,5 @@
 -- `table_checks::first_bad_mark` meets its contract. The loop's invariant: none of the rows above row `at` has a byte other than 0 and 1.
--- The measure is what is left of the rows. Assumes nothing.
+-- Assumes nothing.
 use native.Mathlib.Omega.{arith}
 use Rattle.slice_words.proofs.Laws.{component-words}
 use Rattle.table_checks.proofs.Laws.{passed_none, passed-more, passed-found, passed-all}

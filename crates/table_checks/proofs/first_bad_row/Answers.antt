@@ -1,5 +1,5 @@
 -- `table_checks::first_bad_row` meets its contract. The loop's invariant: none of the rows above row i has wrong ends.
--- The measure is what is left of the rows. Assumes nothing.
+-- Assumes nothing.
 use native.Mathlib.Omega.{arith}
 use Rattle.slice_words.proofs.Laws.{component-words}
 use Rattle.table_checks.proofs.Laws.{passed_none, passed-more, passed-found, passed-all}

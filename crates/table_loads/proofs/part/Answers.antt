@@ -1,5 +1,4 @@
--- `table_loads::part` meets its contract. The loop's invariant: the blocks before g are right. The measure is what is left of them.
--- Assumes nothing.
+-- `table_loads::part` meets its contract. The loop's invariant: the blocks before g are right. -- Assumes nothing.
 use mathlib.Core.Path.{refl, ◌∙◌}
 use Prim.Native.Nat.{◌-◌}
 use native.Mathlib.Omega.{arith}

@@ -1,5 +1,4 @@
--- `table_loads::part` meets its contract. The loop's invariant: the blocks before g are right. The measure is what is left of them.
--- Assumes nothing.
+-- `table_loads::part` meets its contract. The loop's invariant: the blocks before g are right. -- Assumes nothing.
 use mathlib.Core.Path.{◌≡◌}
 use Prim.Native.Nat.{◌+◌, ◌*◌, ◌-◌}
 use Rattle.slice_planes.specs.Steps.Blocks.{block_of}
@@ -9,6 +8,3 @@ use Rattle.table_loads.proofs.part.Given as goal
 
 abbrev pub invariant-loop-g : goal.invariant-loop-g
 invariant-loop-g l = Rest l.rows l.q l.left × Filled 8 0 (λ g w. w ≡ block_of l.column l.stride l.offset (64 * l.q + g)) l.blocks.blocks l.g
-
-abbrev pub decreases-loop-g : goal.decreases-loop-g
-decreases-loop-g l = 8 - l.g

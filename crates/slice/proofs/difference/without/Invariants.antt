@@ -1,5 +1,5 @@
 -- `slice::difference::without` meets its contract, by the law of the loop that and, or and xor share. The loop's invariant: the words below `k` are joined, and the others are those of `x`.
--- The measure is what is left of the words. Assumes nothing.
+-- Assumes nothing.
 use Prim.Native.Nat.{ℕ, ◌-◌}
 use lib.Bits.{bit_and, bit_xor}
 use Rattle.slice.proofs.Merge.{Merged}
@@ -11,6 +11,3 @@ and_not a b = bit_xor a (bit_and a b)
 
 abbrev pub invariant-loop-k : goal.invariant-loop-k
 invariant-loop-k l = Merged and_not l.initial.r l.y l.r l.k
-
-abbrev pub decreases-loop-k : goal.decreases-loop-k
-decreases-loop-k l = 16 - l.k

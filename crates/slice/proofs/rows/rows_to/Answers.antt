@@ -1,5 +1,5 @@
 -- `slice::rows::rows_to` meets its contract. The loop's invariant: the bits of the words below `k` are those of positions 1 to m.
--- The measure is what is left of the words. Assumes nothing.
+-- Assumes nothing.
 use Prim.Native.Nat.{ℕ, ◌+◌, ◌-◌, ◌*◌, ◌<◌}
 use borrow.Author.Tests.{le-leb}
 use borrow.Author.Rules.{rules}

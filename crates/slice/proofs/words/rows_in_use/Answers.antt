@@ -1,5 +1,4 @@
--- `slice::words::rows_in_use` meets its contract. The loop's invariant: the first `k` words of `r` are those lent. The measure is what is left of the words.
--- Assumes nothing.
+-- `slice::words::rows_in_use` meets its contract. The loop's invariant: the first `k` words of `r` are those lent. -- Assumes nothing.
 use Prim.Native.Nat.{◌-◌}
 use borrow.Author.Rules.{rules}
 use native.Mathlib.Omega.{arith}

