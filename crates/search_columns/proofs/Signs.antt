@@ -1,7 +1,7 @@
 -- The integers that rows hold in bit columns, and the numbers that GREAT, MIN and MAX compare: those of the columns of which the first is turned over.
 -- Main statements: an integer and its number differ by the same for all rows (integer-parts); the rows kept at the column that is turned over are those with the other bit (kept-turned).
 -- Assumes nothing.
-use Prim.Native.Nat.{ℕ, zero, suc, ◌+◌, ◌-◌, ◌*◌, ◌^◌, ◌≤◌, ◌<◌}
+use Prim.Native.Nat.{ℕ, zero, suc, ◌+◌, ◌*◌, ◌^◌, ◌≤◌, ◌<◌}
 use borrow.Author.Tests.{lt-ltb, le-ltb, eq-eqb, ne_eqb}
 use lib.Dec.{eqb, eqb-suc-suc}
 use lib.IntN.{pos}

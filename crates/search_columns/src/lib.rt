@@ -36,7 +36,7 @@ pub fn columns_of(t: Table) -> Stored
     for j in 0..WIDTH {
         path_matrix::write_column(&mut columns, j + 1, t.columns[j]);
     }
-    Stored { columns: columns }
+    Stored { columns }
 }
 
 // Component i of column j.
@@ -75,12 +75,10 @@ pub fn keep(z: Slice, c: Slice, b: bool) -> Slice
 pub fn words_used(z: &[u64; COLUMN]) -> usize
     ensures { (result ≤ 16) × NonePast result (rows_of z.now) × (result ≡ words_used z.now) }
 {
-    let mut k = COLUMN;
-    while 0 < k {
-        if z[k - 1] != 0 {
-            return (k + 3) / 4 * 4;
+    for k in (0..COLUMN).rev() {
+        if z[k] != 0 {
+            return (k + 1).next_multiple_of(4);
         }
-        k -= 1;
     }
     0
 }
@@ -89,7 +87,7 @@ pub fn words_used(z: &[u64; COLUMN]) -> usize
 pub fn mask_of(b: bool) -> u64
     ensures { result ≡ mask b }
 {
-    if b { 0 } else { 18446744073709551615 }
+    if b { 0 } else { u64::MAX }
 }
 
 // Of the rows of z in its first words, as many as `used` says, only those whose bit in column j + 1 is b stay. Where there is no such column nothing changes.
@@ -102,9 +100,8 @@ pub fn keep_rows(z: &mut [u64], columns: &[u64], j: usize, b: bool, used: usize)
     }
     let mask = mask_of(b);
     let from = COLUMN * j;
-    let most = if z.len() < COLUMN { z.len() } else { COLUMN };
-    let words = if used < most { used } else { most };
+    let words = used.min(z.len()).min(COLUMN);
     for k in 0..words {
-        z[k] = z[k] & (columns[from + k] ^ mask);
+        z[k] &= columns[from + k] ^ mask;
     }
 }

@@ -1,5 +1,4 @@
--- `search_columns::columns_of_lem` meets its contract. The loop's invariant: the words have the first j columns. -- Assumes nothing.
-use Prim.Native.Nat.{◌-◌}
+-- `search_columns::columns_of` meets its contract. The loop's invariant: the words have the first j columns. Assumes nothing.
 use native.Mathlib.Numerals.{add-one}
 use native.Mathlib.Omega.{arith}
 use mathlib.Core.Path.{sym}

@@ -1,4 +1,4 @@
--- `search_columns::words_used` meets its contract. The loop's invariant: the words from k on are 0, so that the last that is not 0 is among the first k. The measure is k.
+-- `search_columns::words_used` meets its contract. The loop's invariant: the words from k on are 0, so that the last that is not 0 is among the first k.
 -- Assumes nothing.
 use Prim.Native.Nat.{ℕ, zero, suc, ◌≤◌, ◌<◌, ◌-◌}
 use borrow.Author.Tests.{eq-eqb, ne_eqb}
@@ -40,9 +40,6 @@ last_none z (suc k) l = absurd (omega arith)
 
 pub loop-k-init : goal.loop-k-init
 loop-k-init c = (omega arith, λ p h u. absurd (omega arith), refl)
-
-pub bounds-z-k : goal.bounds-z-k
-bounds-z-k c = omega (arith, c.loop-k.invariant.0)
 
 pub returns-then-z-k-ne0 : goal.returns-then-z-k-ne0
 returns-then-z-k-ne0 c =

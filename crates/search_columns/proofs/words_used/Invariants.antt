@@ -1,6 +1,6 @@
--- `search_columns::words_used` meets its contract. The loop's invariant: the words from k on are 0, so that the last that is not 0 is among the first k. The measure is k.
+-- `search_columns::words_used` meets its contract. The loop's invariant: the words from k on are 0, so that the last that is not 0 is among the first k.
 -- Assumes nothing.
-use Prim.Native.Nat.{ℕ, ◌≤◌, ◌<◌, ◌-◌}
+use Prim.Native.Nat.{ℕ, ◌≤◌, ◌<◌}
 use mathlib.Core.Path.{◌≡◌}
 use lib.ListN.{get_or}
 use Rattle.search_columns.specs.Steps.Rows.{last_word}
