@@ -1,5 +1,7 @@
-// The refusal record, and the answer of what is done or refused.
+// The refusal record, and the causes' numbers. What is done or refused is `Result<(), Refusal>`.
 #![tactic(auto)]
+
+ghost use Rattle.std.specs.Prelude.{◌≡◌};
 
 // Why a call was declined: the cause's number, and its place: a row, a vertex or a byte of a text, by the cause, and 0 where the cause has none.
 // Rows and vertices are counted from 1, the bytes of a text from 0.
@@ -9,9 +11,45 @@ pub struct Refusal {
     pub place: u32,
 }
 
-// Done, or refused with a record: what a check and MatrixPath answer.
+// The causes, by the numbers that the document gives them and that C knows: `Cause::BadEnd as u32` is 4. 5 is not used.
 #[derive(Clone, Copy)]
-pub enum Outcome {
-    Done,
-    Refused(Refusal),
+pub enum Cause {
+    BadJunctionCount = 1,
+    TooManyRows = 2,
+    BadLengths = 3,
+    BadEnd = 4,
+    BadMark = 6,
+    BadSource = 7,
+    ShortMatrix = 8,
+    BadMarkCount = 9,
+    NotJoined = 10,
+    NoNetwork = 11,
+    BadText = 12,
+    BadEdgeCount = 13,
+    BadRuns = 14,
+    RepeatedRow = 15,
+    ShortRecords = 16,
+    TableFull = 17,
+    NotInUse = 18,
+    NoOutlets = 19,
+    NotTrench = 20,
+    NotJunction = 21,
+    NotPrice = 22,
+    NotMark = 23,
+    NotCount = 24,
+    MixedNames = 25,
+    TooManyNames = 26,
+    NotStruck = 27,
+    BadSeparator = 28,
+    BadNamePlaces = 29,
+    ShortText = 30,
+}
+
+impl Refusal {
+    // The refusal with this number and place 0.
+    pub fn of(number: u32) -> Refusal
+        ensures { result ≡ record { number = number; place = 0 } }
+    {
+        Refusal { number, place: 0 }
+    }
 }

@@ -14,8 +14,9 @@ use native.Mathlib.Nat.{add-zero, eq-or-lt_of_le}
 use native.Mathlib.Numerals.{add-one}
 use native.Mathlib.Omega.{arith}
 use Rattle.refusal.specs.Outcomes.{refusal_of}
-use Rattle.refusal.specs.declared.Outcome.{Outcome}
-use Rattle.refusal.specs.declared.Outcome.TheVariants.{Done, Refused}
+use Rattle.std.specs.Prelude.{Result, Ok, Err, ⊤}
+use Rattle.std.specs.Result.{IsErrAnd}
+use Rattle.refusal.proofs.Passed.{told}
 use Rattle.refusal.specs.declared.Refusal.{Refusal}
 use Rattle.rowset.specs.Bytes.{little, in_row}
 use Rattle.rowset.specs.Sets.{up_to, both, uppermost, sum, count}
@@ -100,11 +101,17 @@ refusal-both (none ∷ xs) ys = refusal-both xs ys
 refusal-both (some r ∷ xs) ys = refl
 
 -- a check that refuses decides, and after one that does not the later causes do
-pub refused-first : (o : Outcome) (r : Refusal) (x y : Option Refusal) → o ≡ Refused r → refusal_of o ≡ x → refusal_of o ≡ or_else x y
+pub refused-first : (o : Result ⊤ Refusal) (r : Refusal) (x y : Option Refusal) → o ≡ Err r → refusal_of o ≡ x → refusal_of o ≡ or_else x y
 unfolding refusal_of or_else
 refused-first o r x y told e = rw (← e, told)
 
-pub done_next : (o : Outcome) (x y z : Option Refusal) → o ≡ Done → refusal_of o ≡ x → z ≡ y → z ≡ or_else x y
+-- the same of a refusal that `?` hands on
+pub refused-on : {A B : Type 0} {o : Result A Refusal} {e : Refusal} {x : Option Refusal} (r : Result B Refusal) (y : Option Refusal) → o ≡ Err e → IsErrAnd r (λ z. z ≡ e)
+    → refusal_of o ≡ x → refusal_of r ≡ or_else x y
+unfolding refusal_of or_else
+refused-on r y was on t = told r was on refl ∙ rw (← t, was) refl
+
+pub done_next : (o : Result ⊤ Refusal) (x y z : Option Refusal) → o ≡ Ok tt → refusal_of o ≡ x → z ≡ y → z ≡ or_else x y
 unfolding refusal_of or_else
 done_next o x y z told e h = rw (← e, told) h
 

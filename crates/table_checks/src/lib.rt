@@ -15,7 +15,7 @@ ghost use Rattle.star_spec.specs.Call.{Call, marked, table_of};
 ghost use Rattle.star_spec.specs.Refusals.{max_vertices, max_rows, cause, cause_at, or_else, refusal, bad_vertices, too_many_rows, wrong_lengths, wrong_ends, wrong_row, repeats_above, wrong_byte, bad_claim, bad_count, row_causes, table_causes};
 ghost use Rattle.table_checks.specs.Steps.Seen.{seen_pair, with_seen, Room};
 
-use refusal::{Outcome, Refusal};
+use refusal::{Cause, Refusal};
 use slice::Slice;
 
 // The largest n and m that are taken.
@@ -87,47 +87,39 @@ pub fn row_weight(weight: &[u8], i: usize) -> u32
 }
 
 // Refused with this number and place 0 where the test holds, else done.
-pub fn refused_if(test: bool, number: u32) -> Outcome
+pub fn refused_if(test: bool, number: u32) -> Result<(), Refusal>
     ensures { refusal_of result ≡ cause test number 0 }
 {
     if test {
-        return Outcome::Refused(Refusal {
-            number: number,
-            place: 0,
-        });
+        return Err(Refusal::of(number));
     }
-    Outcome::Done
+    Ok(())
 }
 
 // Refused with this number at a row or vertex, and done at 0, which says that there is none.
-pub fn refused_at(number: u32, place: u32) -> Outcome
+pub fn refused_at(number: u32, place: u32) -> Result<(), Refusal>
     ensures { refusal_of result ≡ cause_at number place }
 {
     if place == 0 {
-        return Outcome::Done;
+        return Ok(());
     }
-    Outcome::Refused(Refusal {
-        number: number,
-        place: place,
-    })
+    Err(Refusal { number, place })
 }
 
 // The first of two answers that is a refusal.
-pub fn first(a: Outcome, b: Outcome) -> Outcome
+pub fn first(a: Result<(), Refusal>, b: Result<(), Refusal>) -> Result<(), Refusal>
     ensures { refusal_of result ≡ or_else (refusal_of a) (refusal_of b) }
 {
-    let Outcome::Done = a else {
-        return a;
-    };
+    a?;
     b
 }
 
 // Causes 1 and 2, of n and the number m of rows.
-pub fn size_check(n: u32, m: usize) -> Outcome
+pub fn size_check(n: u32, m: usize) -> Result<(), Refusal>
     ensures { refusal_of result ≡ refusal (bad_vertices n ∷ too_many_rows m ∷ []) }
 {
-    let vertices = refused_if(n == 0 || MAX_VERTICES < n, 1);
-    first(vertices, refused_if(MAX_ROWS < m, 2))
+    refused_if(n == 0 || MAX_VERTICES < n, Cause::BadJunctionCount as u32)?;
+    refused_if(MAX_ROWS < m, Cause::TooManyRows as u32)
 }
 
 // Whether the rows in use were not handed in for all m rows, at most 1,024, or a column is not as long as m rows.
@@ -165,11 +157,14 @@ fn lengths_check(
     right: usize,
     weight: usize,
     mark: usize,
-) -> Outcome
+) -> Result<(), Refusal>
     requires { m ≤ max_rows }
     ensures { refusal_of result ≡ wrong_lengths whole m left right weight mark }
 {
-    refused_if(wrong_lengths(whole, m, left, right, weight, mark), 3)
+    refused_if(
+        wrong_lengths(whole, m, left, right, weight, mark),
+        Cause::BadLengths as u32,
+    )
 }
 
 // Whether an end of a row is 0 or above n, or both are equal.
@@ -194,7 +189,7 @@ fn first_bad_row(n: u32, m: usize, rows: Slice, left: &[u8], right: &[u8]) -> us
     requires { m ≤ max_rows }
     ensures { result ≡ uppermost m (wrong_row (component rows) n left.now right.now) }
 {
-    for i in 1..=m {
+    for i in 1..m + 1 {
         if wrong_row(n, &rows.words, left, right, i) {
             return i;
         }
@@ -220,7 +215,7 @@ fn first_repeat_in(above: &mut [u64], m: usize, rows: Slice, left: &[u8], right:
     requires room { Room (component rows) left.now right.now m (length above.old) }
     ensures { result ≡ uppermost m (repeats_above (component rows) left.now right.now) }
 {
-    for row in 1..=m {
+    for row in 1..m + 1 {
         if repeated(
             above,
             &rows.words,
@@ -254,17 +249,20 @@ fn first_repeat(n: u32, m: usize, rows: Slice, left: &[u8], right: &[u8]) -> usi
 }
 
 // Causes 4 and 15, of a table with at most 255 vertices and 1,024 rows, whatever its weights and claim. Repeats are sought only where no row's ends are wrong.
-fn rows_check(n: u32, m: usize, rows: Slice, left: &[u8], right: &[u8]) -> Outcome
+fn rows_check(n: u32, m: usize, rows: Slice, left: &[u8], right: &[u8]) -> Result<(), Refusal>
     requires vertices { n ≤ max_vertices }
     requires rows { m ≤ max_rows }
     ensures { let table : Bool → List ℕ → List ℕ → Call = λ whole. table_of n m whole (component rows) left.now right.now in
         ((whole : Bool) (weight mark : List ℕ) → refusal_of result ≡ refusal (row_causes (table whole weight mark))) }
 {
-    let ends = refused_at(4, first_bad_row(n, m, rows, left, right) as u32);
-    let Outcome::Done = ends else {
-        return ends;
-    };
-    refused_at(15, first_repeat(n, m, rows, left, right) as u32)
+    refused_at(
+        Cause::BadEnd as u32,
+        first_bad_row(n, m, rows, left, right) as u32,
+    )?;
+    refused_at(
+        Cause::RepeatedRow as u32,
+        first_repeat(n, m, rows, left, right) as u32,
+    )
 }
 
 // Causes 1 to 4 and 15, of a table of m rows of which those of a slice are in use.
@@ -277,16 +275,13 @@ pub fn table_check(
     right: &[u8],
     weight: &[u8],
     mark: &[u8],
-) -> Outcome
+) -> Result<(), Refusal>
     ensures { let c = table_of n m whole (component rows) left.now right.now weight.now mark.now in
         refusal_of result ≡ refusal (table_causes c) }
 {
-    let size = size_check(n, m);
-    let Outcome::Done = size else {
-        return size;
-    };
-    let lengths = lengths_check(whole, m, left.len(), right.len(), weight.len(), mark.len());
-    first(lengths, rows_check(n, m, rows, left, right))
+    size_check(n, m)?;
+    lengths_check(whole, m, left.len(), right.len(), weight.len(), mark.len())?;
+    rows_check(n, m, rows, left, right)
 }
 
 // Whether the row at a position is one of the rows, lent as words, and its claim byte is other than 0 and 1.
@@ -304,7 +299,7 @@ fn first_bad_mark(m: usize, rows: Slice, mark: &[u8]) -> usize
     requires { m ≤ max_rows }
     ensures { result ≡ uppermost m (wrong_byte (component rows) mark.now) }
 {
-    for at in 1..=m {
+    for at in 1..m + 1 {
         if wrong_mark(&rows.words, mark, at) {
             return at;
         }
@@ -322,15 +317,12 @@ pub fn claim_check(
     right: &[u8],
     weight: &[u8],
     mark: &[u8],
-) -> Outcome
+) -> Result<(), Refusal>
     ensures { let c = table_of n m whole (component rows) left.now right.now weight.now mark.now in
         refusal_of result ≡ refusal (table_causes c ++ (bad_claim c ∷ [])) }
 {
-    let table = table_check(n, m, whole, rows, left, right, weight, mark);
-    let Outcome::Done = table else {
-        return table;
-    };
-    refused_at(6, first_bad_mark(m, rows, mark) as u32)
+    table_check(n, m, whole, rows, left, right, weight, mark)?;
+    refused_at(Cause::BadMark as u32, first_bad_mark(m, rows, mark) as u32)
 }
 
 // Whether a row is one of the rows, lent as words, and the claim marks it.
@@ -357,9 +349,12 @@ fn count_marks(m: usize, rows: Slice, mark: &[u8]) -> usize
 }
 
 // Cause 9, of n and the rows among the first m of a slice that the claim marks, whatever the other columns are.
-pub fn count_check(n: u32, m: usize, rows: Slice, mark: &[u8]) -> Outcome
+pub fn count_check(n: u32, m: usize, rows: Slice, mark: &[u8]) -> Result<(), Refusal>
     ensures { (whole : Bool) (left right weight : List ℕ) → refusal_of result ≡ bad_count (table_of n m whole (component rows) left right weight mark.now) }
 {
     let marks = count_marks(m, rows, mark);
-    refused_if(n == 0 || marks != n as usize - 1, 9)
+    refused_if(
+        n == 0 || marks != n as usize - 1,
+        Cause::BadMarkCount as u32,
+    )
 }

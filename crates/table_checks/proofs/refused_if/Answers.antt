@@ -5,7 +5,7 @@ use Rattle.table_checks.proofs.refused_if.Goals as goal
 
 pub returns-then-test : goal.returns-then-test
 unfolding refusal_of cause
-returns-then-test c = rw c.if-test.true
+returns-then-test c = rw (c.if-test.true, c.of.ensures)
 
 pub returns : goal.returns
 unfolding refusal_of cause
