@@ -123,9 +123,9 @@ module _ (c : ℕ → ℕ → Bool) (w : ℕ) (x : Slice) (n : ℕ) where
       still l a u e = rw (right-step c w (component x) l (omega (arith, m.most)), ← e, none_left z none, kept-none)
 
   pub right-all : (z : Slice) (k : ℕ) → n ≤ k → Right c w x n z k
-      → (component z ≡ equal_right c w n (component x)) × (k ≡ read_within n size c w (component x))
+      → (component z ≡ equal_right c w n (component x)) × (n ≡ read_within n size c w (component x))
   unfolding least_from
   right-all z k h m =
       let e : k ≡ n = omega (arith, m.upto) in
       let d : n - k ≡ 0 = omega arith in
-      (rw (← e) m.equal, sym (m.counted ∙ rw d))
+      (rw (← e) m.equal, sym (m.counted ∙ rw d e))

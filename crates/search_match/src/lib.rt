@@ -26,8 +26,7 @@ pub struct Matched {
 pub fn fits(first: usize, w: u32) -> bool
     ensures { result ≡ eqb (w / 2 ^ (width - first)) 0 }
 {
-    let columns = if first < WIDTH { WIDTH - first } else { 0 };
-    (w as u64) >> columns == 0
+    u64::from(w) >> WIDTH.saturating_sub(first) == 0
 }
 
 // MATCH of w's last digits in the columns that are not left out, from column 32 to the left; it stops where no row is left in the running.
@@ -35,10 +34,9 @@ pub fn match_right(columns: &[u64], first: usize, w: u32, x: Slice) -> Matched
     ensures rows { component result.rows ≡ equal_right (matrix_column columns.now) w (width - first) (component x) }
     ensures read { result.read ≡ read_within (width - first) size (matrix_column columns.now) w (component x) }
 {
-    let count = if first < WIDTH { WIDTH - first } else { 0 };
+    let count = WIDTH.saturating_sub(first);
     let mut z = x;
-    let mut k = 0;
-    while k < count {
+    for k in 0..count {
         if slice::zero(z) {
             return Matched { rows: z, read: k };
         }
@@ -47,9 +45,11 @@ pub fn match_right(columns: &[u64], first: usize, w: u32, x: Slice) -> Matched
             path_matrix::read_column(columns, WIDTH - k),
             (w >> k) % 2 == 1,
         );
-        k += 1;
     }
-    Matched { rows: z, read: k }
+    Matched {
+        rows: z,
+        read: count,
+    }
 }
 
 // MATCH: the selected rows that equal w; none where w has a digit before those of the columns that are not left out.
@@ -59,6 +59,5 @@ pub fn match_from(columns: &[u64], first: usize, w: u32, x: Slice) -> Slice
     if !fits(first, w) {
         return Slice::empty();
     }
-    let matched = match_right(columns, first, w, x);
-    matched.rows
+    match_right(columns, first, w, x).rows
 }

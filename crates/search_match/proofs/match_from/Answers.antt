@@ -32,4 +32,4 @@ pub returns-then-not-fits : goal.returns-then-not-fits
 returns-then-not-fits c = c.empty.ensures ∙ found_none _ _ _ _ _ c.fits.ensures c.if-not-fits.true
 
 pub returns : goal.returns
-returns c = c.match_right-matched.ensures.rows ∙ found _ _ _ _ _ c.fits.ensures c.if-not-fits.false
+returns c = c.match_right.ensures.rows ∙ found _ _ _ _ _ c.fits.ensures c.if-not-fits.false

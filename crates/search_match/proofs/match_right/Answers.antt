@@ -1,32 +1,24 @@
 -- `search_match::match_right` meets its contract. The loop's invariant: z has the rows of x that equal w in the k rightmost columns, and at least k columns are read.
--- The measure is what is left of the columns. Assumes nothing.
+-- Assumes nothing.
 use Prim.Native.Nat.{◌-◌}
 use native.Mathlib.Omega.{arith}
 use borrow.Author.Tests.{not-true, not-false}
-use mathlib.Core.Logic.{⊎_elim}
 use mathlib.Core.Path.{◌≡◌, sym, ◌∙◌}
 use Rattle.search_match.proofs.Counts.{right-start, right-more, right-stopped, right-all}
 use Rattle.search_match.proofs.match_right.Goals as goal
 
 -- the columns that may be read are those that are not left out
 pub loop-k-init : goal.loop-k-init
-loop-k-init c = right-start _ _ _ _ (⊎_elim (λ t. omega arith) (λ t. omega arith) c.if-first-lt-WIDTH.branch-raw)
+loop-k-init c = right-start _ _ _ _ (omega arith)
 
 pub returns-then-zero : goal.returns-then-zero
 returns-then-zero c =
     let l = c.loop-k in
-    let i = c.if-first-lt-WIDTH in
-    let e : i.count ≡ 32 - c.args.first = ⊎_elim (λ t. omega arith) (λ t. omega arith) i.branch-raw in
+    let e : c.saturating_sub-count.result ≡ 32 - c.args.first = omega arith in
     let told = right-stopped _ _ _ _ _ l.k (omega arith) (not-true _ (sym c.zero.ensures ∙ c.if-zero.true)) l.invariant in record {
       rows = rw (← e) told.0;
       read = rw (← e) told.1;
     }
-
-pub overflow_sub-k : goal.overflow_sub-k
-overflow_sub-k c = omega (arith, c.loop-k.invariant.most)
-
-pub overflow_shr-w : goal.overflow_shr-w
-overflow_shr-w c = omega (arith, c.loop-k.invariant.most)
 
 pub loop-k-preserved : goal.loop-k-preserved
 loop-k-preserved c =
@@ -35,8 +27,7 @@ loop-k-preserved c =
 
 pub returns : goal.returns
 returns c =
-    let i = c.if-first-lt-WIDTH in
-    let e : i.count ≡ 32 - c.args.first = ⊎_elim (λ t. omega arith) (λ t. omega arith) i.branch-raw in
+    let e : c.saturating_sub-count.result ≡ 32 - c.args.first = omega arith in
     let told = right-all _ _ _ _ _ _ (omega arith) c.loop-k.invariant in record {
       rows = rw (← e) told.0;
       read = rw (← e) told.1;
