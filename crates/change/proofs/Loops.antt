@@ -1,10 +1,11 @@
 -- Laws of the loops over a column, a slice and the numbers: one row more, and a column that is packed in place.
 -- Assumes nothing.
-use Prim.Native.Nat.{ℕ, suc, ◌+◌, ◌<◌, ◌≤◌}
+use Prim.Native.Nat.{ℕ, zero, suc, ◌+◌, ◌<◌, ◌≤◌}
 use mathlib.Core.Bool.{Bool, true, false, cond}
 use mathlib.Core.List.{List, [], ◌∷◌, ◌++◌, append-nil}
 use mathlib.Core.Path.{◌≡◌, refl, sym, ap, ap₂, ◌∙◌}
 use mir.Val.{bool_byte}
+use native.Mathlib.Decide.{dec_lt}
 use native.Mathlib.Nat.{add-zero}
 use native.Mathlib.Numerals.{add-one}
 use native.Mathlib.Omega.{arith}
@@ -16,14 +17,17 @@ use Rattle.slice.specs.Slices.{size, written}
 use Rattle.change_spec.specs.Packing.{kept_from, lowermost}
 use Rattle.change_spec.proofs.Packing.{kept-suc}
 
--- the lowermost row of no row, and of one row more
-pub lowermost-none : (p : ℕ → Bool) → lowermost 0 p ≡ 0
+-- the lowermost row is the last one, past which there is none
+pub lowermost-last : (p : ℕ → Bool) (k n : ℕ) → k ≤ n → (0 < k → p k ≡ true) → ((i : ℕ) → k < i → p i ≡ false) → k ≡ lowermost n p
 unfolding lowermost
-lowermost-none p = refl
-
-pub lowermost-more : (p : ℕ → Bool) (i last : ℕ) → last ≡ lowermost i p → cond (p (i + 1)) (i + 1) last ≡ lowermost (i + 1) p
-unfolding lowermost
-lowermost-more p i last e = rw (e, add-one i)
+lowermost-last p k zero low there past = omega arith
+lowermost-last p k (suc n) low there past =
+    elim (dec_lt k (suc n)) [
+      | yes u ↦ rw (past (suc n) u) (lowermost-last p k n (omega arith) there past)
+      | no u ↦
+          let e : k ≡ suc n = omega arith in
+          rw (e, ap p (sym e) ∙ there (omega arith)) refl
+    ]
 
 -- Of a column l the bytes before b are looked at: those that belong stand at the top of the column, and the bytes from b on are as they were.
 pub record Keeping (p : ℕ → Bool) (l column : List ℕ) (kept b : ℕ) : Type 0 where

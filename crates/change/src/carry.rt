@@ -4,7 +4,7 @@ ghost use Rattle.refusal.specs.Outcomes.{refusal_of};
 ghost use Rattle.star_spec.specs.Refusals.{max_rows};
 ghost use Rattle.change_spec.specs.Carrying.{brought_to, wrong_carry, carry_refusal, carried_marks};
 
-use crate::{because, clear_from, write_bytes};
+use crate::because;
 use refusal::Outcome;
 use slice::SIZE;
 
@@ -32,9 +32,7 @@ fn bring(column: &mut [u8], numbers: &[u32], claim: &[u8])
     requires { (length numbers.now ≡ max_rows) × (length claim.now ≡ max_rows) }
     ensures { column.new ≡ brought_to numbers.now claim.now column.old }
 {
-    let mut i = SIZE;
-    while i > 0 {
-        i -= 1;
+    for i in (0..SIZE).rev() {
         put_byte(column, numbers[i], claim[i]);
     }
 }
@@ -48,8 +46,8 @@ pub fn carry(numbers: &[u32], mark: &mut [u8]) -> Outcome
         return Outcome::Refused(because(3));
     }
     let mut claim = [0u8; SIZE];
-    write_bytes(&mut claim, 0, mark);
-    clear_from(mark, 0);
+    claim.copy_from_slice(mark);
+    mark.fill(0);
     bring(mark, numbers, &claim);
     Outcome::Done
 }

@@ -3,11 +3,12 @@
 
 #![tactic(auto)]
 
-ghost use Rattle.std.specs.Prelude.{suc, ◌+◌, ◌-◌, ◌*◌, ◌<◌, ◌≤◌, cond, ◌++◌, ◌≡◌, length, take, drop, replicate};
+ghost use Rattle.std.specs.Prelude.{ℕ, suc, ◌+◌, ◌-◌, ◌*◌, ◌<◌, ◌≤◌, cond, ◌++◌, ◌≡◌, length, take, drop, replicate};
 ghost use Rattle.refusal.specs.Outcomes.{refusal_of};
 ghost use Rattle.rowset.specs.Sets.{put, count};
 ghost use Rattle.rowset.specs.Words.{column_words, in_words};
 ghost use Rattle.slice.specs.Slices.{size, component};
+ghost use Rattle.star_spec.specs.Door.{bytes_of};
 ghost use Rattle.star_spec.specs.Refusals.{max_rows};
 ghost use Rattle.change.specs.Answers.{answer_of};
 ghost use Rattle.change_spec.specs.Changes.{words_of, struck_words, merged, packed_table, room_made, added, add_answer};
@@ -42,29 +43,6 @@ pub(crate) fn because(number: u32) -> Refusal
     }
 }
 
-// The first number where the test holds, else the second.
-fn choose(test: bool, first: usize, second: usize) -> usize
-    ensures { result ≡ cond test first second }
-{
-    if test {
-        return first;
-    }
-    second
-}
-
-// The position of a slice's last row, 0 where it has none.
-fn last_row(x: Slice) -> usize
-    ensures { result ≡ lowermost size (component x) }
-{
-    let mut last = 0;
-    let mut i = 0;
-    while i < SIZE {
-        i += 1;
-        last = choose(slice::get(x, i), i, last);
-    }
-    last
-}
-
 // Whether the words, the columns or the list of numbers have another length than they should.
 fn wrong_sizes(words: usize, left: usize, right: usize, weight: usize, numbers: usize) -> bool
     ensures { result ≡ wrong_sizes words left right weight numbers }
@@ -85,23 +63,13 @@ fn keep_rows(column: &mut [u8], x: Slice, width: usize) -> usize
     kept
 }
 
-// The bytes of a column from an index on become 0.
-pub(crate) fn clear_from(column: &mut [u8], from: usize)
-    requires { from ≤ length column.old }
-    ensures { column.new ≡ take from column.old ++ replicate (length column.old - from) 0 }
-{
-    for k in from..column.len() {
-        column[k] = 0;
-    }
-}
-
 // A column with so many bytes a row is packed.
 fn pack(column: &mut [u8], x: Slice, width: usize)
     requires { 1 ≤ width }
     ensures { column.new ≡ packed (component x) width column.old }
 {
     let kept = keep_rows(column, x, width);
-    clear_from(column, kept);
+    column[kept..].fill(0);
 }
 
 // The numbers are written anew: new positions, or own ones.
@@ -113,53 +81,26 @@ fn number_rows(numbers: &mut [u32], x: Slice, packing: bool)
     for i in 0..SIZE {
         let used = slice::get(x, i + 1);
         count += used as usize;
-        let position = choose(packing, count, i + 1);
-        numbers[i] = choose(used, position, 0) as u32;
+        let position = if packing { count } else { i + 1 };
+        numbers[i] = if used { position as u32 } else { 0 };
     }
 }
 
-// Bytes are written into a column from an index on.
-pub(crate) fn write_bytes(column: &mut [u8], start: usize, bytes: &[u8])
-    requires { start + length bytes.now ≤ length column.old }
-    ensures { column.new ≡ take start column.old ++ bytes.now ++ drop (start + length bytes.now) column.old }
+// The bytes of a number are written in a row of a column with N bytes a row.
+fn write_row<const N: usize>(column: &mut [u8], row: usize, bytes: [u8; N])
+    requires { (1 ≤ row) × (N * row ≤ length column.old) }
+    ensures { (v : ℕ) → bytes.entry ≡ bytes_of N v → column.new ≡ with_row N column.old row v }
 {
-    for k in 0..bytes.len() {
-        column[start + k] = bytes[k];
-    }
-}
-
-// An end is written in a row of the left or the right column.
-fn write_end(column: &mut [u8], row: usize, end: u8)
-    requires { (1 ≤ row) × (row ≤ length column.old) }
-    ensures { column.new ≡ with_row 1 column.old row end }
-{
-    let bytes = [end];
-    write_bytes(column, END * (row - 1), &bytes);
-}
-
-// A price is written in a row of the weight column.
-fn write_price(column: &mut [u8], row: usize, price: u32)
-    requires { (1 ≤ row) × (4 * row ≤ length column.old) }
-    ensures { column.new ≡ with_row 4 column.old row price }
-{
-    let p1 = price / 256;
-    let p2 = p1 / 256;
-    let p3 = p2 / 256;
-    let bytes = [
-        (price % 256) as u8,
-        (p1 % 256) as u8,
-        (p2 % 256) as u8,
-        (p3 % 256) as u8,
-    ];
-    write_bytes(column, PRICE * (row - 1), &bytes);
+    let at = N * (row - 1);
+    column[at..at + N].copy_from_slice(&bytes);
 }
 
 // The words become those of a slice.
-fn write_rows(words: &mut [u64], x: Slice)
+pub fn write_rows(words: &mut [u64], x: Slice)
     requires { length words.old ≡ column_words }
     ensures { words.new ≡ words_of (component x) }
 {
-    path_matrix::write_column(words, 1, x);
+    words.copy_from_slice(&x.words);
 }
 
 // Striking: only the row's bit is cleared. Refused 18 where the row is not in use, then 3 where the words are not sixteen.
@@ -260,11 +201,11 @@ fn put_row(
     ensures weights { weight.new ≡ with_row 4 weight.old result price }
 {
     let x = rows_in_use(words);
-    let row = last_row(x) + 1;
+    let row = slice_words::last_row(&x.words) + 1;
     write_rows(words, slice::put(x, row, true));
-    write_end(left, row, a);
-    write_end(right, row, b);
-    write_price(weight, row, price);
+    write_row(left, row, a.to_le_bytes());
+    write_row(right, row, b.to_le_bytes());
+    write_row(weight, row, price.to_le_bytes());
     row
 }
 

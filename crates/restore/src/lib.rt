@@ -2,16 +2,13 @@
 
 #![tactic(auto)]
 
-ghost use Rattle.std.specs.Prelude.{◌≡◌, length};
-ghost use Rattle.change_spec.specs.Changes.{words_of};
+ghost use Rattle.std.specs.Prelude.{◌≡◌};
 ghost use Rattle.refusal.specs.Outcomes.{refusal_of};
 ghost use Rattle.restore_spec.specs.Restoring.{not_struck, restore_refusal, restored_words};
-ghost use Rattle.rowset.specs.Words.{column_words};
-ghost use Rattle.slice.specs.Slices.{component};
 
 use refusal::{Outcome, Refusal};
 use slice::words::rows_in_use;
-use slice::{SIZE, Slice, WORDS};
+use slice::{SIZE, WORDS};
 
 // The refusal with this number and place 0.
 fn because(number: u32) -> Refusal
@@ -27,21 +24,7 @@ fn because(number: u32) -> Refusal
 fn not_struck(used: bool, row: usize) -> bool
     ensures { result ≡ not_struck used row }
 {
-    if used {
-        return true;
-    }
-    if row == 0 {
-        return true;
-    }
-    SIZE < row
-}
-
-// The words become those of a slice.
-fn write_rows(words: &mut [u64], x: Slice)
-    requires { length words.old ≡ column_words }
-    ensures { words.new ≡ words_of (component x) }
-{
-    path_matrix::write_column(words, 1, x);
+    used || row == 0 || SIZE < row
 }
 
 // Restoring: only the row's bit is set. Refused 27 where the row is in use or none of 1 to 1,024, then 3 where the words are not sixteen.
@@ -57,6 +40,6 @@ pub fn restore(words: &mut [u64], row: u32) -> Outcome
     if words.len() != WORDS {
         return Outcome::Refused(because(3));
     }
-    write_rows(words, slice::put(x, row as usize, true));
+    change::write_rows(words, slice::put(x, row as usize, true));
     Outcome::Done
 }

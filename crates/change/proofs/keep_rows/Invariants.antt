@@ -1,7 +1,5 @@
 -- `change::keep_rows` meets its contract. The loop's invariant: of the bytes before b those that belong stand at the top, and the bytes from b on are as they were.
 -- Assumes nothing.
-use Prim.Native.Nat.{◌-◌}
-use lib.ListN.{length}
 use Rattle.slice.specs.Slices.{component}
 use Rattle.change_spec.specs.Packing.{of_rows}
 use Rattle.change.proofs.Loops.{Keeping}

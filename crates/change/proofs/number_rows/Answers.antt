@@ -14,7 +14,7 @@ use Rattle.slice.proofs.Stores.{filled_none, filled_more, filled-all}
 use Rattle.change_spec.specs.Packing.{new_number, own_number, numbers_from}
 use Rattle.slice_words.proofs.Counts.{bool_small, count_none, count-more}
 use Rattle.change.proofs.number_rows.Goals as goal
-use Rattle.change.proofs.number_rows.Goals.{After-choose}
+use Rattle.change.proofs.number_rows.Goals.{After-get-used, Joined-packing, then-packing, else-packing, then-used, else-used}
 
 -- a list with the numbers of f is those numbers
 numbers-all : (f : ℕ → ℕ) (i : ℕ) (l : List ℕ) → ((k : ℕ) → k < length l → get_or l k 0 ≡ f (i + k + 1)) → l ≡ numbers_from f i (length l)
@@ -29,25 +29,26 @@ number X true i = refl
 number X false i = refl
 
 -- it is at most i
-small : (b packing : Bool) (n i k : ℕ) → n ≤ k → i ≤ k → cond b (cond packing n i) 0 ≤ k
-small true true n i k h g = h
-small true false n i k h g = g
-small false packing n i k h g = omega arith
+small : (packing : Bool) (n i k : ℕ) → n ≤ k → i ≤ k → cond packing n i ≤ k
+small true n i k h g = h
+small false n i k h g = g
 
--- the number that is written, and the count so far
-counted : (c : After-choose) →
+-- the count so far, the position, and the number that is written
+counted : (c : After-get-used) →
     let l = c.loop-i in
     l.count + bool_byte c.get-used.result ≡ count (l.i + 1) (component c.args.x)
 counted c =
     count-more _ _ _ c.get-used.result c.loop-i.invariant.0 c.get-used.ensures
 
-written : (c : After-choose) →
+placed : (c : Joined-packing) →
     let a = c.args in
     let l = c.loop-i in
-    let X = component a.x in
-    c.choose.result ≡ cond (X (l.i + 1)) (cond a.packing (count (l.i + 1) X) (l.i + 1)) 0
-written c =
-    c.choose.ensures ∙ rw (c.get-used.ensures, c.choose-position.ensures, counted c)
+    c.if-packing.position ≡ cond a.packing (count (l.i + 1) (component a.x)) (l.i + 1)
+placed c =
+    elim c.if-packing.branch [
+      | then-packing w ↦ rw (w.position-is, w.if-packing.true) (count-more _ _ _ c.get-used.result c.loop-i.invariant.0 c.get-used.ensures)
+      | else-packing w ↦ rw (w.position-is, w.if-packing.false) refl
+    ]
 
 pub loop-i-init : goal.loop-i-init
 loop-i-init c = (sym (count_none _), filled_none c.requires)
@@ -62,14 +63,20 @@ overflow_add-count c =
 pub overflow_cast-numbers : goal.overflow_cast-numbers
 overflow_cast-numbers c =
     let l = c.loop-i in
-    let X = component c.args.x in
-    omega (arith, written (goal.at.overflow_cast-numbers c).After-choose, small (X (l.i + 1)) c.args.packing (count (l.i + 1) X) (l.i + 1) (l.i + 1) (count-bound (l.i + 1) X) (omega arith))
+    let n = count-bound (l.i + 1) (component c.args.x) in
+    let e = placed (goal.at.overflow_cast-numbers c).Joined-packing in
+    omega (arith, small c.args.packing (count (l.i + 1) (component c.args.x)) (l.i + 1) (l.i + 1) n (omega arith))
 
 pub loop-i-preserved : goal.loop-i-preserved
 loop-i-preserved c =
     let a = c.args in
     let l = c.loop-i in
-    (counted (goal.at.loop-i-preserved c).After-choose, filled_more l.invariant.1 (omega arith) (written (goal.at.loop-i-preserved c).After-choose ∙ number (component a.x) a.packing (l.i + 1)))
+    let X = component a.x in
+    let written : c.if-used.numbers ≡ cond (X (l.i + 1)) (cond a.packing (count (l.i + 1) X) (l.i + 1)) 0 = elim c.if-used.branch [
+      | then-used w ↦ rw (w.numbers-is, sym c.get-used.ensures ∙ w.if-used.true) (placed (goal.at.loop-i-preserved c).Joined-packing)
+      | else-used w ↦ rw (w.numbers-is, sym c.get-used.ensures ∙ w.if-used.false) refl
+    ] in
+    (counted (goal.at.loop-i-preserved c).After-get-used, filled_more l.invariant.1 (omega arith) (written ∙ number X a.packing (l.i + 1)))
 
 pub shape_of-numbers : goal.shape_of-numbers
 shape_of-numbers c = c.loop-i.invariant.1.full ∙ sym c.requires

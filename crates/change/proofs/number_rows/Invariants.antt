@@ -1,5 +1,5 @@
 -- `change::number_rows` meets its contract. The loop's invariant: `count` is the number of rows of 1 to i, and the first i numbers are written. -- Assumes nothing.
-use Prim.Native.Nat.{◌+◌, ◌-◌}
+use Prim.Native.Nat.{◌+◌}
 use mathlib.Core.Bool.{cond}
 use mathlib.Core.Path.{◌≡◌}
 use Rattle.rowset.specs.Sets.{count}

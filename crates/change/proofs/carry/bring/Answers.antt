@@ -1,4 +1,4 @@
--- `change::carry::bring` meets its contract. The loop's invariant: the bytes of the rows from i on are at their numbers. The measure is the rows that are left.
+-- `change::carry::bring` meets its contract. The loop's invariant: the bytes of the rows from i on are at their numbers.
 -- Assumes nothing.
 use Prim.Native.Nat.{suc, ◌-◌}
 use lib.ListN.{length, drop_of_length-le}

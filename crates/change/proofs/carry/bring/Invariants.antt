@@ -1,4 +1,4 @@
--- `change::carry::bring` meets its contract. The loop's invariant: the bytes of the rows from i on are at their numbers. The measure is the rows that are left.
+-- `change::carry::bring` meets its contract. The loop's invariant: the bytes of the rows from i on are at their numbers.
 -- Assumes nothing.
 use Prim.Native.Nat.{◌≤◌}
 use lib.ListN.{drop}
@@ -8,6 +8,3 @@ use Rattle.change.proofs.carry.bring.Given as goal
 
 abbrev pub invariant-loop-i : goal.invariant-loop-i
 invariant-loop-i l = (l.i ≤ 1024) × (l.column ≡ brought_to (drop l.i l.numbers) (drop l.i l.claim) l.initial.column)
-
-abbrev pub decreases-loop-i : goal.decreases-loop-i
-decreases-loop-i l = l.i
