@@ -15,9 +15,6 @@ offset_bounds-z-k c = omega (arith, c.requires)
 pub bounds-z-k : goal.bounds-z-k
 bounds-z-k c = omega (arith, c.requires)
 
-pub overflow_add-k : goal.overflow_add-k
-overflow_add-k c = omega (arith, c.requires)
-
 pub loop-k-preserved : goal.loop-k-preserved
 loop-k-preserved c =
     (omega arith, joined-more _ _ _ (omega (arith, c.requires)) (c.shared_slice_known-1.given c.loop-k.k).fits c.loop-k.invariant.1)
