@@ -1,9 +1,9 @@
--- What an add's answer says, by its cases.
+-- What an add's answer says, by its cases: the new row's position, or the refusal.
 -- Assumes nothing.
+use Rattle.std.specs.Prelude.{ℕ, Result, Ok, Err}
 use Rattle.change_spec.specs.Changes.{AddAnswer, unadded, added_at}
-use Rattle.change.specs.declared.Added.{Added}
-use Rattle.change.specs.declared.Added.TheVariants.{At, Refused}
+use Rattle.refusal.specs.declared.Refusal.{Refusal}
 
-unfoldable pub answer_of : Added → AddAnswer
-answer_of (At position) = added_at position
-answer_of (Refused r) = unadded r
+unfoldable pub answer_of : Result ℕ Refusal → AddAnswer
+answer_of (Ok position) = added_at position
+answer_of (Err r) = unadded r

@@ -4,8 +4,7 @@ ghost use Rattle.refusal.specs.Outcomes.{refusal_of};
 ghost use Rattle.star_spec.specs.Refusals.{max_rows};
 ghost use Rattle.change_spec.specs.Carrying.{brought_to, wrong_carry, carry_refusal, carried_marks};
 
-use crate::because;
-use refusal::Outcome;
+use refusal::{Cause, Refusal};
 use slice::SIZE;
 
 // Whether the numbers or the claim have another length than they should.
@@ -38,16 +37,16 @@ fn bring(column: &mut [u8], numbers: &[u32], claim: &[u8])
 }
 
 // A claim of 1,024 bytes is carried through 1,024 numbers. Refused 3 where either has another length.
-pub fn carry(numbers: &[u32], mark: &mut [u8]) -> Outcome
+pub fn carry(numbers: &[u32], mark: &mut [u8]) -> Result<(), Refusal>
     ensures answer { refusal_of result ≡ carry_refusal numbers.now mark.old }
     ensures marks { mark.new ≡ carried_marks numbers.now mark.old }
 {
     if wrong_lengths(numbers.len(), mark.len()) {
-        return Outcome::Refused(because(3));
+        return Err(Refusal::of(Cause::BadLengths as u32));
     }
     let mut claim = [0u8; SIZE];
     claim.copy_from_slice(mark);
     mark.fill(0);
     bring(mark, numbers, &claim);
-    Outcome::Done
+    Ok(())
 }

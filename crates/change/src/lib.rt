@@ -17,7 +17,7 @@ ghost use Rattle.change_spec.specs.Tables.{working, wrong_sizes, strike_refusal,
 
 pub mod carry; // carry.rt: a claim carried through the numbers
 
-use refusal::{Outcome, Refusal};
+use refusal::{Cause, Refusal};
 use slice::words::rows_in_use;
 use slice::{SIZE, Slice, WORDS};
 
@@ -25,23 +25,6 @@ use slice::{SIZE, Slice, WORDS};
 const END: usize = 1;
 
 const PRICE: usize = 4;
-
-// What an add answers: the new row's position, or the refusal.
-#[derive(Clone, Copy)]
-pub enum Added {
-    At(u32),
-    Refused(Refusal),
-}
-
-// The refusal with this number and place 0.
-pub(crate) fn because(number: u32) -> Refusal
-    ensures { result ≡ record { number = number; place = 0 } }
-{
-    Refusal {
-        number: number,
-        place: 0,
-    }
-}
 
 // Whether the words, the columns or the list of numbers have another length than they should.
 fn wrong_sizes(words: usize, left: usize, right: usize, weight: usize, numbers: usize) -> bool
@@ -104,19 +87,19 @@ pub fn write_rows(words: &mut [u64], x: Slice)
 }
 
 // Striking: only the row's bit is cleared. Refused 18 where the row is not in use, then 3 where the words are not sixteen.
-pub fn strike(words: &mut [u64], row: u32) -> Outcome
+pub fn strike(words: &mut [u64], row: u32) -> Result<(), Refusal>
     ensures answer { refusal_of result ≡ strike_refusal words.old row }
     ensures rows { words.new ≡ struck_words words.old row }
 {
     let x = rows_in_use(words);
     if !slice::get(x, row as usize) {
-        return Outcome::Refused(because(18));
+        return Err(Refusal::of(Cause::NotInUse as u32));
     }
     if words.len() != WORDS {
-        return Outcome::Refused(because(3));
+        return Err(Refusal::of(Cause::BadLengths as u32));
     }
     write_rows(words, slice::put(x, row as usize, false));
-    Outcome::Done
+    Ok(())
 }
 
 // The whole table is packed: the columns, the numbers, and the rows in use.
@@ -145,7 +128,7 @@ pub fn merge(
     right: &mut [u8],
     weight: &mut [u8],
     numbers: &mut [u32],
-) -> Outcome
+) -> Result<(), Refusal>
     ensures answer { refusal_of result ≡ merge_refusal (working words.old left.old right.old weight.old numbers.old) }
     ensures table { working words.new left.new right.new weight.new numbers.new ≡ merged (working words.old left.old right.old weight.old numbers.old) }
 {
@@ -156,11 +139,11 @@ pub fn merge(
         weight.len(),
         numbers.len(),
     ) {
-        return Outcome::Refused(because(3));
+        return Err(Refusal::of(Cause::BadLengths as u32));
     }
     let x = rows_in_use(words);
     pack_table(words, left, right, weight, numbers, x);
-    Outcome::Done
+    Ok(())
 }
 
 // Before a row is added: the table is packed where row 1,024 is in use; else the numbers become the rows' own positions.
@@ -220,13 +203,13 @@ pub fn add_row(
     a: u8,
     b: u8,
     price: u32,
-) -> Added
+) -> Result<u32, Refusal>
     ensures answer { answer_of result ≡ add_answer (working words.old left.old right.old weight.old numbers.old) }
     ensures table { working words.new left.new right.new weight.new numbers.new ≡ added (working words.old left.old right.old weight.old numbers.old) a b price }
 {
     let x = rows_in_use(words);
     if slice_words::count_rows(x) == SIZE {
-        return Added::Refused(because(17));
+        return Err(Refusal::of(Cause::TableFull as u32));
     }
     if wrong_sizes(
         words.len(),
@@ -235,9 +218,9 @@ pub fn add_row(
         weight.len(),
         numbers.len(),
     ) {
-        return Added::Refused(because(3));
+        return Err(Refusal::of(Cause::BadLengths as u32));
     }
     make_room(words, left, right, weight, numbers, x);
     let row = put_row(words, left, right, weight, a, b, price);
-    Added::At(row as u32)
+    Ok(row as u32)
 }

@@ -6,19 +6,9 @@ ghost use Rattle.std.specs.Prelude.{◌≡◌};
 ghost use Rattle.refusal.specs.Outcomes.{refusal_of};
 ghost use Rattle.restore_spec.specs.Restoring.{not_struck, restore_refusal, restored_words};
 
-use refusal::{Outcome, Refusal};
+use refusal::{Cause, Refusal};
 use slice::words::rows_in_use;
 use slice::{SIZE, WORDS};
-
-// The refusal with this number and place 0.
-fn because(number: u32) -> Refusal
-    ensures { result ≡ record { number = number; place = 0 } }
-{
-    Refusal {
-        number: number,
-        place: 0,
-    }
-}
 
 // Whether a row is in use, or none of 1 to 1,024.
 fn not_struck(used: bool, row: usize) -> bool
@@ -28,18 +18,18 @@ fn not_struck(used: bool, row: usize) -> bool
 }
 
 // Restoring: only the row's bit is set. Refused 27 where the row is in use or none of 1 to 1,024, then 3 where the words are not sixteen.
-pub fn restore(words: &mut [u64], row: u32) -> Outcome
+pub fn restore(words: &mut [u64], row: u32) -> Result<(), Refusal>
     ensures answer { refusal_of result ≡ restore_refusal words.old row }
     ensures rows { words.new ≡ restored_words words.old row }
 {
     let x = rows_in_use(words);
     let used = slice::get(x, row as usize);
     if not_struck(used, row as usize) {
-        return Outcome::Refused(because(27));
+        return Err(Refusal::of(Cause::NotStruck as u32));
     }
     if words.len() != WORDS {
-        return Outcome::Refused(because(3));
+        return Err(Refusal::of(Cause::BadLengths as u32));
     }
     change::write_rows(words, slice::put(x, row as usize, true));
-    Outcome::Done
+    Ok(())
 }

@@ -51,7 +51,7 @@ returns-then-count_rows-eq-SIZE c =
     let a = c.args in
     let t = working a.words.now a.left.now a.right.now a.weight.now a.numbers.now in
     let e = add-full t (sym (counted (goal.at.returns-then-count_rows-eq-SIZE c).After-count_rows) ∙ c.if-count_rows-eq-SIZE.true) in record {
-      answer = ap unadded c.because.ensures ∙ sym (unadded-answer t _ e);
+      answer = ap unadded c.of.ensures ∙ sym (unadded-answer t _ e);
       table = sym (unadded-table t a.a a.b a.price _ e);
     }
 
@@ -61,7 +61,7 @@ returns-then-wrong_sizes c =
     let a = c.args in
     let t = working a.words.now a.left.now a.right.now a.weight.now a.numbers.now in
     let e = add-wrong t (unfull (goal.at.returns-then-wrong_sizes c).Else-count_rows-eq-SIZE) (sym c.wrong_sizes.ensures ∙ c.if-wrong_sizes.true) in record {
-      answer = ap unadded c.because-then-wrong_sizes.ensures ∙ sym (unadded-answer t _ e);
+      answer = ap unadded c.of-then-wrong_sizes.ensures ∙ sym (unadded-answer t _ e);
       table = sym (unadded-table t a.a a.b a.price _ e);
     }
 

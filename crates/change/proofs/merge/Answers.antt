@@ -21,7 +21,7 @@ returns-then-wrong_sizes c =
     let a = c.args in
     let t = working a.words.now a.left.now a.right.now a.weight.now a.numbers.now in
     let e = merge-wrong t (sym c.wrong_sizes.ensures ∙ c.if-wrong_sizes.true) in record {
-      answer = ap some c.because.ensures ∙ sym e;
+      answer = ap some c.of.ensures ∙ sym e;
       table = sym (unmerged t _ e);
     }
 

@@ -21,7 +21,7 @@ unfolding refusal_of
 returns-then-not-get c =
     let a = c.args in
     let e = strike-absent a.words.now a.row (used (goal.at.returns-then-not-get c).After-get false c.if-not-get.true) in record {
-      answer = ap some c.because.ensures ∙ sym e;
+      answer = ap some c.of.ensures ∙ sym e;
       rows = sym (unstruck a.words.now a.row _ e);
     }
 
@@ -30,7 +30,7 @@ unfolding refusal_of
 returns-then-words-ne-WORDS c =
     let a = c.args in
     let e = strike-wrong a.words.now a.row (used (goal.at.returns-then-words-ne-WORDS c).After-get true c.if-not-get.false) c.if-words-ne-WORDS.true in record {
-      answer = ap some c.because-then-words-ne-WORDS.ensures ∙ sym e;
+      answer = ap some c.of-then-words-ne-WORDS.ensures ∙ sym e;
       rows = sym (unstruck a.words.now a.row _ e);
     }
 

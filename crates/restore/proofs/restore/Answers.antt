@@ -25,7 +25,7 @@ unfolding refusal_of
 returns-then-not_struck c =
     let a = c.args in
     let e = restore-held a.words.now a.row (tested (goal.at.returns-then-not_struck c).After-not_struck true c.if-not_struck.true) in record {
-      answer = ap some c.because.ensures ∙ sym e;
+      answer = ap some c.of.ensures ∙ sym e;
       rows = sym (unrestored a.words.now a.row _ e);
     }
 
@@ -34,7 +34,7 @@ unfolding refusal_of
 returns-then-words-ne-WORDS c =
     let a = c.args in
     let e = restore-wrong a.words.now a.row (tested (goal.at.returns-then-words-ne-WORDS c).After-not_struck false c.if-not_struck.false) c.if-words-ne-WORDS.true in record {
-      answer = ap some c.because-then-words-ne-WORDS.ensures ∙ sym e;
+      answer = ap some c.of-then-words-ne-WORDS.ensures ∙ sym e;
       rows = sym (unrestored a.words.now a.row _ e);
     }
 

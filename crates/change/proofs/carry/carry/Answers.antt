@@ -23,7 +23,7 @@ unfolding refusal_of
 returns-then-wrong_lengths c =
     let a = c.args in
     let e = carry-wrong a.numbers.now a.mark.now (sym c.wrong_lengths.ensures ∙ c.if-wrong_lengths.true) in record {
-      answer = ap some c.because.ensures ∙ sym e;
+      answer = ap some c.of.ensures ∙ sym e;
       marks = sym (uncarried a.numbers.now a.mark.now _ e);
     }
 
