@@ -39,20 +39,16 @@ fn label(rt: &(impl Input + Print)) -> io::Result<()> {
 // The number of the components that are 1; their positions, one after the other by STEP, are printed where they are asked for.
 fn positions(rt: &impl Print, x: Slice, printed: bool) -> io::Result<usize> {
     let mut rest = x;
-    let mut n: usize = 0;
-    while n < 1024 {
-        let s = slice::step_own(rest);
-        let at = s.at;
+    for n in 0..slice::SIZE {
+        let at = slice::step(&mut rest);
         if at == 0 {
             return Ok(n);
         }
         if printed {
             number(rt, at)?;
         }
-        rest = s.slice;
-        n += 1;
     }
-    Ok(n)
+    Ok(slice::SIZE)
 }
 
 fn value(rt: &(impl Input + Print), x: usize) -> io::Result<()> {
@@ -294,10 +290,10 @@ fn places(rt: &(impl Input + Print), x: Slice) -> io::Result<()> {
 // STEP: the position that it gives, and the components that are left in the slice.
 fn stepped(rt: &(impl Input + Print), x: Slice) -> io::Result<()> {
     label(rt)?;
-    let s = slice::step_own(x);
-    number(rt, s.at)?;
+    let mut rest = x;
+    number(rt, slice::step(&mut rest))?;
     text(rt, b", left")?;
-    positions(rt, s.slice, true)?;
+    positions(rt, rest, true)?;
     text(rt, b"\n")
 }
 

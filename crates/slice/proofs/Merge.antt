@@ -1,4 +1,4 @@
--- The loop that and, or and xor share: word by word, an operation that is f on each bit. Assumes nothing.
+-- Two slices joined word by word, by an operation that is f on each bit: one that `array::from_fn` makes, and one that a loop changes in place. Assumes nothing.
 use Prim.Native.Nat.{ℕ, ◌+◌, ◌<◌, ◌≤◌}
 use mathlib.Core.Path.{◌≡◌, refl, sym, ap, ap₂, ◌∙◌}
 use mathlib.Core.Bool.{Bool, false}
@@ -10,7 +10,10 @@ use lib.ListN.{length, get_or, set, length-set}
 use lib.Seq.{get_or-set_same, get_or-set_other}
 use Rattle.slice.specs.Slices.{bit, component}
 use Rattle.slice.specs.declared.Slice.{Slice}
+use denote.Param.Members.{Called, Mut}
+use Rattle.std.specs.Array.{IsFromFnResult}
 use Rattle.slice.proofs.Bits.{Bitwise, bit-op}
+use Rattle.slice.proofs.Made.{made}
 use Rattle.slice.proofs.Laws.{component-at, component-outside, component-ext}
 
 -- r has the words of x below k joined with those of y, and the other words of x
@@ -56,3 +59,19 @@ module _ (op : ℕ → ℕ → ℕ) (x y : Slice) where
       (λ n j hn hj.
       ap (λ (w : ℕ). bit w j) (m.done n (omega arith)) ∙ bit-op op f h (get_or x.words n 0) (get_or y.words n 0) j
       ∙ sym (ap₂ f (component-at x n j hn hj) (component-at y n j hn hj)))
+
+-- w is f of a and b, bit by bit
+abbrev pub Joins : (Bool → Bool → Bool) → ℕ → ℕ → ℕ → Type 0
+Joins f a b w = (j : ℕ) → j < 64 → bit w j ≡ f (bit a j) (bit b j)
+
+pub joins : (op : ℕ → ℕ → ℕ) (f : Bool → Bool → Bool) → Bitwise op f → (a b w : ℕ) → w ≡ op a b → Joins f a b w
+joins op f h a b w e j l = ap (λ (v : ℕ). bit v j) e ∙ bit-op op f h a b j
+
+-- a slice of which each word joins the words of x and y there has the components that f makes of theirs
+pub joined-words : {F : Type 0} (g : Mut F (ℕ × Unit {0}) ℕ) (s : F) (f : Bool → Bool → Bool) → f false false ≡ false → (x y : Slice) (words : List ℕ) → IsFromFnResult g s words 16
+    → ((i w : ℕ) (q : F) → Called g s (i, tt) w q → (q ≡ s) × Joins f (get_or x.words i 0) (get_or y.words i 0) w)
+    → component (record { words = words }) ≡ (λ (i : ℕ). f (component x i) (component y i))
+joined-words g s f z x y words m call =
+    component-ext _ (λ i. f (component x i) (component y i))
+    (λ i e. ap₂ f (component-outside x i e) (component-outside y i e) ∙ z)
+    (λ n j hn hj. made g s _ call words 16 m n 0 hn j hj ∙ sym (ap₂ f (component-at x n j hn hj) (component-at y n j hn hj)))

@@ -1,18 +1,16 @@
-// One slice without another: x and not y, in one pass over the words.
+// One slice without another: x and not y.
 ghost use Rattle.std.specs.Prelude.{◌≡◌};
 ghost use Rattle.rowset.specs.Sets.{without};
 ghost use Rattle.slice.specs.Slices.{component};
 
-use crate::{Slice, WORDS};
+use crate::Slice;
+use std::array;
 
 // The components of x that y does not have.
 pub fn without(x: Slice, y: Slice) -> Slice
     ensures { component result ≡ without (component x) (component y) }
 {
-    let mut r = x;
-    for k in 0..WORDS {
-        let w = r.words[k];
-        r.words[k] = w ^ (w & y.words[k]);
+    Slice {
+        words: array::from_fn(|k| x.words[k] & !y.words[k]),
     }
-    r
 }

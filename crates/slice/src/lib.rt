@@ -7,6 +7,8 @@ ghost use Rattle.std.specs.Prelude.{◌≡◌, not};
 ghost use Rattle.rowset.specs.Sets.{empty, up_to, both, either, one_of, without, take_out, any, uppermost};
 ghost use Rattle.slice.specs.Slices.{size, component, written};
 
+use std::array;
+
 pub mod difference; // difference.rt: one slice without another
 pub mod rows; // rows.rt: the rows of a table
 pub mod words; // words.rt: a slice that is lent as words
@@ -36,7 +38,7 @@ impl Slice {
     pub const EMPTY: Slice = Slice { words: [0; WORDS] };
 
     pub const FULL: Slice = Slice {
-        words: [18446744073709551615; WORDS],
+        words: [u64::MAX; WORDS],
     };
 
     pub fn empty() -> Slice
@@ -70,34 +72,27 @@ pub fn set() -> Slice
 pub fn get(x: Slice, i: usize) -> bool
     ensures { result ≡ component x i }
 {
-    if i < 1 {
-        return false;
-    }
-    if SIZE < i {
+    if i < 1 || SIZE < i {
         return false;
     }
     let k = i - 1;
-    let w = x.words[k / BITS];
-    (w >> (k % BITS)) % 2 == 1
+    (x.words[k / BITS] >> (k % BITS)) % 2 == 1
 }
 
 // x with b written at component i.
 pub fn put(x: Slice, i: usize, b: bool) -> Slice
     ensures { component result ≡ written (component x) i b }
 {
+    if i < 1 || SIZE < i {
+        return x;
+    }
     let mut r = x;
-    if i < 1 {
-        return r;
-    }
-    if SIZE < i {
-        return r;
-    }
     let k = i - 1;
     let mask: u64 = 1 << (k % BITS);
     if b {
-        r.words[k / BITS] = r.words[k / BITS] | mask;
+        r.words[k / BITS] |= mask;
     } else {
-        r.words[k / BITS] = r.words[k / BITS] & !mask;
+        r.words[k / BITS] &= !mask;
     }
     r
 }
@@ -106,33 +101,27 @@ pub fn put(x: Slice, i: usize, b: bool) -> Slice
 pub fn and(x: Slice, y: Slice) -> Slice
     ensures { component result ≡ both (component x) (component y) }
 {
-    let mut r = x;
-    for k in 0..WORDS {
-        r.words[k] = r.words[k] & y.words[k];
+    Slice {
+        words: array::from_fn(|k| x.words[k] & y.words[k]),
     }
-    r
 }
 
 // The components that either slice has.
 pub fn or(x: Slice, y: Slice) -> Slice
     ensures { component result ≡ either (component x) (component y) }
 {
-    let mut r = x;
-    for k in 0..WORDS {
-        r.words[k] = r.words[k] | y.words[k];
+    Slice {
+        words: array::from_fn(|k| x.words[k] | y.words[k]),
     }
-    r
 }
 
 // The components that exactly one of the slices has.
 pub fn xor(x: Slice, y: Slice) -> Slice
     ensures { component result ≡ one_of (component x) (component y) }
 {
-    let mut r = x;
-    for k in 0..WORDS {
-        r.words[k] = r.words[k] ^ y.words[k];
+    Slice {
+        words: array::from_fn(|k| x.words[k] ^ y.words[k]),
     }
-    r
 }
 
 // The components that x does not have.
@@ -146,11 +135,9 @@ pub fn not(x: Slice) -> Slice
 pub fn fnd(x: Slice) -> usize
     ensures { result ≡ uppermost size (component x) }
 {
-    for k in 0..WORDS {
-        let w = x.words[k];
-        if w != 0 {
-            let z = u64::trailing_zeros(w) as usize;
-            return BITS * k + z + 1;
+    for (k, w) in x.words.iter().enumerate() {
+        if *w != 0 {
+            return BITS * k + w.trailing_zeros() as usize + 1;
         }
     }
     0
@@ -160,9 +147,9 @@ pub fn fnd(x: Slice) -> usize
 pub fn some(x: Slice) -> bool
     ensures { result ≡ any size (component x) }
 {
-    let mut joined: u64 = 0;
-    for k in 0..WORDS {
-        joined = joined | x.words[k];
+    let mut joined = 0;
+    for w in &x.words {
+        joined |= w;
     }
     joined != 0
 }
@@ -180,10 +167,9 @@ pub fn step_value(x: Slice) -> Stepped
     ensures slice { component result.slice ≡ take_out (component x) (uppermost size (component x)) }
 {
     let at = fnd(x);
-    let rest = put(x, at, false);
     Stepped {
-        at: at,
-        slice: rest,
+        at,
+        slice: put(x, at, false),
     }
 }
 
@@ -195,17 +181,4 @@ pub fn step(x: &mut Slice) -> usize
     let s = step_value(*x);
     *x = s.slice;
     s.at
-}
-
-// STEP as a caller runs it: a slice of its own is lent, and STEP clears the uppermost 1 there.
-pub fn step_own(x: Slice) -> Stepped
-    ensures { (result.at ≡ uppermost size (component x))
-        × (component result.slice ≡ take_out (component x) (uppermost size (component x))) }
-{
-    let mut rest = x;
-    let at = step(&mut rest);
-    Stepped {
-        at: at,
-        slice: rest,
-    }
 }

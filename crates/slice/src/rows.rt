@@ -3,7 +3,8 @@ ghost use Rattle.std.specs.Prelude.{◌≡◌, ℕ, ◌+◌, ◌*◌, ◌<◌, l
 ghost use Rattle.rowset.specs.Sets.{up_to, both};
 ghost use Rattle.slice.specs.Slices.{size, bit, component};
 
-use crate::{BITS, Slice, WORDS};
+use crate::{BITS, Slice};
+use std::array;
 
 // Word k of the slice whose components 1 to m are 1.
 fn first_word(m: usize, k: usize) -> u64
@@ -11,7 +12,7 @@ fn first_word(m: usize, k: usize) -> u64
 {
     let last = m / BITS;
     if k < last {
-        return 18446744073709551615;
+        return u64::MAX;
     }
     if last < k {
         return 0;
@@ -23,11 +24,9 @@ fn first_word(m: usize, k: usize) -> u64
 pub fn rows_to(m: usize) -> Slice
     ensures { component result ≡ both (up_to size) (up_to m) }
 {
-    let mut r = Slice::EMPTY;
-    for k in 0..WORDS {
-        r.words[k] = first_word(m, k);
+    Slice {
+        words: array::from_fn(|k| first_word(m, k)),
     }
-    r
 }
 
 // The components 1 to m of x.

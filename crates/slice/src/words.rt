@@ -3,25 +3,21 @@ ghost use Rattle.std.specs.Prelude.{◌≡◌, get_or};
 ghost use Rattle.rowset.specs.Words.{in_words};
 ghost use Rattle.slice.specs.Slices.{component};
 
-use crate::{Slice, WORDS};
+use crate::Slice;
+use std::array;
 
 // Word k, 0 past the end.
 fn word_at(words: &[u64], k: usize) -> u64
     ensures { result ≡ get_or words.now k 0 }
 {
-    if k < words.len() {
-        return words[k];
-    }
-    0
+    words.get(k).copied().unwrap_or(0)
 }
 
 // The rows in use as a slice; a component that is not there is 0.
 pub fn rows_in_use(words: &[u64]) -> Slice
     ensures { component result ≡ in_words words.now }
 {
-    let mut r = Slice::EMPTY;
-    for k in 0..WORDS {
-        r.words[k] = word_at(words, k);
+    Slice {
+        words: array::from_fn(|k| word_at(words, k)),
     }
-    r
 }

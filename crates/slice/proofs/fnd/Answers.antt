@@ -8,7 +8,7 @@ use mir.Val.{Fits}
 use native.Mathlib.Decide.{dec_le}
 use native.Mathlib.Numerals.{add-one}
 use native.Mathlib.Omega.{arith}
-use lib.Count.{count_trailing_zeros, trailing_le}
+use lib.Count.{count_trailing_zeros}
 use lib.ListN.{get_or}
 use Rattle.rowset.specs.Sets.{uppermost}
 use Rattle.rowset.proofs.Laws.{uppermost-zero, uppermost-is}
@@ -29,18 +29,6 @@ found x k h p w below =
     (λ i l g.
     by_cases (dec_le i (64 * k)) (λ o. below i l o)
     (λ o. in-word x k i h (omega arith) (omega arith) ∙ bit-below-trailing 64 (get_or x.words k 0) (i - 1 - 64 * k) (omega arith))))
-
-pub loop-k-init : goal.loop-k-init
-loop-k-init c = (omega arith, λ i l g. absurd (omega arith))
-
-pub overflow_cast-z : goal.overflow_cast-z
-overflow_cast-z c = omega (arith, trailing_le 64 (get_or c.args.x.words c.loop-k.k 0))
-
-pub overflow_add-result : goal.overflow_add-result
-overflow_add-result c = omega (arith, trailing_le 64 (get_or c.args.x.words c.loop-k.k 0))
-
-pub overflow_add-result-then-w-ne0 : goal.overflow_add-result-then-w-ne0
-overflow_add-result-then-w-ne0 c = omega (arith, trailing_le 64 (get_or c.args.x.words c.loop-k.k 0))
 
 pub returns-then-w-ne0 : goal.returns-then-w-ne0
 returns-then-w-ne0 c =

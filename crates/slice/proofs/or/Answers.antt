@@ -1,22 +1,13 @@
--- `slice::or` meets its contract, by the law of the loop that and, or and xor share. The loop's invariant: the words below `k` are joined, and the others are those of `x`.
--- Assumes nothing.
-use Prim.Native.Nat.{◌-◌}
+-- `slice::or` meets its contract: each word joins the words of `x` and `y` there. Assumes nothing.
 use mathlib.Core.Bool.{◌||◌}
 use mathlib.Core.Path.{refl}
 use borrow.Author.Rules.{rules}
 use lib.Bits.{bit_or}
-use native.Mathlib.Omega.{arith}
 use Rattle.rowset.specs.Sets.{either}
 use Rattle.slice.proofs.Bits.{or-bitwise}
-use Rattle.slice.proofs.Merge.{merged-none, merged-more, merged-all}
+use Rattle.slice.proofs.Merge.{joins, joined-words}
 use Rattle.slice.proofs.or.Goals as goal
-
-pub loop-k-init : goal.loop-k-init
-loop-k-init c = merged-none bit_or _ _ (search rules)
-
-pub loop-k-preserved : goal.loop-k-preserved
-loop-k-preserved c = merged-more bit_or _ _ _ _ (omega arith) c.loop-k.invariant
 
 pub returns : goal.returns
 unfolding either
-returns c = merged-all bit_or _ _ ◌||◌ or-bitwise refl _ _ (omega arith) c.loop-k.invariant
+returns c = joined-words _ _ ◌||◌ refl _ _ _ c.from_fn.ensures.items (λ i w q d. (search rules, joins bit_or ◌||◌ or-bitwise _ _ _ (search rules)))

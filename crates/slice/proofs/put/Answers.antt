@@ -11,7 +11,7 @@ use Rattle.slice.specs.Slices.{size, component, written}
 use Rattle.slice.specs.declared.Slice.{Slice}
 use Rattle.slice.proofs.Bits.{bit-set, bit-clear}
 use Rattle.slice.proofs.Laws.{component-set, written-outside}
-use Rattle.slice.proofs.Sets.{up_to-inside, up_to-below, up_to-above}
+use Rattle.slice.proofs.Sets.{up_to-inside, up_to-outside}
 use Rattle.slice.proofs.put.Goals as goal
 
 -- the mask: 1 shifted by less than 64 does not wrap
@@ -32,10 +32,7 @@ module _ (x : Slice) (i : ℕ) (words : length x.words ≡ 16) (low : 1 ≤ i) (
       component-set x i false _ words (up_to-inside size i low high) (λ j h. rw (mask ((i - 1) % 64) (omega arith)) (bit-clear _ _ j (omega arith) h))
 
 pub returns-then-i-lt1 : goal.returns-then-i-lt1
-returns-then-i-lt1 c = sym (written-outside _ _ _ (up_to-below size c.args.i (omega arith)))
-
-pub returns-then-i-gt-SIZE : goal.returns-then-i-gt-SIZE
-returns-then-i-gt-SIZE c = sym (written-outside _ _ _ (up_to-above size c.args.i (omega arith)))
+returns-then-i-lt1 c = sym (written-outside _ _ _ (up_to-outside size c.args.i c.then-i-lt1.either))
 
 pub returns-then-b : goal.returns-then-b
 returns-then-b c =

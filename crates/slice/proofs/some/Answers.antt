@@ -1,6 +1,6 @@
 -- `slice::some` meets its contract. The loop's invariant: if `joined` is 0, no component in the words below `k` is 1, and otherwise some component is.
 -- Assumes nothing.
-use Prim.Native.Nat.{ℕ, zero, suc, ◌+◌, ◌-◌, ◌*◌, ◌^◌, ◌<◌, ◌≤◌}
+use Prim.Native.Nat.{ℕ, zero, suc, ◌+◌, ◌*◌, ◌^◌, ◌<◌, ◌≤◌}
 use mathlib.Core.Bool.{true, not}
 use mathlib.Core.Path.{◌≡◌, refl, sym, ap, ◌∙◌}
 use borrow.Author.Rules.{rules}
@@ -53,16 +53,16 @@ joined-all x w k h m = go w refl
     go zero e = rw (eq-eqb w 0 e) (sym (none_any size (component x) (λ i l g. m.clear e i l (omega arith))))
     go (suc v) e = rw (ne_eqb w 0 (λ z. omega arith)) (sym (m.found (omega arith)))
 
-pub loop-k-init : goal.loop-k-init
-loop-k-init c =
+pub loop-w-init : goal.loop-w-init
+loop-w-init c =
     record { most = omega arith; clear = λ e i l g. absurd (omega arith); found = λ p. absurd (omega arith) }
 
-pub loop-k-preserved : goal.loop-k-preserved
-loop-k-preserved c =
+pub loop-w-preserved : goal.loop-w-preserved
+loop-w-preserved c =
     let x = c.args.x in
-    let l = c.loop-k in
-    let word : Fits w64 (get_or x.words l.k 0) = search rules in
+    let l = c.loop-w in
+    let word : Fits w64 (get_or x.words l.w-index 0) = search rules in
     joined-more _ _ _ (omega arith) word.fits l.invariant
 
 pub returns : goal.returns
-returns c = joined-all _ _ _ (omega arith) c.loop-k.invariant
+returns c = joined-all _ _ _ (omega arith) c.loop-w.invariant

@@ -1,6 +1,6 @@
 -- `slice::some` meets its contract. The loop's invariant: if `joined` is 0, no component in the words below `k` is 1, and otherwise some component is.
 -- Assumes nothing.
-use Prim.Native.Nat.{ℕ, ◌-◌, ◌<◌, ◌≤◌}
+use Prim.Native.Nat.{ℕ, ◌<◌, ◌≤◌}
 use mathlib.Core.Bool.{true}
 use mathlib.Core.Path.{◌≡◌}
 use Rattle.rowset.specs.Sets.{any}
@@ -15,5 +15,5 @@ pub record Joined (x : Slice) (w k : ℕ) : Type 0 where
   pub clear : w ≡ 0 → Clear x k
   pub found : 0 < w → any size (component x) ≡ true
 
-abbrev pub invariant-loop-k : goal.invariant-loop-k
-invariant-loop-k l = Joined l.x l.joined l.k
+abbrev pub invariant-loop-w : goal.invariant-loop-w
+invariant-loop-w l = Joined l.fn.x l.joined l.w-index

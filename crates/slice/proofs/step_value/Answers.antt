@@ -9,5 +9,5 @@ pub returns : goal.returns
 returns c =
     record {
       at = c.fnd-at.ensures;
-      slice = c.put-rest.ensures ∙ written-false _ _ ∙ ap (take_out (component _)) c.fnd-at.ensures;
+      slice = c.put.ensures ∙ written-false _ _ ∙ ap (take_out (component _)) c.fnd-at.ensures;
     }

@@ -1,38 +1,28 @@
--- `slice::difference::without` meets its contract, by the law of the loop that and, or and xor share. The loop's invariant: the words below `k` are joined, and the others are those of `x`.
--- Assumes nothing.
-use Prim.Native.Nat.{◌-◌, ◌/◌, ◌%◌, ◌^◌}
-use mathlib.Core.Bool.{Bool, true, false, not, cond, ◌&&◌}
+-- `slice::difference::without` meets its contract: each word has the bits of the word of `x` there that the word of `y` lacks. Assumes nothing.
+use Prim.Native.Nat.{ℕ, ◌-◌, ◌^◌, ◌<◌}
+use mathlib.Core.Bool.{Bool, not, xor, ◌&&◌}
 use mathlib.Core.Path.{◌≡◌, refl, ap, ◌∙◌}
 use borrow.Author.Rules.{rules}
-use lib.Bits.{bit_and, bit_xor, and_shr, xor_shr, and_mod, xor_mod}
-use lib.Dec.{eqb}
-use native.Mathlib.Omega.{arith}
+use lib.Bits.{bit_and, bit_xor}
+use lib.ListN.{get_or}
+use mir.Syntax.{w64}
+use mir.Val.{Fits}
 use Rattle.rowset.specs.Sets.{without}
-use Rattle.slice.proofs.Bits.{Bitwise}
-use Rattle.slice.proofs.Merge.{merged-none, merged-more, merged-all}
-use Rattle.slice.proofs.difference.without.Invariants.{and_not}
+use Rattle.slice.specs.Slices.{bit}
+use Rattle.slice.proofs.Bits.{bit-op, and-bitwise, xor-bitwise, complement-xor, bit-ones, xor-true}
+use Rattle.slice.proofs.Merge.{Joins, joined-words}
 use Rattle.slice.proofs.difference.without.Goals as goal
 
-and_not-digit : (p q : Bool) → eqb (and_not (cond p 1 0) (cond q 1 0)) 1 ≡ (p && not q)
-and_not-digit true true = refl
-and_not-digit true false = refl
-and_not-digit false true = refl
-and_not-digit false false = refl
-
-and_not-bitwise : Bitwise and_not (λ p q. p && not q)
-and_not-bitwise =
-    record {
-      shifted = λ a b k. xor_shr a (bit_and a b) k ∙ ap (bit_xor (a / 2 ^ k)) (and_shr a b k);
-      lowest = λ a b k. xor_mod a (bit_and a b) k ∙ ap (bit_xor (a % 2 ^ k)) (and_mod a b k);
-      digit = and_not-digit;
-    }
-
-pub loop-k-init : goal.loop-k-init
-loop-k-init c = merged-none and_not _ _ (search rules)
-
-pub loop-k-preserved : goal.loop-k-preserved
-loop-k-preserved c = merged-more and_not _ _ _ _ (omega arith) c.loop-k.invariant
+-- the bits of a that b does not have
+lacking : (a b w : ℕ) → b < 2 ^ 64 → w ≡ bit_and a ((2 ^ 64 - 1) - b) → Joins (λ p q. p && not q) a b w
+lacking a b w h e j l =
+    ap (λ (v : ℕ). bit v j) e ∙ bit-op bit_and ◌&&◌ and-bitwise a _ j
+    ∙ ap (λ (p : Bool). bit a j && p) (ap (λ (v : ℕ). bit v j) (complement-xor 64 b h) ∙ bit-op bit_xor xor xor-bitwise b _ j ∙ ap (xor (bit b j)) (bit-ones 64 j l) ∙ xor-true (bit b j))
 
 pub returns : goal.returns
 unfolding without
-returns c = merged-all and_not _ _ (λ p q. p && not q) and_not-bitwise refl _ _ (omega arith) c.loop-k.invariant
+returns c =
+    joined-words _ _ (λ p q. p && not q) refl _ _ _ c.from_fn.ensures.items
+    (λ i w q d.
+    let word : Fits w64 (get_or c.args.y.words i 0) = search rules in
+    (search rules, lacking _ _ _ word.fits (search rules)))

@@ -1,16 +1,12 @@
--- `slice::words::rows_in_use` meets its contract. The loop's invariant: the first `k` words of `r` are those lent. -- Assumes nothing.
-use Prim.Native.Nat.{◌-◌}
+-- `slice::words::rows_in_use` meets its contract: each word is the one lent. Assumes nothing.
 use borrow.Author.Rules.{rules}
-use native.Mathlib.Omega.{arith}
-use Rattle.slice.proofs.Stores.{filled_none, filled_more, filled-all}
+use lib.ListN.{get_or}
+use mathlib.Core.Path.{◌≡◌}
 use Rattle.slice.proofs.Laws.{same-words}
+use Rattle.slice.proofs.Made.{made}
 use Rattle.slice.proofs.words.rows_in_use.Goals as goal
 
-pub loop-k-init : goal.loop-k-init
-loop-k-init c = filled_none (search rules)
-
-pub loop-k-preserved : goal.loop-k-preserved
-loop-k-preserved c = filled_more c.loop-k.invariant (omega arith) c.word_at.ensures
-
 pub returns : goal.returns
-returns c = same-words _ _ (filled-all c.loop-k.invariant (omega arith))
+returns c =
+    same-words _ _
+    (λ k h. made _ _ (λ i w. w ≡ get_or c.args.words.now i 0) (λ i w q d. (search rules, search rules)) _ 16 c.from_fn.ensures.items k 0 h)
