@@ -10,8 +10,6 @@ use native.Mathlib.Omega.{arith}
 use Rattle.claim.proofs.Laws.{claim_rows-marked}
 use Rattle.claim.specs.Claims.{claim_rows}
 use Rattle.refusal.specs.Outcomes.{refusal_of}
-use Rattle.refusal.specs.declared.Outcome.{Outcome}
-use Rattle.refusal.specs.declared.Outcome.TheVariants.{Done, Refused}
 use Rattle.refusal.specs.declared.Refusal.{Refusal}
 use Rattle.rowset.proofs.Integers.{total-cut}
 use Rattle.rowset.proofs.Laws.{refuted}
@@ -23,6 +21,7 @@ use Rattle.slice.specs.Slices.{size}
 use Rattle.star_spec.proofs.Accepted.{Taken, taken, used-row}
 use Rattle.star_spec.specs.Call.{Call, rows_of, used, weight_of, marked, claimed, claim_weight}
 use Rattle.star_spec.specs.Refusals.{table_causes, bad_claim, or_else, refusal}
+use Rattle.std.specs.Prelude.{Result, Ok, Err, ⊤}
 use Rattle.total_spec.specs.Total.{total_causes, uncounted, counted, total_or, claim_total}
 
 refusal-before : (xs ys : List (Option Refusal)) → refusal (xs ++ ys) ≡ none → refusal xs ≡ none
@@ -31,14 +30,14 @@ refusal-before [] ys e = refl
 refusal-before (none ∷ xs) ys e = refusal-before xs ys e
 refusal-before (some r ∷ xs) ys e = e
 
-module _ (c : Call) {o : Outcome} (checked : refusal_of o ≡ refusal (table_causes c ++ (bad_claim c ∷ []))) where
+module _ (c : Call) {o : Result ⊤ Refusal} (checked : refusal_of o ≡ refusal (table_causes c ++ (bad_claim c ∷ []))) where
   -- a call that is refused
-  pub total-refused : {r : Refusal} → o ≡ Refused r → uncounted r ≡ claim_total c
+  pub total-refused : {r : Refusal} → o ≡ Err r → uncounted r ≡ claim_total c
   unfolding claim_total total_or total_causes refusal_of
   total-refused h = sym (ap (total_or c) (sym checked ∙ ap refusal_of h))
 
   -- a call that is not
-  module _ (finished : o ≡ Done) where
+  module _ (finished : o ≡ Ok tt) where
     unrefused : refusal (table_causes c ++ (bad_claim c ∷ [])) ≡ none
     unfolding refusal_of
     unrefused = sym checked ∙ ap refusal_of finished

@@ -8,17 +8,10 @@ ghost use Rattle.total_spec.specs.Total.{claim_total};
 ghost use Rattle.total.specs.Answers.{answer_of};
 
 use in_use::InUse;
-use refusal::{Outcome, Refusal};
+use refusal::Refusal;
 use slice::rows::rows_among;
 
-// What is answered: the 64 bits of the total, or the refusal.
-#[derive(Clone, Copy)]
-pub enum Total {
-    Sum(u64),
-    Refused(Refusal),
-}
-
-// The total of the rows in use that the claim marks; no tree is asked for.
+// The 64 bits of the total of the rows in use that the claim marks; no tree is asked for.
 pub fn claim_total(
     n: u32,
     table: InUse,
@@ -26,11 +19,11 @@ pub fn claim_total(
     right: &[u8],
     weight: &[u8],
     mark: &[u8],
-) -> Total
+) -> Result<u64, Refusal>
     ensures { let c = table_in n table left.now right.now weight.now mark.now in
         answer_of result ≡ claim_total c }
 {
-    if let Outcome::Refused(refusal) = table_checks::claim_check(
+    table_checks::claim_check(
         n,
         table.m,
         table.whole,
@@ -39,10 +32,7 @@ pub fn claim_total(
         right,
         weight,
         mark,
-    ) {
-        return Total::Refused(refusal);
-    }
+    )?;
     let rows = claim::claim_rows(mark, rows_among(table.m, table.rows));
-    let sum = claim::weigh(weight, rows);
-    Total::Sum(sum)
+    Ok(claim::weigh(weight, rows))
 }
