@@ -2,6 +2,8 @@
 -- The walk in a lent matrix with room for its columns answers the same, and its words are the tree paths (own-answer, own-paths).
 -- Assumes nothing.
 use Prim.Native.Nat.{ℕ, ◌*◌, ◌≤◌}
+use Rattle.std.specs.Prelude.{Result, Ok, Err, ⊤}
+use Rattle.std.specs.Result.{IsErrAnd}
 use borrow.Author.Tests.{eqb-false, ltb-false}
 use lib.Dec.{eqb, ltb}
 use lib.ListN.{length, take, drop}
@@ -11,9 +13,8 @@ use mathlib.Core.Option.{Option, none, some}
 use mathlib.Core.Path.{◌≡◌, refl, sym, ap, ◌∙◌}
 use native.Mathlib.Omega.{arith}
 use Rattle.refusal.specs.Outcomes.{refusal_of}
-use Rattle.refusal.specs.declared.Outcome.{Outcome}
-use Rattle.refusal.specs.declared.Outcome.TheVariants.{Done, Refused}
 use Rattle.refusal.specs.declared.Refusal.{Refusal}
+use Rattle.refusal.proofs.Passed.{told}
 use Rattle.rowset.specs.Bytes.{in_row}
 use Rattle.rowset.specs.Words.{column_words, matrix_words}
 use Rattle.rowset.proofs.Laws.{clash}
@@ -26,7 +27,7 @@ use Rattle.table.proofs.Loads.{load-taken, loaded-taken}
 use Rattle.claim.proofs.Laws.{claim_rows-marked}
 use Rattle.path_walk.specs.Steps.Walks.{State}
 use Rattle.path.specs.Steps.Walks.{call_walk, own_path, own_after}
-use Rattle.table_checks.proofs.Laws.{refusal-both, refusal-one, refused-first, done_next}
+use Rattle.table_checks.proofs.Laws.{refusal-both, refusal-one, refused-on, done_next}
 use Rattle.path.proofs.Paths.{walked, walked-joined, walked-paths, joined-tree}
 
 -- the answer is that of the checks, or else that of the walk
@@ -35,9 +36,9 @@ unfolding matrix_path_causes
 answer-in-order c s words = refusal-both (before_walk c s words) (unjoined c s ∷ []) ∙ ap (or_else _) (refusal-one (unjoined c s))
 
 -- a refusal leaves the matrix as it was
-refused-keeps : (c : Call) (s : ℕ) (R : List ℕ) (o : Outcome) (r : Refusal) → o ≡ Refused r → refusal_of o ≡ matrix_path c s R → R ≡ matrix_after c s R
+refused-keeps : (c : Call) (s : ℕ) (R : List ℕ) (o : Result ⊤ Refusal) (r : Refusal) → o ≡ Err r → refusal_of o ≡ matrix_path c s R → R ≡ matrix_after c s R
 unfolding matrix_after matrix_or refusal_of
-refused-keeps c s R o r told e = rw (← e, told)
+refused-keeps c s R o r was e = rw (← e, was)
 
 -- where nothing is refused the matrix is filled
 done-fills : (c : Call) (s : ℕ) (R : List ℕ) → none ≡ matrix_path c s R → matrix_after c s R ≡ matrix_words (path_column c s) c.n ++ drop (column_words * c.n) R
@@ -85,17 +86,17 @@ checked c s words e =
 -- ── The walk in a matrix of its own ──
 
 -- what the checks settle where they are done
-pub settled : (c : Call) (s words : ℕ) (o : Outcome) → refusal_of o ≡ refusal (before_walk c s words) → o ≡ Done → Checked c s words
+pub settled : (c : Call) (s words : ℕ) (o : Result ⊤ Refusal) → refusal_of o ≡ refusal (before_walk c s words) → o ≡ Ok tt → Checked c s words
 unfolding refusal_of
 settled c s words o e done = checked c s words (sym e ∙ ap refusal_of done)
 
 -- what is answered and left: the checks refuse, or they do not and the walk decides
-module _ (c : Call) (s words : ℕ) (own : List ℕ) (o : Outcome) (e : refusal_of o ≡ refusal (before_walk c s words)) where
-  pub own-refused : (r : Refusal) → o ≡ Refused r → (refusal_of o ≡ own_path c s words own) × (own ≡ own_after c s words own)
+module _ (c : Call) (s words : ℕ) (own : List ℕ) (o : Result ⊤ Refusal) (e : refusal_of o ≡ refusal (before_walk c s words)) where
+  pub own-refused : (r : Refusal) → o ≡ Err r → (x : Result ⊤ Refusal) → IsErrAnd x (λ y. y ≡ r) → (refusal_of x ≡ own_path c s words own) × (own ≡ own_after c s words own)
   unfolding own_path own_after matrix_or refusal_of
-  own-refused r told = (refused-first o r _ _ told e, rw (← e, told))
+  own-refused r was x on = (refused-on x _ was on e, rw (← e, was))
 
-  pub own-walked : o ≡ Done → (w : Outcome) (l : List ℕ) → refusal_of w ≡ unreached c.n (call_walk c s own).reached → l ≡ (call_walk c s own).words
+  pub own-walked : o ≡ Ok tt → (w : Result ⊤ Refusal) (l : List ℕ) → refusal_of w ≡ unreached c.n (call_walk c s own).reached → l ≡ (call_walk c s own).words
       → (refusal_of w ≡ own_path c s words own) × (l ≡ own_after c s words own)
   unfolding own_path own_after matrix_or refusal_of
   own-walked done w l answer filled = (done_next o _ _ _ done e answer, filled ∙ rw (← e, done))
@@ -148,7 +149,7 @@ module _ (c : Call) (s words : ℕ) (own : List ℕ) (enough : Taken c → colum
 
 -- ── The caller's matrix ──
 
-module _ (c : Call) (s : ℕ) (R own : List ℕ) (all : length own ≡ column_words * max_vertices) (o : Outcome) (e : refusal_of o ≡ own_path c s (length R) own) where
+module _ (c : Call) (s : ℕ) (R own : List ℕ) (all : length own ≡ column_words * max_vertices) (o : Result ⊤ Refusal) (e : refusal_of o ≡ own_path c s (length R) own) where
   enough : Taken c → column_words * c.n ≤ length own
   enough t = omega (arith, t.few-vertices)
 
@@ -157,10 +158,10 @@ module _ (c : Call) (s : ℕ) (R own : List ℕ) (all : length own ≡ column_wo
   answer = e ∙ own-answer c s (length R) own enough
 
   -- a refusal leaves it
-  pub path-refuses : (r : Refusal) → o ≡ Refused r → (refusal_of o ≡ matrix_path c s R) × (R ≡ matrix_after c s R)
-  path-refuses r told = (answer, refused-keeps c s R o r told answer)
+  pub path-refuses : (r : Refusal) → o ≡ Err r → (x : Result ⊤ Refusal) → IsErrAnd x (λ y. y ≡ r) → (refusal_of x ≡ matrix_path c s R) × (R ≡ matrix_after c s R)
+  path-refuses r was x on = (told x was on answer, refused-keeps c s R o r was answer)
 
-  module _ (done : o ≡ Done) where
+  module _ (done : o ≡ Ok tt) where
     nothing : none ≡ matrix_path c s R
     unfolding refusal_of
     nothing = sym (ap refusal_of done) ∙ answer
@@ -171,7 +172,7 @@ module _ (c : Call) (s : ℕ) (R own : List ℕ) (all : length own ≡ column_wo
     path-settled = checked c s (length R) (none_first _ _ (sym (answer-in-order c s (length R)) ∙ sym nothing)).0
 
     -- and the walk's words are copied
-    pub path-fills : (l W : List ℕ) → l ≡ own_after c s (length R) own → W ≡ take (column_words * c.n) l ++ drop (column_words * c.n) R → (refusal_of Done ≡ matrix_path c s R) × (W ≡ matrix_after c s R)
+    pub path-fills : (l W : List ℕ) → l ≡ own_after c s (length R) own → W ≡ take (column_words * c.n) l ++ drop (column_words * c.n) R → (refusal_of {A = ⊤} (Ok tt) ≡ matrix_path c s R) × (W ≡ matrix_after c s R)
     unfolding refusal_of matrix_path
     path-fills l W filled copied =
         let words = ap (take (column_words * c.n)) filled ∙ own-paths c s (length R) own enough (sym nothing) in

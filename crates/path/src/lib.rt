@@ -12,24 +12,24 @@ ghost use Rattle.path.specs.Steps.Walks.{claim_walk, own_path, own_after};
 
 use in_use::InUse;
 use path_walk::walk;
-use refusal::Outcome;
+use refusal::{Cause, Refusal};
 use slice::rows::rows_among;
 use slice::{Slice, WORDS};
-use table_checks::{first, refused_at, refused_if};
+use table_checks::{refused_at, refused_if};
 
 // The words of a path matrix with as many columns as there can be vertices; a column has those of a slice.
 pub const ALL_WORDS: usize = 4080;
 
 // Cause 10: the smallest vertex of 1 to n that is not reached.
-fn joined_check(n: u32, reached: Slice) -> Outcome
+fn joined_check(n: u32, reached: Slice) -> Result<(), Refusal>
     requires { n ≤ size }
     ensures { refusal_of result ≡ unreached n (component reached) }
 {
     let v = slice::fnd(slice::not(reached));
     if (n as usize) < v {
-        return Outcome::Done;
+        return Ok(());
     }
-    refused_at(10, v as u32)
+    refused_at(Cause::NotJoined as u32, v as u32)
 }
 
 // The first `count` words of r become those of `own`.
@@ -37,17 +37,15 @@ fn fill(r: &mut [u64], own: &[u64], count: usize)
     requires { (count ≤ length r.old) × (count ≤ length own.now) }
     ensures { r.new ≡ take count own.now ++ drop count r.old }
 {
-    for k in 0..count {
-        r[k] = own[k];
-    }
+    r[..count].copy_from_slice(&own[..count]);
 }
 
 // Causes 7 and 8: the source vertex, and the size of the matrix.
-fn call_check(n: u32, s: u32, words: usize) -> Outcome
+fn call_check(n: u32, s: u32, words: usize) -> Result<(), Refusal>
     ensures { refusal_of result ≡ refusal (wrong_source n s ∷ few_words n words ∷ []) }
 {
-    let source = refused_if(s == 0 || n < s, 7);
-    first(source, refused_if(words < WORDS * n as usize, 8))
+    refused_if(s == 0 || n < s, Cause::BadSource as u32)?;
+    refused_if(words < WORDS * n as usize, Cause::ShortMatrix as u32)
 }
 
 // Causes 1 to 4, 15 and 6 to 9.
@@ -60,18 +58,15 @@ fn path_check(
     mark: &[u8],
     s: u32,
     words: usize,
-) -> Outcome
+) -> Result<(), Refusal>
     ensures { let c = table_in n table left.now right.now weight.now mark.now in
         refusal_of result ≡ refusal (before_walk c s words) }
 {
     let m = table.m;
     let rows = table.rows;
-    let claim = table_checks::claim_check(n, m, table.whole, rows, left, right, weight, mark);
-    let Outcome::Done = claim else {
-        return claim;
-    };
-    let call = call_check(n, s, words);
-    first(call, table_checks::count_check(n, m, rows, mark))
+    table_checks::claim_check(n, m, table.whole, rows, left, right, weight, mark)?;
+    call_check(n, s, words)?;
+    table_checks::count_check(n, m, rows, mark)
 }
 
 // The walk over the rows of a slice among the first m that the claim marks, and cause 10.
@@ -84,7 +79,7 @@ fn claim_walk(
     mark: &[u8],
     s: u32,
     own: &mut [u64],
-) -> Outcome
+) -> Result<(), Refusal>
     requires { n ≤ size }
     ensures answer { refusal_of result ≡ unreached n (claim_walk n m (component rows) left.now right.now mark.now s own.old).reached }
     ensures words { own.new ≡ (claim_walk n m (component rows) left.now right.now mark.now s own.old).words }
@@ -105,16 +100,13 @@ pub fn path_own(
     s: u32,
     words: usize,
     own: &mut [u64],
-) -> Outcome
+) -> Result<(), Refusal>
     ensures answer { let c = table_in n table left.now right.now weight.now mark.now in
         refusal_of result ≡ own_path c s words own.old }
     ensures words { let c = table_in n table left.now right.now weight.now mark.now in
         own.new ≡ own_after c s words own.old }
 {
-    let checked = path_check(n, table, left, right, weight, mark, s, words);
-    let Outcome::Done = checked else {
-        return checked;
-    };
+    path_check(n, table, left, right, weight, mark, s, words)?;
     claim_walk(n, table.m, table.rows, left, right, mark, s, own)
 }
 
@@ -128,16 +120,13 @@ pub fn matrix_path(
     mark: &[u8],
     s: u32,
     r: &mut [u64],
-) -> Outcome
+) -> Result<(), Refusal>
     ensures { let c = table_in n table left.now right.now weight.now mark.now in
         (refusal_of result ≡ matrix_path c s r.old) × (r.new ≡ matrix_after c s r.old) }
 {
     let mut own = [0u64; ALL_WORDS];
     let words = r.len();
-    let answer = path_own(n, table, left, right, weight, mark, s, words, &mut own);
-    let Outcome::Done = answer else {
-        return answer;
-    };
+    path_own(n, table, left, right, weight, mark, s, words, &mut own)?;
     fill(r, &own, WORDS * n as usize);
-    Outcome::Done
+    Ok(())
 }

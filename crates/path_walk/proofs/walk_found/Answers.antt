@@ -23,9 +23,6 @@ returns-then-i-eq0 c Each-left Each-right =
     ∙ begun _ _ rows _ _ _ c.empty.ensures c.write_column.ensures (c.match_ends.ensures.rows ∙ ap (either _) (Each-left _)) (c.match_ends-2.ensures.rows ∙ ap (either _) (Each-right _)) c.put_row.ensures.rows in
     record { vertices = component-words _ ∙ ap (λ (x : State). x.reached) same; paths = ap (λ (x : State). x.words) same }
 
-pub overflow_add-k : goal.overflow_add-k
-overflow_add-k c = omega (arith, c.loop-k-test.true, c.loop-k.invariant.3)
-
 pub loop-k-preserved : goal.loop-k-preserved
 unfolding steps
 loop-k-preserved c =
