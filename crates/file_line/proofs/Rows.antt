@@ -1,15 +1,16 @@
 -- Laws of marks and rows. Assumes nothing.
 use Prim.Native.Nat.{ℕ, ◌≤◌, ◌<◌}
-use borrow.Author.Tests.{le-leb, lt-leb}
-use lib.IntN.{ℤ}
+use borrow.Author.Tests.{le-ltb, le-leb, lt-leb}
+use lib.IntN.{ℤ, pos, negsuc, nat_abs}
+use lib.Signed.{lt_z}
 use mathlib.Core.Bool.{Bool, true, false, not, cond, ◌&&◌, ◌||◌}
 use mathlib.Core.List.{List}
 use mathlib.Core.Option.{none, some}
-use mathlib.Core.Path.{◌≡◌, sym, ◌∙◌}
+use mathlib.Core.Path.{◌≡◌, refl, sym, ◌∙◌}
 use native.Mathlib.Omega.{arith}
 use Rattle.stp_words.specs.Bytes.{bytes}
 use Rattle.stp_words.specs.Names.{same}
-use Rattle.stp_words.specs.Numbers.{number_of, price_of}
+use Rattle.stp_words.specs.Numbers.{number_of, below, price_of}
 use Rattle.file_text.specs.Steps.Spans.{part, piece_at}
 use Rattle.file_spec.specs.Line.{End, nothing, trench, wrong, not_junction, not_price, not_mark, says, end_of, digit_mark, mark_of, marked, whole, row}
 use Rattle.file_line.specs.Steps.Seen.{end_in, end_seen, mark_seen, amount_in, money_seen}
@@ -30,6 +31,12 @@ end_none w v e h = rw (lt-leb v 255 h) at e
 pub end-some : (w : List ℕ) (v : ℕ) → end_seen w v ≡ end_of w → v ≤ 255 → some (end_in w v) ≡ end_of w
 unfolding end_seen
 end-some w v e h = rw (le-leb v 255 h) at e
+
+-- a price is its size, below zero where it is less than 0
+pub amount-of : (z : ℤ) → amount_in (lt_z z (pos 0)) (nat_abs z) ≡ z
+unfolding amount_in below
+amount-of (pos n) = rw (le-ltb n 0 (omega arith))
+amount-of (negsuc n) = refl
 
 pub money-none : (w : List ℕ) (p : Money) → money_seen p ≡ price_of w → p.priced ≡ false → none ≡ price_of w
 unfolding money_seen

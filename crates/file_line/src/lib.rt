@@ -13,7 +13,7 @@ ghost use Rattle.stp_words.specs.Bytes.{within};
 ghost use Rattle.file_line.specs.Steps.Seen.{end_seen, mark_seen, money_seen, line_in, Lies, Good};
 
 use file_text::{Fields, Part, fields_of};
-use stp_words::{Number, Price, number_of, price_of, same};
+use stp_words::{number_of, price_of, same};
 
 const NOT_TRENCH: u32 = 20;
 
@@ -130,8 +130,8 @@ fn end_of(w: &[u8]) -> u32
     let name = is_name(w);
     let n = number_of(w);
     match n {
-        Number::Value(v) => end_number(v),
-        Number::Missing => end_name(name),
+        Some(v) => end_number(v),
+        None => end_name(name),
     }
 }
 
@@ -159,8 +159,8 @@ fn mark_of(w: &[u8]) -> u32
     let zero = either(same(w, b"no"), same(w, b"false"));
     let n = number_of(w);
     match n {
-        Number::Value(v) => mark_number(v),
-        Number::Missing => mark_word(one, zero),
+        Some(v) => mark_number(v),
+        None => mark_word(one, zero),
     }
 }
 
@@ -170,17 +170,12 @@ fn money_of(w: &[u8]) -> Money
 {
     let p = price_of(w);
     match p {
-        Price::Plus(v) => Money {
+        Some(v) => Money {
             priced: true,
-            under: false,
-            amount: v,
+            under: v < 0,
+            amount: v.unsigned_abs(),
         },
-        Price::Minus(v) => Money {
-            priced: true,
-            under: true,
-            amount: v,
-        },
-        Price::NoPrice => Money {
+        None => Money {
             priced: false,
             under: false,
             amount: 0,
@@ -304,8 +299,8 @@ fn count_line(text: &[u8], at: usize, x: Fields) -> Line
     let nt = t[1];
     let n = number_of(&text[nf..nt]);
     match n {
-        Number::Value(v) => Line::Counting(v, at),
-        Number::Missing => Line::Wrong(NOT_COUNT, at),
+        Some(v) => Line::Counting(v, at),
+        None => Line::Wrong(NOT_COUNT, at),
     }
 }
 

@@ -2,10 +2,11 @@
 
 #![tactic(auto)]
 
-ghost use Rattle.std.specs.Prelude.{◌≡◌, drop};
-ghost use Rattle.stp_words.specs.Bytes.{within, class_of, of_words, upper};
+ghost use Rattle.std.specs.Prelude.{◌≡◌, ◌≤◌, not, drop, length, IfSome};
+ghost use Rattle.std.specs.List.{position_or_len};
+ghost use Rattle.stp_words.specs.Bytes.{class_of, of_words};
 ghost use Rattle.stp_words.specs.Names.{same};
-ghost use Rattle.stp_words.specs.Numbers.{digits_to, number_of, opens_below, price_of};
+ghost use Rattle.stp_words.specs.Numbers.{digits_to, number_of, price_of};
 ghost use Rattle.stp_words.specs.Answers.{number_in, price_in};
 ghost use Rattle.stp_words.specs.Spans.{first_after, gap_from, end_from, span_of};
 
@@ -34,40 +35,20 @@ struct Start {
     first: bool,
 }
 
-// The number that a word is, if it is one.
-#[derive(Clone, Copy)]
-pub enum Number {
-    Value(u32),
-    Missing,
-}
-
-// The price that a word is, if it is one: v, or v below zero.
-#[derive(Clone, Copy)]
-pub enum Price {
-    Plus(u32),
-    Minus(u32),
-    NoPrice,
-}
-
-// The largest number that is read, the largest price, and the number that follows - in the least price.
-const MAX_NUMBER: u32 = 4294967295;
-
+// The largest price, and the number that follows - in the least price.
 const MAX_PRICE: u32 = 2147483647;
 
 const MAX_BELOW: u32 = 2147483648;
-
-// The byte -.
-const MINUS: u8 = 45;
 
 // A byte's class: digits, letters, blanks (space, tab), line ends (LF, CR), and the rest.
 pub fn class_of(b: u8) -> Class
     ensures { result ≡ class_of b }
 {
     match b {
-        48..=57 => Class::Digit,
-        65..=90 | 97..=122 => Class::Letter,
-        9 | 32 => Class::Blank,
-        10 | 13 => Class::LineEnd,
+        b'0'..=b'9' => Class::Digit,
+        b'A'..=b'Z' | b'a'..=b'z' => Class::Letter,
+        b'\t' | b' ' => Class::Blank,
+        b'\n' | b'\r' => Class::LineEnd,
         _ => Class::Other,
     }
 }
@@ -92,35 +73,32 @@ fn first_after(c: Class, first: bool) -> bool
     }
 }
 
-// The first byte of the next word at or after a place of the text, past blanks and line ends; the text's length where no word is left, or the place itself if it is past that.
-fn word_start(text: &[u8], at: usize, first: bool) -> Start
-    ensures { result ≡ gap_from at first (drop at text.now) }
+// The first byte of the next word at or after a place of the text, past blanks and line ends; the text's length where no word is left.
+fn word_start(text: &[u8], at: usize, mut first: bool) -> Start
+    requires { at ≤ length text.now }
+    ensures value { result ≡ gap_from at first (drop at text.now) }
+    ensures bound { result.at ≤ length text.now }
 {
-    let mut from = at;
-    let mut f = first;
-    while from < text.len() {
-        let c = class_of(text[from]);
+    for i in at..text.len() {
+        let c = class_of(text[i]);
         if of_words(c) {
-            return Start { at: from, first: f };
+            return Start { at: i, first };
         }
-        f = first_after(c, f);
-        from += 1;
+        first = first_after(c, first);
     }
-    Start { at: from, first: f }
+    Start {
+        at: text.len(),
+        first,
+    }
 }
 
-// The first blank or line end at or after a place of the text; its length where there is none, or the place itself if it is past that.
-fn word_end(text: &[u8], at: usize) -> usize
-    ensures { result ≡ end_from at (drop at text.now) }
+// The first blank or line end; the number of bytes where there is none.
+fn word_length(text: &[u8]) -> usize
+    ensures value { result ≡ position_or_len (λ b. not (of_words (class_of b))) text.now }
+    ensures bound { result ≤ length text.now }
 {
-    let mut to = at;
-    while to < text.len() {
-        if !of_words(class_of(text[to])) {
-            return to;
-        }
-        to += 1;
-    }
-    to
+    let end = text.iter().position(|b| !of_words(class_of(*b)));
+    end.unwrap_or(text.len())
 }
 
 // The next word at or after a place; `first` says that no word of the current line stands before that place.
@@ -128,24 +106,11 @@ fn word_end(text: &[u8], at: usize) -> usize
 pub fn next_word(text: &[u8], at: usize, first: bool) -> Span
     ensures { result ≡ span_of text.now at first }
 {
-    let begin = if at < text.len() { at } else { text.len() };
-    let s = word_start(text, begin, first);
-    let from = s.at;
-    let to = word_end(text, from);
+    let start = word_start(text, at.min(text.len()), first);
     Span {
-        from: from,
-        to: to,
-        first: s.first,
-    }
-}
-
-// A letter in its upper case, and any other byte as it is.
-fn upper(b: u8) -> u8
-    ensures { result ≡ upper b }
-{
-    match b {
-        97..=122 => b - 32,
-        _ => b,
+        from: start.at,
+        to: start.at + word_length(&text[start.at..]),
+        first: start.first,
     }
 }
 
@@ -153,81 +118,50 @@ fn upper(b: u8) -> u8
 pub fn same(word: &[u8], name: &[u8]) -> bool
     ensures { result ≡ same word.now name.now }
 {
-    if word.len() != name.len() {
-        return false;
-    }
-    for i in 0..word.len() {
-        if upper(word[i]) != upper(name[i]) {
-            return false;
-        }
-    }
-    true
+    word.eq_ignore_ascii_case(name)
 }
 
-// Whether a byte is a digit.
-fn is_digit(b: u8) -> bool
-    ensures { result ≡ within 48 57 b }
-{
-    match class_of(b) {
-        Class::Digit => true,
-        _ => false,
-    }
-}
-
-// The number that the bytes of a word from a place on are; missing where there is no byte, they are not digits alone, or it is above `most`.
+// The number that the bytes of a word are, if they are digits alone, at least one, and it is not above `most`.
 // The value only grows, so that reading may end as soon as it is too large.
-fn digits_to(word: &[u8], from: usize, most: u32) -> Number
-    ensures { number_in result ≡ digits_to most (drop from word.now) }
+fn digits_to(word: &[u8], most: u32) -> Option<u32>
+    ensures value { number_in result ≡ digits_to most word.now }
+    ensures bound { IfSome result (λ v. v ≤ most) }
 {
-    if word.len() <= from {
-        return Number::Missing;
+    if word.is_empty() {
+        return None;
     }
-    let top = most as u64;
     let mut v: u64 = 0;
-    for i in from..word.len() {
-        let b = word[i];
-        if !is_digit(b) {
-            return Number::Missing;
+    for b in word {
+        if !b.is_ascii_digit() {
+            return None;
         }
-        v = 10 * v + (b - 48) as u64;
-        if top < v {
-            return Number::Missing;
+        v = 10 * v + u64::from(*b - b'0');
+        if u64::from(most) < v {
+            return None;
         }
     }
-    Number::Value(v as u32)
+    Some(v as u32)
 }
 
-// The number that a word is; missing where it has no byte, is not digits alone, or is above 4,294,967,295.
-pub fn number_of(word: &[u8]) -> Number
+// The number that a word is: digits, at least one, to 4,294,967,295.
+pub fn number_of(word: &[u8]) -> Option<u32>
     ensures { number_in result ≡ number_of word.now }
 {
-    digits_to(word, 0, MAX_NUMBER)
-}
-
-// Whether a word opens with -.
-fn opens_below(word: &[u8]) -> bool
-    ensures { result ≡ opens_below word.now }
-{
-    if word.len() == 0 {
-        return false;
-    }
-    word[0] == MINUS
+    digits_to(word, u32::MAX)
 }
 
 // The price that a word is: digits, after an optional -, from -2,147,483,648 to 2,147,483,647.
-pub fn price_of(word: &[u8]) -> Price
+pub fn price_of(word: &[u8]) -> Option<i32>
     ensures { price_in result ≡ price_of word.now }
 {
-    if opens_below(word) {
-        let n = digits_to(word, 1, MAX_BELOW);
-        return match n {
-            Number::Value(v) => Price::Minus(v),
-            Number::Missing => Price::NoPrice,
-        };
-    }
-    let n = digits_to(word, 0, MAX_PRICE);
-    match n {
-        Number::Value(v) => Price::Plus(v),
-        Number::Missing => Price::NoPrice,
+    match word.strip_prefix(b"-") {
+        Some(digits) => {
+            let v = digits_to(digits, MAX_BELOW)?;
+            Some(-i64::from(v) as i32)
+        }
+        None => {
+            let v = digits_to(word, MAX_PRICE)?;
+            Some(v as i32)
+        }
     }
 }

@@ -25,18 +25,18 @@ slice_bounds-number_of-start c = c.requires.order 1 (omega arith) (omega arith)
 pub slice_bounds-number_of-end : goal.slice_bounds-number_of-end
 slice_bounds-number_of-end c = c.requires.high 1 (omega arith) (omega arith)
 
-pub returns-in-Value : goal.returns-in-Value
+pub returns-in-Some : goal.returns-in-Some
 unfolding line_in Good counted number_in part
-returns-in-Value c =
+returns-in-Some c =
     record {
-      result_value = λ fs r. count-one _ fs _ _ _ r _ c.if-x-ne2.false _ (sym (ap number_in c.in-Value.is) ∙ c.number_of-n.ensures);
+      result_value = λ fs r. count-one _ fs _ _ _ r _ c.if-x-ne2.false _ (sym (ap number_in c.in-Some.is) ∙ c.number_of-n.ensures);
       good = refl;
     }
 
-pub returns-in-Missing : goal.returns-in-Missing
+pub returns-in-None : goal.returns-in-None
 unfolding line_in Good counted number_in part
-returns-in-Missing c =
+returns-in-None c =
     record {
-      result_value = λ fs r. count-one _ fs _ _ _ r _ c.if-x-ne2.false _ (sym (ap number_in c.in-Missing.is) ∙ c.number_of-n.ensures);
+      result_value = λ fs r. count-one _ fs _ _ _ r _ c.if-x-ne2.false _ (sym (ap number_in c.in-None.is) ∙ c.number_of-n.ensures);
       good = refl;
     }

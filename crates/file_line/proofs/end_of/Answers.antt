@@ -4,12 +4,12 @@ use Rattle.stp_words.specs.Answers.{number_in}
 use Rattle.file_spec.specs.Line.{numbered, end_of}
 use Rattle.file_line.proofs.end_of.Goals as goal
 
-pub returns-in-Value : goal.returns-in-Value
+pub returns-in-Some : goal.returns-in-Some
 unfolding end_of number_in
-returns-in-Value c =
-    let w = c.args.w.now in c.end_number.ensures w ∙ ap (numbered w) (sym (ap number_in c.in-Value.is) ∙ c.number_of-n.ensures)
+returns-in-Some c =
+    let w = c.args.w.now in c.end_number.ensures w ∙ ap (numbered w) (sym (ap number_in c.in-Some.is) ∙ c.number_of-n.ensures)
 
-pub returns-in-Missing : goal.returns-in-Missing
+pub returns-in-None : goal.returns-in-None
 unfolding end_of number_in
-returns-in-Missing c =
-    let w = c.args.w.now in c.end_name.ensures w (sym c.is_name-name.ensures) ∙ ap (numbered w) (sym (ap number_in c.in-Missing.is) ∙ c.number_of-n.ensures)
+returns-in-None c =
+    let w = c.args.w.now in c.end_name.ensures w (sym c.is_name-name.ensures) ∙ ap (numbered w) (sym (ap number_in c.in-None.is) ∙ c.number_of-n.ensures)

@@ -7,19 +7,19 @@ use Rattle.file_spec.specs.Line.{digit_mark, mark_of}
 use Rattle.file_line.proofs.Rows.{word-mark}
 use Rattle.file_line.proofs.mark_of.Goals as goal
 
-pub returns-in-Value : goal.returns-in-Value
+pub returns-in-Some : goal.returns-in-Some
 unfolding mark_of number_in
-returns-in-Value c =
+returns-in-Some c =
     λ at.
     let f : Piece = record { at = at; letters = c.args.w.now } in
-    c.mark_number.ensures f ∙ ap (λ n. digit_mark n f) (sym (ap number_in c.in-Value.is) ∙ c.number_of-n.ensures)
+    c.mark_number.ensures f ∙ ap (λ n. digit_mark n f) (sym (ap number_in c.in-Some.is) ∙ c.number_of-n.ensures)
 
-pub returns-in-Missing : goal.returns-in-Missing
+pub returns-in-None : goal.returns-in-None
 unfolding number_in bytes
-returns-in-Missing c =
+returns-in-None c =
     λ at.
     word-mark _ at _ _ _ _ _ _ _ _ _ c.same.ensures c.same-2.ensures c.same-3.ensures c.same-4.ensures c.same-5.ensures c.either.ensures
     c.either-one.ensures
     c.either-zero.ensures
     c.mark_word.ensures
-    (sym (ap number_in c.in-Missing.is) ∙ c.number_of-n.ensures)
+    (sym (ap number_in c.in-None.is) ∙ c.number_of-n.ensures)

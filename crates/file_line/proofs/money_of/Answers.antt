@@ -1,17 +1,17 @@
 -- `file_line::money_of` meets its contract. Assumes nothing.
-use mathlib.Core.Path.{sym, ap, ◌∙◌}
+use Rattle.std.proofs.Common.{◌≡◌, sym, ap, ◌∙◌, arith, to_z, of_z, w32}
+use Rattle.std.proofs.lemmas.Int.{ints}
 use Rattle.stp_words.specs.Answers.{price_in}
-use Rattle.file_line.specs.Steps.Seen.{money_seen, amount_in}
+use Rattle.file_line.specs.Steps.Seen.{money_seen}
+use Rattle.file_line.proofs.Rows.{amount-of}
 use Rattle.file_line.proofs.money_of.Goals as goal
 
-pub returns-in-Plus : goal.returns-in-Plus
-unfolding money_seen amount_in price_in
-returns-in-Plus c = sym (ap price_in c.in-Plus.is) ∙ c.price_of-p.ensures
+pub returns-in-Some : goal.returns-in-Some
+unfolding money_seen price_in
+returns-in-Some c =
+    let e : to_z w32 (of_z w32 c.in-Some.v) ≡ c.in-Some.v = omega (arith, ints) in
+    rw (c.unsigned_abs.ensures.value, e, amount-of c.in-Some.v) c.in-Some.ensures
 
-pub returns-in-Minus : goal.returns-in-Minus
-unfolding money_seen amount_in price_in
-returns-in-Minus c = sym (ap price_in c.in-Minus.is) ∙ c.price_of-p.ensures
-
-pub returns-in-NoPrice : goal.returns-in-NoPrice
-unfolding money_seen amount_in price_in
-returns-in-NoPrice c = sym (ap price_in c.in-NoPrice.is) ∙ c.price_of-p.ensures
+pub returns-in-None : goal.returns-in-None
+unfolding money_seen price_in
+returns-in-None c = c.in-None.ensures

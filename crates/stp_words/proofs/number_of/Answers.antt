@@ -5,4 +5,4 @@ use Rattle.stp_words.proofs.number_of.Goals as goal
 
 pub returns : goal.returns
 unfolding number_in number_of
-returns c = c.digits_to.ensures
+returns c = c.digits_to.ensures.value

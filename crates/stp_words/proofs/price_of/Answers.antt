@@ -1,25 +1,31 @@
 -- `stp_words::price_of` meets its contract: the digits after -, or those of the whole word. Assumes nothing.
-use mathlib.Core.Path.{sym, ap, ◌∙◌}
+use Rattle.std.proofs.Common.{arith, ap, ◌∙◌}
+use Rattle.std.proofs.lemmas.Int.{ints}
+use Rattle.std.proofs.Math.Option.{some}
 use Rattle.stp_words.specs.Answers.{number_in, price_in}
-use Rattle.stp_words.proofs.Loops.{price-below, price-above}
+use Rattle.stp_words.specs.Numbers.{below}
+use Rattle.stp_words.proofs.Loops.{opens, price-below, price-above}
 use Rattle.stp_words.proofs.price_of.Goals as goal
 
-pub returns-in-Value : goal.returns-in-Value
+pub returns-in_err-v-in-Some : goal.returns-in_err-v-in-Some
 unfolding number_in price_in
-returns-in-Value c =
-    price-below _ _ (sym c.opens_below.ensures ∙ c.if-opens_below.true) (ap number_in (sym c.in-Value.is) ∙ c.digits_to-n.ensures)
+returns-in_err-v-in-Some c =
+    rw c.from_residual.ensures
+    (price-below _ _ (opens _ c.in-Some.ensures.cases.0) (rw c.in-Some.ensures.cases.1 at c.in_err-v-in-Some.ensures.value))
 
-pub returns-in-Missing : goal.returns-in-Missing
-unfolding number_in price_in
-returns-in-Missing c =
-    price-below _ _ (sym c.opens_below.ensures ∙ c.if-opens_below.true) (ap number_in (sym c.in-Missing.is) ∙ c.digits_to-n.ensures)
+pub returns-in_ok-v-in-Some : goal.returns-in_ok-v-in-Some
+unfolding number_in price_in below
+returns-in_ok-v-in-Some c =
+    ap some (omega (arith, ints, c.in_ok-v-in-Some.ensures.bound, c.from.ensures))
+    ∙ price-below _ _ (opens _ c.in-Some.ensures.cases.0) (rw c.in-Some.ensures.cases.1 at c.in_ok-v-in-Some.ensures.value)
 
-pub returns-in-Value-n : goal.returns-in-Value-n
+pub returns-in_err-v-in-None : goal.returns-in_err-v-in-None
 unfolding number_in price_in
-returns-in-Value-n c =
-    price-above _ _ (sym c.opens_below.ensures ∙ c.if-opens_below.false) (ap number_in (sym c.in-Value-n.is) ∙ c.digits_to-n-2.ensures)
+returns-in_err-v-in-None c =
+    rw c.from_residual-in_err-v-in-None.ensures (price-above _ _ (opens _ c.in-None.ensures.cases) c.in_err-v-in-None.ensures.value)
 
-pub returns-in-Missing-n : goal.returns-in-Missing-n
+pub returns-in_ok-v-in-None : goal.returns-in_ok-v-in-None
 unfolding number_in price_in
-returns-in-Missing-n c =
-    price-above _ _ (sym c.opens_below.ensures ∙ c.if-opens_below.false) (ap number_in (sym c.in-Missing-n.is) ∙ c.digits_to-n-2.ensures)
+returns-in_ok-v-in-None c =
+    ap some (omega (arith, ints, c.in_ok-v-in-None.ensures.bound))
+    ∙ price-above _ _ (opens _ c.in-None.ensures.cases) c.in_ok-v-in-None.ensures.value
