@@ -81,6 +81,14 @@ component-ext x p out inside = fun_ext (λ i. go i (up_to size i) refl)
         ∙ inside ((i - 1) / 64) ((i - 1) % 64) (omega arith) (omega arith)
         ∙ ap p at
 
+-- a slice has the components of its words, and words those of the slice that they are the words of
+pub component-words : (x : Slice) → component x ≡ in_words x.words
+unfolding component in_words bit
+component-words x = refl
+
+pub words-component : (l : List ℕ) → in_words l ≡ component (record { words = l })
+words-component l = sym (component-words (record { words = l }))
+
 -- a slice whose sixteen words are the first of l has the components of l
 pub same-words : (x : Slice) (l : List ℕ) → ((k : ℕ) → k < 16 → get_or x.words k 0 ≡ get_or l k 0) → component x ≡ in_words l
 unfolding component in_words bit

@@ -83,17 +83,8 @@ pub fn get(x: Slice, i: usize) -> bool
 pub fn put(x: Slice, i: usize, b: bool) -> Slice
     ensures { component result ≡ written (component x) i b }
 {
-    if i < 1 || SIZE < i {
-        return x;
-    }
     let mut r = x;
-    let k = i - 1;
-    let mask: u64 = 1 << (k % BITS);
-    if b {
-        r.words[k / BITS] |= mask;
-    } else {
-        r.words[k / BITS] &= !mask;
-    }
+    words::write_row(&mut r.words, i, b);
     r
 }
 

@@ -1,10 +1,10 @@
--- Laws of slices as words: a slice has the components of its words, and where two slices differ first.
+-- Laws of slices as words: where two slices differ first, and that a slice has the components of its words.
 -- Assumes nothing.
 use Prim.Native.Nat.{ℕ, suc, ◌+◌, ◌-◌, ◌*◌, ◌<◌, ◌≤◌}
 use mathlib.Core.Bool.{Bool, true, false, xor}
 use mathlib.Core.List.{List}
 use mathlib.Core.Logic.{by_cases}
-use mathlib.Core.Path.{◌≡◌, refl, sym, ap, ap₂, ◌∙◌}
+use mathlib.Core.Path.{◌≡◌, sym, ap, ap₂, ◌∙◌}
 use native.Mathlib.Decide.{dec_le}
 use native.Mathlib.Numerals.{add-one}
 use native.Mathlib.Omega.{arith}
@@ -15,17 +15,8 @@ use Rattle.rowset.specs.Sets.{one_of, uppermost}
 use Rattle.rowset.specs.Words.{in_words}
 use Rattle.slice.proofs.Bits.{bit-op, xor-bitwise, bit-of-zero}
 use Rattle.slice.proofs.Laws.{component-at}
-use Rattle.slice.specs.Slices.{size, bit, component}
-use Rattle.slice.specs.declared.Slice.{Slice}
-
--- a slice has the components of its words
-pub component-words : (x : Slice) → component x ≡ in_words x.words
-unfolding component in_words bit
-component-words x = refl
-
--- words have the components of the slice that they are the words of
-pub words-component : (l : List ℕ) → in_words l ≡ component (record { words = l })
-words-component l = sym (component-words (record { words = l }))
+pub use Rattle.slice.proofs.Laws.{component-words, words-component}
+use Rattle.slice.specs.Slices.{size, bit}
 
 -- no position in the words below word k belongs
 abbrev pub Clear : (ℕ → Bool) → ℕ → Type 0

@@ -9,6 +9,7 @@ ghost use Rattle.rowset.specs.Words.{in_words};
 ghost use Rattle.slice.specs.Slices.{size, bit, component, written};
 
 use slice::Slice;
+use slice::words::write_row;
 
 // The components in a word.
 const BITS: usize = 64;
@@ -17,17 +18,11 @@ const BITS: usize = 64;
 pub fn row_in(words: &[u64], i: usize) -> bool
     ensures { result ≡ in_words words.now i }
 {
-    if i < 1 {
+    if i < 1 || slice::SIZE < i {
         return false;
     }
-    if slice::SIZE < i {
-        return false;
-    }
-    let k = (i - 1) / BITS;
-    if words.len() <= k {
-        return false;
-    }
-    (words[k] >> ((i - 1) % BITS)) % 2 == 1
+    let word = words.get((i - 1) / BITS).copied().unwrap_or(0);
+    (word >> ((i - 1) % BITS)) % 2 == 1
 }
 
 // The number of rows of a slice.
@@ -35,28 +30,10 @@ pub fn count_rows(x: Slice) -> usize
     ensures { result ≡ count size (component x) }
 {
     let mut count = 0;
-    let mut i = 0;
-    while i < slice::SIZE {
-        i += 1;
-        count += row_in(&x.words, i) as usize;
+    for i in 0..slice::SIZE {
+        count += row_in(&x.words, i + 1) as usize;
     }
     count
-}
-
-// Component i of sixteen words becomes 1.
-fn put_in(words: &mut [u64], i: usize)
-    requires { length words.old ≡ 16 }
-    ensures rows { in_words words.new ≡ written (in_words words.old) i true }
-    ensures size { length words.new ≡ 16 }
-{
-    if i < 1 {
-        return;
-    }
-    if slice::SIZE < i {
-        return;
-    }
-    let k = (i - 1) / BITS;
-    words[k] = words[k] | (1 << ((i - 1) % BITS));
 }
 
 // Component i becomes 1.
@@ -64,7 +41,7 @@ pub fn put_row(words: &mut [u64; slice::WORDS], i: usize)
     ensures rows { in_words words.new ≡ written (in_words words.old) i true }
     ensures size { length words.new ≡ 16 }
 {
-    put_in(words, i);
+    write_row(words, i, true);
 }
 
 // The place of the lowest bit of a word that is not 0.
@@ -72,7 +49,7 @@ fn lowest(w: u64) -> usize
     requires { 0 < w }
     ensures { (result < 64) × (bit w result ≡ true) × ((j : ℕ) → j < result → bit w j ≡ false) }
 {
-    u64::trailing_zeros(w) as usize
+    w.trailing_zeros() as usize
 }
 
 // The place of the highest bit of a word that is not 0.
@@ -80,20 +57,18 @@ fn highest(w: u64) -> usize
     requires { 0 < w }
     ensures { (result < 64) × (bit w result ≡ true) × ((j : ℕ) → result < j → bit w j ≡ false) }
 {
-    BITS - 1 - u64::leading_zeros(w) as usize
+    BITS - 1 - w.leading_zeros() as usize
 }
 
 // The position of the last component that the slice has, 0 where it has none.
 pub fn last_row(words: &[u64; slice::WORDS]) -> usize
     ensures { (result ≤ size) × (0 < result → in_words words.now result ≡ true) × ((i : ℕ) → result < i → in_words words.now i ≡ false) }
 {
-    let mut k = slice::WORDS;
-    while 0 < k {
-        let w = words[k - 1];
+    for k in (0..slice::WORDS).rev() {
+        let w = words[k];
         if w != 0 {
-            return BITS * (k - 1) + highest(w) + 1;
+            return BITS * k + highest(w) + 1;
         }
-        k -= 1;
     }
     0
 }

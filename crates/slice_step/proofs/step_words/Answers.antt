@@ -27,6 +27,6 @@ pub returns : goal.returns
 returns c =
     let at = c.first_difference-at.ensures ∙ ap (uppermost size) (from-none _) in record {
       at = at;
-      rows = c.clear_in.ensures.rows ∙ cleared _ _ ∙ ap (take_out _) at;
-      size = c.clear_in.ensures.size;
+      rows = c.write_row.ensures.rows ∙ cleared _ _ ∙ ap (take_out _) at;
+      size = c.write_row.ensures.size;
     }

@@ -1,6 +1,5 @@
--- `slice_words::count_rows` meets its contract. The loop's invariant: `count` is the number of rows of 1 to i. The measure is what is left of the rows.
+-- `slice_words::count_rows` meets its contract. The loop's invariant: `count` is the number of rows of 1 to i.
 -- Assumes nothing.
-use Prim.Native.Nat.{◌-◌}
 use mathlib.Core.Path.{◌≡◌, sym}
 use native.Mathlib.Omega.{arith}
 use Rattle.rowset.proofs.Laws.{count-bound}

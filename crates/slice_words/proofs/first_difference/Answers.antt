@@ -1,5 +1,4 @@
 -- `slice_words::first_difference` meets its contract. The loop's invariant: the slices have the same components in the words below `k`. -- Assumes nothing.
-use Prim.Native.Nat.{◌-◌}
 use mathlib.Core.Path.{sym}
 use native.Mathlib.Omega.{arith}
 use Rattle.rowset.proofs.Laws.{uppermost-zero}
@@ -9,15 +8,6 @@ use Rattle.slice_words.proofs.first_difference.Goals as goal
 
 pub loop-k-init : goal.loop-k-init
 loop-k-init c = (omega arith, λ i l g. absurd (omega arith))
-
-pub lowest-requires : goal.lowest-requires
-lowest-requires c = omega (arith, c.if-w-ne0.true)
-
-pub overflow_add-result : goal.overflow_add-result
-overflow_add-result c = omega (arith, c.lowest.ensures.0)
-
-pub overflow_add-result-then-w-ne0 : goal.overflow_add-result-then-w-ne0
-overflow_add-result-then-w-ne0 c = omega (arith, c.lowest.ensures.0)
 
 pub returns-then-w-ne0 : goal.returns-then-w-ne0
 returns-then-w-ne0 c =

@@ -1,4 +1,4 @@
--- `slice_words::last_row` meets its contract. The loop's invariant: the words from k on are 0. The measure is k.
+-- `slice_words::last_row` meets its contract. The loop's invariant: the words from k on are 0.
 -- Assumes nothing.
 use Prim.Native.Nat.{ℕ, ◌+◌, ◌-◌, ◌*◌, ◌≤◌, ◌<◌}
 use mathlib.Core.Bool.{true, false}
@@ -42,27 +42,18 @@ module _ (l : List ℕ) (k : ℕ) (h : k < 16) (past : (i : ℕ) → 64 * k + 64
   )
 
 pub loop-k-init : goal.loop-k-init
-loop-k-init c = (omega arith, past_all _)
-
-pub highest-requires : goal.highest-requires
-highest-requires c = omega (arith, c.if-w-ne0.true)
-
-pub overflow_add-result : goal.overflow_add-result
-overflow_add-result c = omega (arith, c.highest.ensures.0)
-
-pub overflow_add-result-then-w-ne0 : goal.overflow_add-result-then-w-ne0
-overflow_add-result-then-w-ne0 c = omega (arith, c.highest.ensures.0)
+loop-k-init c = past_all _
 
 pub returns-then-w-ne0 : goal.returns-then-w-ne0
 returns-then-w-ne0 c =
     let (small, set, above) = c.highest.ensures in
     let l = c.loop-k in
-    last _ (l.k - 1) (omega (arith, l.invariant.0)) (λ i o. l.invariant.1 i (omega arith)) _ small set above
+    last _ (l.k - 1) (omega arith) (λ i o. l.invariant i (omega arith)) _ small set above
 
 pub loop-k-preserved : goal.loop-k-preserved
 loop-k-preserved c =
     let l = c.loop-k in
-    (omega (arith, l.invariant.0), past_more _ (l.k - 1) (omega (arith, l.invariant.0)) (λ i o. l.invariant.1 i (omega arith)) c.if-w-ne0.false)
+    past_more _ (l.k - 1) (omega arith) (λ i o. l.invariant i (omega arith)) c.if-w-ne0.false
 
 pub returns : goal.returns
-returns c = let l = c.loop-k in (omega arith, λ o. absurd (omega arith), λ i o. l.invariant.1 i (omega arith))
+returns c = let l = c.loop-k in (omega arith, λ o. absurd (omega arith), λ i o. l.invariant i (omega arith))

@@ -1,6 +1,6 @@
--- `slice_words::last_row` meets its contract. The loop's invariant: the words from k on are 0. The measure is k.
+-- `slice_words::last_row` meets its contract. The loop's invariant: the words from k on are 0.
 -- Assumes nothing.
-use Prim.Native.Nat.{ℕ, ◌-◌, ◌*◌, ◌≤◌, ◌<◌}
+use Prim.Native.Nat.{ℕ, ◌*◌, ◌<◌}
 use mathlib.Core.Bool.{false}
 use mathlib.Core.List.{List}
 use mathlib.Core.Path.{◌≡◌}
@@ -12,7 +12,4 @@ abbrev pub Past : List ℕ → ℕ → Type 0
 Past l k = (i : ℕ) → 64 * k < i → in_words l i ≡ false
 
 abbrev pub invariant-loop-k : goal.invariant-loop-k
-invariant-loop-k l = (l.k ≤ 16) × Past l.words l.k
-
-abbrev pub decreases-loop-k : goal.decreases-loop-k
-decreases-loop-k l = l.k
+invariant-loop-k l = Past l.words l.k
