@@ -1,7 +1,10 @@
 -- Laws of the numbers that are read: a number or a price that is next, a line of a name and a number, and how reading goes on from them.
 -- Assumes nothing.
 use Prim.Native.Nat.{ℕ, zero, suc, ◌-◌, ◌≤◌, ◌<◌}
-use lib.IntN.{ℤ}
+use lib.IntN.{ℤ, pos, negsuc}
+use mir.Syntax.{w32}
+use mir.Val.{SFits, of_z}
+use Rattle.std.proofs.lemmas.Int.{ints}
 use lib.ListN.{length}
 use mathlib.Core.Bool.{Bool, true, false, cond, ◌&&◌, true≢false}
 use mathlib.Core.List.{List}
@@ -127,12 +130,8 @@ number-leads text f x e = rw e
 pub stopped : (text : List ℕ) (at p rows : ℕ) (y : Step) → rows ≤ at → at ≤ p → p ≤ length text → y.at ≡ p → (at ≤ y.at) × (y.at ≤ length text) × (rows ≤ y.at)
 stopped text at p rows y h l u e = (omega arith, omega arith, omega arith)
 
--- the 32 bits of v below zero
-pub below-zero : (v : ℕ) → v ≡ 0 → 0 ≡ to_bits 32 (below v)
-unfolding below to_bits
-below-zero v e = rw e
-
-pub below-some : (v : ℕ) → (v ≡ 0 → ⊥) → 4294967295 - (v - 1) ≡ to_bits 32 (below v)
-unfolding below to_bits
-below-some zero n = absurd (n refl)
-below-some (suc v) n = omega arith
+-- the 32 bits of a price
+pub price-bits : (z : ℤ) → SFits w32 z → of_z w32 z ≡ to_bits 32 z
+unfolding to_bits
+price-bits (pos n) f = omega (arith, ints)
+price-bits (negsuc n) f = omega (arith, ints)

@@ -9,7 +9,7 @@ ghost use Rattle.stp_reader.specs.Steps.Reading.{read_on, resumed};
 ghost use Rattle.stp_reader.specs.Steps.Lines.{NumberRead, PriceRead, CountRead, Onward, line_resumed};
 ghost use Rattle.stp_words.specs.Numbers.{below};
 
-use stp_words::{Number, Price, next_word, number_of, price_of, same};
+use stp_words::{next_word, number_of, price_of, same};
 
 // The rows that a column has, and the bytes of a column of weights.
 pub const ROWS: usize = 1024;
@@ -77,20 +77,13 @@ fn number_at(text: &[u8], at: usize) -> Counted
     }
     let number = number_of(&text[from..to]);
     match number {
-        Number::Value(v) => Counted {
+        Some(v) => Counted {
             at: to,
             value: v,
             broken: false,
         },
-        Number::Missing => no,
+        None => no,
     }
-}
-
-// The 32 bits, in two's complement, of the integer that is v below zero.
-fn bits_below(v: u32) -> u32
-    ensures { result ≡ to_bits 32 (below v) }
-{
-    if v == 0 { 0 } else { 4294967295 - (v - 1) }
 }
 
 // A price on the line that is being read.
@@ -111,17 +104,12 @@ fn price_at(text: &[u8], at: usize) -> Counted
     }
     let price = price_of(&text[from..to]);
     match price {
-        Price::Plus(v) => Counted {
+        Some(v) => Counted {
             at: to,
-            value: v,
+            value: v.cast_unsigned(),
             broken: false,
         },
-        Price::Minus(v) => Counted {
-            at: to,
-            value: bits_below(v),
-            broken: false,
-        },
-        Price::NoPrice => no,
+        None => no,
     }
 }
 

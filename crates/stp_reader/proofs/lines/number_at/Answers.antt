@@ -24,12 +24,12 @@ slice_bounds-number_of-start c = (word (goal.at.slice_bounds-number_of-start c).
 pub slice_bounds-number_of-end : goal.slice_bounds-number_of-end
 slice_bounds-number_of-end c = (word (goal.at.slice_bounds-number_of-end c).After-next_word-w).high
 
-pub returns-in-Value : goal.returns-in-Value
+pub returns-in-Some : goal.returns-in-Some
 unfolding number_in
-returns-in-Value c =
-    number-taken (word (goal.at.returns-in-Value c).After-next_word-w) c.if-w.false (sym c.number_of-number.ensures ∙ ap number_in c.in-Value.is)
+returns-in-Some c =
+    number-taken (word (goal.at.returns-in-Some c).After-next_word-w) c.if-w.false (sym c.number_of-number.ensures ∙ ap number_in c.in-Some.is)
 
-pub returns-in-Missing : goal.returns-in-Missing
+pub returns-in-None : goal.returns-in-None
 unfolding number_in
-returns-in-Missing c =
-    number-missing (word (goal.at.returns-in-Missing c).After-next_word-w) (sym c.number_of-number.ensures ∙ ap number_in c.in-Missing.is)
+returns-in-None c =
+    number-missing (word (goal.at.returns-in-None c).After-next_word-w) (sym c.number_of-number.ensures ∙ ap number_in c.in-None.is)

@@ -1,9 +1,11 @@
--- `stp_reader::price_at` meets its contract: the next word is first on its line, no price, or a price, which opens with - or not.
+-- `stp_reader::price_at` meets its contract: the next word is first on its line, no price, or a price.
 -- Assumes nothing.
 use mathlib.Core.Bool.{false}
 use mathlib.Core.Path.{refl, sym, ap, ◌∙◌}
-use Rattle.rowset.specs.Integers.{to_bits}
-use Rattle.stp_reader.proofs.Counts.{price-first, price-missing, price-taken}
+use Rattle.std.proofs.Common.{◌≡◌, rules, arith, w32, to_z, of_z}
+use Rattle.std.proofs.lemmas.Int.{ints}
+use mir.Val.{SFits}
+use Rattle.stp_reader.proofs.Counts.{price-first, price-missing, price-taken, price-bits}
 use Rattle.stp_reader.proofs.Reading.{NextWord, next_word}
 use Rattle.stp_words.specs.Answers.{price_in}
 use Rattle.stp_reader.proofs.lines.price_at.Goals as goal
@@ -25,17 +27,15 @@ slice_bounds-price_of-start c = (word (goal.at.slice_bounds-price_of-start c).Af
 pub slice_bounds-price_of-end : goal.slice_bounds-price_of-end
 slice_bounds-price_of-end c = (word (goal.at.slice_bounds-price_of-end c).After-next_word-w).high
 
-pub returns-in-Plus : goal.returns-in-Plus
-unfolding price_in to_bits
-returns-in-Plus c =
-    price-taken (word (goal.at.returns-in-Plus c).After-next_word-w) c.if-w.false (sym c.price_of-price.ensures ∙ ap price_in c.in-Plus.is) refl
-
-pub returns-in-Minus : goal.returns-in-Minus
+pub returns-in-Some : goal.returns-in-Some
 unfolding price_in
-returns-in-Minus c =
-    price-taken (word (goal.at.returns-in-Minus c).After-next_word-w) c.if-w.false (sym c.price_of-price.ensures ∙ ap price_in c.in-Minus.is) c.bits_below.ensures
+returns-in-Some c =
+    let f : SFits w32 c.in-Some.v = search rules in
+    let e : to_z w32 (of_z w32 c.in-Some.v) ≡ c.in-Some.v = omega (arith, ints) in
+    price-taken (word (goal.at.returns-in-Some c).After-next_word-w) c.if-w.false (sym c.price_of-price.ensures ∙ ap price_in c.in-Some.is)
+    ((rw e at c.cast_unsigned.ensures) ∙ price-bits c.in-Some.v f)
 
-pub returns-in-NoPrice : goal.returns-in-NoPrice
+pub returns-in-None : goal.returns-in-None
 unfolding price_in
-returns-in-NoPrice c =
-    price-missing (word (goal.at.returns-in-NoPrice c).After-next_word-w) (sym c.price_of-price.ensures ∙ ap price_in c.in-NoPrice.is)
+returns-in-None c =
+    price-missing (word (goal.at.returns-in-None c).After-next_word-w) (sym c.price_of-price.ensures ∙ ap price_in c.in-None.is)
