@@ -156,7 +156,7 @@ print-below x h k =
         rw (h, add-one y)
 
 -- 32 bits whose first one is 1 stand for the same integer with 32 bits 1 before them
-pub wider : (x : ℕ) → 2147483648 ≤ x → x < 4294967296 → from_bits 64 (x + 18446744069414584320) ≡ signed x
+wider : (x : ℕ) → 2147483648 ≤ x → x < 4294967296 → from_bits 64 (x + 18446744069414584320) ≡ signed x
 wider x h k =
     rw (
       small-bits 64 (x + 18446744069414584320) (omega arith),
@@ -174,3 +174,15 @@ wider x h k =
       pos-parts 18446744073709551616,
       pos-parts 4294967296,
     ))
+
+-- so the bits of either width stand for the same integer
+pub widened : (x : ℕ) {y : ℕ} → x < 4294967296 → (x < 2147483648 → y ≡ x) → (2147483648 ≤ x → y ≡ x + 18446744069414584320) → from_bits 64 y ≡ signed x
+widened x {y} k low high = go (ltb x 2147483648) refl
+  where
+    go : (t : Bool) → ltb x 2147483648 ≡ t → from_bits 64 y ≡ signed x
+    go true e =
+        let h : x < 2147483648 = ltb-true x 2147483648 e in
+        rw (low h) (natural-bits 63 x (omega arith) ∙ sym (natural-bits 31 x h))
+    go false e =
+        let h : 2147483648 ≤ x = ltb-false x 2147483648 e in
+        rw (high h) (wider x h k)

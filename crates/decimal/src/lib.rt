@@ -8,11 +8,6 @@ ghost use Rattle.decimal.specs.Decimal.{natural, integer};
 ghost use Rattle.decimal.specs.Puts.{Puts};
 ghost use Rattle.rowset.specs.Integers.{from_bits, signed};
 
-// The bytes 0 and -.
-const ZERO: u8 = 48;
-
-const MINUS: u8 = 45;
-
 // One byte.
 pub fn put_byte(out: &mut [u8], at: usize, b: u8) -> usize
     ensures { Puts out.old at (b ∷ []) out.new result }
@@ -28,9 +23,9 @@ pub fn put_byte(out: &mut [u8], at: usize, b: u8) -> usize
 pub fn put_text(out: &mut [u8], at: usize, text: &[u8]) -> usize
     ensures { Puts out.old at text.now out.new result }
 {
-    let mut next = if at < out.len() { at } else { out.len() };
-    for i in 0..text.len() {
-        next = put_byte(out, next, text[i]);
+    let mut next = at.min(out.len());
+    for b in text {
+        next = put_byte(out, next, *b);
     }
     next
 }
@@ -39,7 +34,7 @@ pub fn put_text(out: &mut [u8], at: usize, text: &[u8]) -> usize
 pub fn put_natural(out: &mut [u8], at: usize, x: u64) -> usize
     ensures { Puts out.old at (natural x) out.new result }
 {
-    let last = ZERO + (x % 10) as u8;
+    let last = b'0' + (x % 10) as u8;
     if x < 10 {
         return put_byte(out, at, last);
     }
@@ -51,19 +46,18 @@ pub fn put_natural(out: &mut [u8], at: usize, x: u64) -> usize
 pub fn put_integer(out: &mut [u8], at: usize, bits: u64) -> usize
     ensures { Puts out.old at (integer (from_bits 64 bits)) out.new result }
 {
-    if bits < 9223372036854775808 {
+    let value = bits.cast_signed();
+    if value >= 0 {
         return put_natural(out, at, bits);
     }
-    let next = put_byte(out, at, MINUS);
-    put_natural(out, next, 18446744073709551615 - bits + 1)
+    let next = put_byte(out, at, b'-');
+    put_natural(out, next, value.unsigned_abs())
 }
 
-// The integer that 32 bits stand for, by the 64 bits that stand for it too: above a first bit 1 all bits are 1.
+// The integer that 32 bits stand for.
 pub fn put_price(out: &mut [u8], at: usize, bits: u32) -> usize
     ensures { Puts out.old at (integer (signed bits)) out.new result }
 {
-    if bits < 2147483648 {
-        return put_natural(out, at, bits as u64);
-    }
-    put_integer(out, at, bits as u64 + 18446744069414584320)
+    let value = i64::from(bits.cast_signed());
+    put_integer(out, at, value.cast_unsigned())
 }

@@ -1,10 +1,11 @@
--- `decimal::put_price` meets its contract. Assumes nothing.
-use native.Mathlib.Omega.{arith}
-use Rattle.decimal.proofs.Laws.{print-above, wider}
+-- `decimal::put_price` meets its contract: 64 bits stand for the same integer. Assumes nothing.
+use Rattle.std.proofs.Common.{arith, ◌≡◌, ◌<◌, ◌≤◌, ◌+◌}
+use Rattle.std.proofs.lemmas.Int.{ints}
+use Rattle.decimal.proofs.Laws.{widened}
 use Rattle.decimal.proofs.put_price.Goals as goal
 
-pub returns-then-bits-lt2147483648 : goal.returns-then-bits-lt2147483648
-returns-then-bits-lt2147483648 c = rw (print-above 31 c.args.bits (omega arith)) c.put_natural.ensures
-
 pub returns : goal.returns
-returns c = rw (wider c.args.bits (omega arith) (omega arith)) at c.put_integer.ensures
+returns c =
+    let low : c.args.bits < 2147483648 → c.cast_unsigned.result ≡ c.args.bits = λ h. grind (arith, ints) in
+    let high : 2147483648 ≤ c.args.bits → c.cast_unsigned.result ≡ c.args.bits + 18446744069414584320 = λ h. grind (arith, ints) in
+    rw (widened c.args.bits (omega arith) low high) at c.put_integer.ensures

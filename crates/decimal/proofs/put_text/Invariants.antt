@@ -1,8 +1,7 @@
--- `decimal::put_text` meets its contract. The loop's invariant: the first i bytes of the text were put. Assumes nothing.
-use Prim.Native.Nat.{◌-◌, ◌≤◌}
-use lib.ListN.{length, take}
+-- `decimal::put_text` meets its contract. The loop's invariant: the first bytes of the text were put. Assumes nothing.
+use lib.ListN.{take}
 use Rattle.decimal.specs.Puts.{Puts}
 use Rattle.decimal.proofs.put_text.Given as goal
 
-abbrev pub invariant-loop-i : goal.invariant-loop-i
-invariant-loop-i l = (l.i ≤ length l.text) × Puts l.initial.out l.at (take l.i l.text) l.out l.next
+abbrev pub invariant-loop-b : goal.invariant-loop-b
+invariant-loop-b l = Puts l.initial.out l.at (take l.b-index l.text) l.out l.next
