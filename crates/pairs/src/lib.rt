@@ -17,12 +17,7 @@ const BYTES: usize = 256;
 fn pair_at(a: u8, b: u8) -> usize
     ensures { result ≡ pair_at a b }
 {
-    let x = a as usize;
-    let y = b as usize;
-    if x < y {
-        return BYTES * x + y;
-    }
-    BYTES * y + x
+    BYTES * usize::from(a.min(b)) + usize::from(a.max(b))
 }
 
 // Puts the pair of a and b in, and says whether it was in before.
@@ -36,6 +31,6 @@ pub fn put(words: &mut [u64], a: u8, b: u8) -> bool
         return false;
     }
     let w = words[at];
-    words[at] = w | (1 << (k % BITS));
+    words[at] |= 1 << (k % BITS);
     (w >> (k % BITS)) % 2 == 1
 }

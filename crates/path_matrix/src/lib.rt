@@ -3,29 +3,28 @@
 
 #![tactic(auto)]
 
-ghost use Rattle.std.specs.Prelude.{◌≡◌, true};
+ghost use Rattle.std.specs.Prelude.{◌≡◌, ◌≤◌, ◌*◌, true, length};
 ghost use Rattle.slice.specs.Slices.{component, written};
 ghost use Rattle.path_matrix.specs.Matrix.{has_column, matrix_column, with_column};
 
-use slice::{SIZE, Slice, WORDS};
+use slice::{BITS, SIZE, Slice, WORDS};
 
-// The components in a word.
-const BITS: usize = 64;
+// Whether there is a column j.
+fn has_column(matrix: &[u64], j: usize) -> bool
+    ensures value { result ≡ has_column matrix.now j }
+    ensures inside { result ≡ true → (1 ≤ j) × (16 * j ≤ length matrix.now) }
+{
+    1 <= j && j <= matrix.len() / WORDS
+}
 
 // Column j as a slice.
 pub fn read_column(matrix: &[u64], j: usize) -> Slice
     ensures { component result ≡ matrix_column matrix.now j }
 {
     let mut r = Slice::empty();
-    if j < 1 {
-        return r;
-    }
-    if matrix.len() / WORDS < j {
-        return r;
-    }
-    let from = WORDS * (j - 1);
-    for k in 0..WORDS {
-        r.words[k] = matrix[from + k];
+    if has_column(matrix, j) {
+        let from = WORDS * (j - 1);
+        r.words.copy_from_slice(&matrix[from..from + WORDS]);
     }
     r
 }
@@ -34,43 +33,19 @@ pub fn read_column(matrix: &[u64], j: usize) -> Slice
 pub fn write_column(matrix: &mut [u64], j: usize, x: Slice)
     ensures { matrix.new ≡ with_column matrix.old j (component x) }
 {
-    if j < 1 {
-        return;
+    if has_column(matrix, j) {
+        let to = WORDS * (j - 1);
+        matrix[to..to + WORDS].copy_from_slice(&x.words);
     }
-    if matrix.len() / WORDS < j {
-        return;
-    }
-    let to = WORDS * (j - 1);
-    for k in 0..WORDS {
-        matrix[to + k] = x.words[k];
-    }
-}
-
-// Whether there is a column j.
-fn has_column(matrix: &[u64], j: usize) -> bool
-    ensures { result ≡ has_column matrix.now j }
-{
-    if j < 1 {
-        return false;
-    }
-    j <= matrix.len() / WORDS
 }
 
 // The matrix with component i of column j set to 1. Where there is no such column or component nothing changes.
 pub fn put_component(matrix: &mut [u64], j: usize, i: usize)
     ensures { matrix.new ≡ with_column matrix.old j (written (matrix_column matrix.old j) i true) }
 {
-    if !has_column(matrix, j) {
-        return;
-    }
-    if i < 1 {
-        return;
-    }
-    if SIZE < i {
+    if !has_column(matrix, j) || i < 1 || SIZE < i {
         return;
     }
     let k = i - 1;
-    let at = WORDS * (j - 1) + k / BITS;
-    let mask: u64 = 1 << (k % BITS);
-    matrix[at] = matrix[at] | mask;
+    matrix[WORDS * (j - 1) + k / BITS] |= 1 << (k % BITS);
 }

@@ -18,7 +18,7 @@ pub const SIZE: usize = 1024;
 
 pub const WORDS: usize = 16;
 
-const BITS: usize = 64;
+pub const BITS: usize = 64;
 
 // Sixteen words of 64 bits: component i is bit (i - 1) % 64 of word (i - 1) / 64. What a slice means is its components: contracts speak of these, and of words only where words are lent.
 #[derive(Clone, Copy)]

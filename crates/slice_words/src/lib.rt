@@ -8,11 +8,8 @@ ghost use Rattle.rowset.specs.Sets.{one_of, uppermost, count};
 ghost use Rattle.rowset.specs.Words.{in_words};
 ghost use Rattle.slice.specs.Slices.{size, bit, component, written};
 
-use slice::Slice;
 use slice::words::write_row;
-
-// The components in a word.
-const BITS: usize = 64;
+use slice::{BITS, Slice};
 
 // Component i of the slice.
 pub fn row_in(words: &[u64], i: usize) -> bool

@@ -9,7 +9,7 @@ use mathlib.Core.Path.{◌≡◌, sym, ◌∙◌}
 use native.Mathlib.Decide.{dec_le}
 use native.Mathlib.Omega.{arith}
 use Rattle.path_matrix.specs.Matrix.{has_column}
-use Rattle.path_matrix.proofs.Laws.{has_column-inside, has_column-below, has_column-above}
+use Rattle.path_matrix.proofs.Laws.{has_column-inside, has_column-below, has_column-above, has_column-bounds}
 use Rattle.path_matrix.proofs.has_column.Goals as goal
 
 -- a column from 1 on is there if the whole columns reach it
@@ -18,8 +18,16 @@ reached l j low =
     by_cases (dec_le j (length l / 16)) (λ h. le-leb j (length l / 16) h ∙ sym (has_column-inside l j low (omega arith)))
     (λ h. lt-leb j (length l / 16) (omega (arith, h)) ∙ sym (has_column-above l j (omega (arith, h))))
 
-pub returns-then-j-lt1 : goal.returns-then-j-lt1
-returns-then-j-lt1 c = sym (has_column-below c.args.matrix.now c.args.j (omega arith))
+pub returns-then-j-ge1 : goal.returns-then-j-ge1
+returns-then-j-ge1 c =
+    let value = reached _ _ c.if-j-ge1.true in record {
+      value = value;
+      inside = λ e. has_column-bounds _ _ (sym value ∙ e);
+    }
 
-pub returns : goal.returns
-returns c = reached _ _ c.if-j-lt1.false
+pub returns-else-j-ge1 : goal.returns-else-j-ge1
+returns-else-j-ge1 c =
+    let value = lt-leb 1 c.args.j (omega arith) ∙ sym (has_column-below c.args.matrix.now c.args.j (omega arith)) in record {
+      value = value;
+      inside = λ e. has_column-bounds _ _ (sym value ∙ e);
+    }

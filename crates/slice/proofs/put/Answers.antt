@@ -1,7 +1,5 @@
 -- `slice::put` meets its contract, by that of `write_row`. Assumes nothing.
-use mathlib.Core.Path.{◌∙◌, ap, sym}
-use Rattle.slice.proofs.Laws.{component-words, words-component}
-use Rattle.slice.specs.Slices.{written}
+use Rattle.slice.proofs.Laws.{component-words}
 use Rattle.slice.proofs.put.Goals as goal
 
 pub returns : goal.returns

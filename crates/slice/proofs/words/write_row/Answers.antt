@@ -7,7 +7,7 @@ use lib.Bits.{bit_and, bit_or}
 use lib.ListN.{length, get_or, set}
 use lib.Pow.{shl_exact}
 use native.Mathlib.Omega.{arith}
-use Rattle.slice.specs.Slices.{size, component, written}
+use Rattle.slice.specs.Slices.{size, written}
 use mathlib.Core.List.{List}
 use Rattle.rowset.specs.Words.{in_words}
 use Rattle.slice.proofs.Bits.{bit-set, bit-clear}
