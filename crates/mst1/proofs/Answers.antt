@@ -13,9 +13,10 @@ use native.Mathlib.Omega.{arith}
 use Rattle.graph_theory.specs.Builder.{Fragment, tree}
 use Rattle.graph_theory.specs.Graph.{Graph}
 use Rattle.graph_theory.proofs.Builder.{built-spanning}
+use Rattle.std.specs.Prelude.{Result, Ok, Err, ⊤}
+use Rattle.std.specs.Result.{IsErrAnd}
 use Rattle.refusal.specs.Outcomes.{refusal_of}
-use Rattle.refusal.specs.declared.Outcome.{Outcome}
-use Rattle.refusal.specs.declared.Outcome.TheVariants.{Done, Refused}
+use Rattle.refusal.proofs.Passed.{handed-on}
 use Rattle.refusal.specs.declared.Refusal.{Refusal}
 use Rattle.rowset.specs.Bytes.{in_row}
 use Rattle.rowset.specs.Integers.{from_bits, signed, total}
@@ -92,12 +93,12 @@ module _ (c : Call) where
   ends-refused r e = (rw e, rw e)
 
   -- a table that the checks refuse
-  pub table-refused : {o : Outcome} {r : Refusal} → refusal_of o ≡ refusal (table_causes c) → o ≡ Refused r → Ends c (unbuilt r) c.mark
+  pub table-refused : {o : Result ⊤ Refusal} {r : Refusal} → refusal_of o ≡ refusal (table_causes c) → o ≡ Err r → Ends c (unbuilt r) c.mark
   unfolding mst1_causes refusal_of
   table-refused {r = r} e q = ends-refused r (refusal-first (table_causes c) (no_tree c ∷ []) r (sym e ∙ ap refusal_of q))
 
   -- a table that the checks accept
-  module _ {o : Outcome} (checked : refusal_of o ≡ refusal (table_causes c)) (done : o ≡ Done) where
+  module _ {o : Result ⊤ Refusal} (checked : refusal_of o ≡ refusal (table_causes c)) (done : o ≡ Ok tt) where
     accepted : Accepted c
     unfolding refusal_of
     accepted = sym checked ∙ ap refusal_of done

@@ -4,7 +4,7 @@
 
 #![tactic(auto)]
 
-ghost use Rattle.std.specs.Prelude.{◌≡◌, true, ◌-◌, ◌≤◌};
+ghost use Rattle.std.specs.Prelude.{◌≡◌, true, ◌-◌, ◌≤◌, is_some};
 ghost use Rattle.search_join.specs.Steps.Ends.{EachEnd};
 ghost use Rattle.rowset.specs.Integers.{integer_in, signed};
 ghost use Rattle.rowset.specs.Searches.{smallest};
@@ -16,26 +16,12 @@ ghost use Rattle.in_use.specs.Tables.{table_in};
 ghost use Rattle.table.specs.Loads.{loaded_row};
 ghost use Rattle.table.specs.Tables.{width};
 ghost use Rattle.search_columns.specs.Steps.Integers.{integers_after};
-ghost use Rattle.mst1.specs.Steps.Growth.{graph_by, loaded_graph, Grows, Reached, Begun};
+ghost use Rattle.mst1.specs.Steps.Growth.{graph_by, loaded_graph, chosen_in, Grows, Reached, Begun};
 ghost use Rattle.mst1.specs.Answers.{answer_of};
 
 use in_use::InUse;
-use refusal::{Outcome, Refusal};
+use refusal::{Cause, Refusal};
 use slice::{Slice, WORDS};
-
-// What MST1 answers: the tree's weight, as the 64 bits that stand for it in two's complement, or the refusal.
-#[derive(Clone, Copy)]
-pub enum Built {
-    Tree(u64),
-    Refused(Refusal),
-}
-
-// What was grown: whether it is a whole tree, and the chosen rows, none where it is not.
-#[derive(Clone, Copy)]
-pub struct Grown {
-    pub whole: bool,
-    pub chosen: Slice,
-}
 
 // A fragment: the rows whose left end is in it, the rows whose right end is, and the chosen rows.
 #[derive(Clone, Copy)]
@@ -50,17 +36,6 @@ pub fn cheapest(weight: &[u64], first: usize, x: Slice) -> usize
     ensures { result ≡ uppermost size (smallest size (integer_in (matrix_column weight.now) first (width - first)) (component x)) }
 {
     slice::fnd(search_extremes::min_from(weight, first, x))
-}
-
-// No rows: the whole tree of one vertex, or what is left where there is no tree.
-fn nothing(whole: bool) -> Grown
-    ensures whole { result.whole ≡ whole }
-    ensures chosen { component result.chosen ≡ empty }
-{
-    Grown {
-        whole: whole,
-        chosen: Slice::empty(),
-    }
 }
 
 // The fragment of row i: both its ends, and with each the rows that MATCH gives for it, in so many words.
@@ -103,9 +78,9 @@ fn grow_from(
     words: usize,
     n: usize,
     start: Fragment,
-) -> Grown
+) -> Option<Slice>
     requires { (2 ≤ n) × EachEnd words left_ends.now (loaded_row 1 left.now) (component rows) × EachEnd words right_ends.now (loaded_row 1 right.now) (component rows) × Reached (graph_by (loaded_row 1 left.now) (loaded_row 1 right.now) rows n) (integers_after weight.now first) 2 (component start.lefts) (component start.rights) (component start.chosen) }
-    ensures { Grows (graph_by (loaded_row 1 left.now) (loaded_row 1 right.now) rows n) (integers_after weight.now first) result.whole (component result.chosen) }
+    ensures { Grows (graph_by (loaded_row 1 left.now) (loaded_row 1 right.now) rows n) (integers_after weight.now first) (is_some result) (chosen_in result) }
 {
     let mut lefts = start.lefts.words;
     let mut rights = start.rights.words;
@@ -117,7 +92,7 @@ fn grow_from(
             slice::xor(Slice { words: lefts }, Slice { words: rights }),
         );
         if i == 0 {
-            return nothing(false);
+            return None;
         }
         let far = if slice_words::row_in(&lefts, i) {
             table_loads::end_at(right, i)
@@ -128,10 +103,7 @@ fn grow_from(
         search_join::match_ends(&mut rights, right_ends, far, &rows.words, words);
         slice_words::put_row(&mut chosen, i);
     }
-    Grown {
-        whole: true,
-        chosen: Slice { words: chosen },
-    }
+    Some(Slice { words: chosen })
 }
 
 // The tree of n vertices over the rows of a slice, with the ends that the byte columns hold, which are loaded for MATCH; the weights are lent as columns, of which the first are left out. For one vertex no row is chosen.
@@ -142,15 +114,18 @@ pub fn grow_tree(
     first: usize,
     rows: Slice,
     n: usize,
-) -> Grown
-    ensures { Grows (graph_by (loaded_row 1 left.now) (loaded_row 1 right.now) rows n) (integers_after weight.now first) result.whole (component result.chosen) }
+) -> Option<Slice>
+    ensures { Grows (graph_by (loaded_row 1 left.now) (loaded_row 1 right.now) rows n) (integers_after weight.now first) (is_some result) (chosen_in result) }
 {
-    if n < 2 {
-        return nothing(n == 1);
+    if n == 0 {
+        return None;
+    }
+    if n == 1 {
+        return Some(Slice::empty());
     }
     let i = cheapest(weight, first, rows);
     if i == 0 {
-        return nothing(false);
+        return None;
     }
     let mut left_ends = [0u64; table_loads::ALL];
     table_loads::put_ends(left, &mut left_ends);
@@ -173,8 +148,15 @@ pub fn grow_tree(
 }
 
 // The tree of n vertices over the rows of a slice among the first m, by the weights as they are loaded. MIN leaves out the columns on the left that only repeat the sign.
-pub fn tree_of(n: u32, m: usize, rows: Slice, left: &[u8], right: &[u8], weight: &[u8]) -> Grown
-    ensures { Grows (loaded_graph n m (component rows) left.now right.now) (λ i. signed (loaded_row 4 weight.now i)) result.whole (component result.chosen) }
+pub fn tree_of(
+    n: u32,
+    m: usize,
+    rows: Slice,
+    left: &[u8],
+    right: &[u8],
+    weight: &[u8],
+) -> Option<Slice>
+    ensures { Grows (loaded_graph n m (component rows) left.now right.now) (λ i. signed (loaded_row 4 weight.now i)) (is_some result) (chosen_in result) }
 {
     let mut weights = [0u64; table_loads::ALL];
     table_loads::put_prices(weight, &mut weights);
@@ -191,11 +173,11 @@ pub fn mst1(
     right: &[u8],
     weight: &[u8],
     mark: &mut [u8],
-) -> Built
+) -> Result<u64, Refusal>
     ensures { let c = table_in n table left.now right.now weight.now mark.old in
         (answer_of result ≡ mst1 c) × (mark.new ≡ mst1_marks c) }
 {
-    if let Outcome::Refused(refusal) = table_checks::table_check(
+    table_checks::table_check(
         n,
         table.m,
         table.whole,
@@ -204,16 +186,10 @@ pub fn mst1(
         right,
         weight,
         mark,
-    ) {
-        return Built::Refused(refusal);
-    }
-    let tree = tree_of(n, table.m, table.rows, left, right, weight);
-    if !tree.whole {
-        return Built::Refused(Refusal {
-            number: 11,
-            place: 0,
-        });
-    }
-    claim::write_claim(mark, tree.chosen);
-    Built::Tree(claim::weigh(weight, tree.chosen))
+    )?;
+    let Some(chosen) = tree_of(n, table.m, table.rows, left, right, weight) else {
+        return Err(Refusal::of(Cause::NoNetwork as u32));
+    };
+    claim::write_claim(mark, chosen);
+    Ok(claim::weigh(weight, chosen))
 }

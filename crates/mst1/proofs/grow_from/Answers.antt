@@ -10,6 +10,7 @@ use Rattle.rowset.specs.Words.{in_words}
 use Rattle.slice.specs.Slices.{component, bit}
 use Rattle.mst1.proofs.Growth.{grows_none, grows-whole, cheapest-row, extend-reached}
 use Rattle.mst1.proofs.Steps.{next-none}
+use Rattle.mst1.specs.Steps.Growth.{chosen_in}
 use Rattle.mst1.proofs.grow_from.Goals as goal
 
 pub loop-k-init : goal.loop-k-init
@@ -17,11 +18,11 @@ unfolding in_words component bit
 loop-k-init c = let p = c.requires in (p.0, p.3, omega arith, search rules)
 
 pub returns-then-i-eq0 : goal.returns-then-i-eq0
-unfolding in_words component bit
+unfolding chosen_in in_words component bit
 returns-then-i-eq0 c =
     let rows = c.args.rows in
     let none_left = cheapest-row _ _ _ rows _ refl c.xor.ensures c.cheapest-i.ensures ∙ c.if-i-eq0.true in
-    grows_none _ _ (next-none _ _ _ _ _ _ c.loop-k.invariant.1 none_left c.loop-k-test.true) c.nothing.ensures.whole c.nothing.ensures.chosen
+    grows_none _ _ (next-none _ _ _ _ _ _ c.loop-k.invariant.1 none_left c.loop-k-test.true) refl refl
 
 pub loop-k-preserved : goal.loop-k-preserved
 unfolding in_words component bit
@@ -46,5 +47,5 @@ loop-k-preserved c =
     )
 
 pub returns : goal.returns
-unfolding in_words component bit
+unfolding chosen_in in_words component bit
 returns c = grows-whole _ _ c.loop-k.invariant.1 (omega arith)

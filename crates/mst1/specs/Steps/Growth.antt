@@ -1,6 +1,6 @@
 -- The graph that columns of ends and a slice of rows describe, the tree that grows on it, and the rows by which its fragment is known.
 -- Assumes nothing.
-use Rattle.std.specs.Prelude.{ℕ, ◌≤◌, Bool, true, not, ◌&&◌, List, ◌≡◌, ℤ}
+use Rattle.std.specs.Prelude.{Option, Some, None, ℕ, ◌≤◌, Bool, true, not, ◌&&◌, List, ◌≡◌, ℤ}
 use Rattle.std.proofs.Math.Option.{some}
 use Rattle.graph_theory.specs.Builder.{tree_of, tree}
 use Rattle.graph_theory.specs.Graph.{Graph}
@@ -20,6 +20,11 @@ graph_by a b rows n = record { n = n; m = size; a = a; b = b; rows = component r
 abbrev pub loaded_graph : (n m : ℕ) → (rows : ℕ → Bool) → (left right : List ℕ) → Graph
 loaded_graph n m rows left right =
     record { n = n; m = size; a = loaded_row 1 left; b = loaded_row 1 right; rows = both (up_to m) rows }
+
+-- the rows of a tree, none where there is no tree
+unfoldable pub chosen_in : Option Slice → ℕ → Bool
+chosen_in None = empty
+chosen_in (Some x) = component x
 
 -- what is grown: whether there is a tree, and its rows, none where there is no tree
 pub record Grows (g : Graph) (w : ℕ → ℤ) (whole : Bool) (chosen : ℕ → Bool) : Type 0 where
