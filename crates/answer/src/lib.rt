@@ -8,7 +8,7 @@ ghost use Rattle.star_spec.specs.Door.{well_lent, fields, field_bytes, answer_af
 ghost use Rattle.answer.specs.Records.{fields_of};
 ghost use Rattle.refusal.specs.Outcomes.{refusal_of};
 
-use refusal::{Outcome, Refusal};
+use refusal::Refusal;
 
 // The bytes of an answer.
 const LENGTH: usize = 16;
@@ -105,11 +105,11 @@ pub fn of_refusal(refusal: Refusal) -> Record
 }
 
 // The fields of what is done or refused.
-pub fn of_outcome(o: Outcome) -> Record
-    ensures { fields_of result ≡ outcome_fields (refusal_of o) }
+pub fn of_outcome(outcome: Result<(), Refusal>) -> Record
+    ensures { fields_of result ≡ outcome_fields (refusal_of outcome) }
 {
-    match o {
-        Outcome::Done => Record {
+    match outcome {
+        Ok(()) => Record {
             kind: 1,
             number: 0,
             out: 0,
@@ -117,6 +117,6 @@ pub fn of_outcome(o: Outcome) -> Record
             only: 0,
             amount: 0,
         },
-        Outcome::Refused(r) => of_refusal(r),
+        Err(refusal) => of_refusal(refusal),
     }
 }

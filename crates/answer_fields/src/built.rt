@@ -5,21 +5,21 @@ ghost use Rattle.mst1.specs.Answers.{answer_of};
 ghost use Rattle.star_spec.specs.Door.{built_fields};
 
 use answer::{Record, of_refusal};
-use mst1::Built;
+use refusal::Refusal;
 
 // The fields of what MST1 built.
-pub fn of_built(b: Built) -> Record
-    ensures { fields_of result ≡ built_fields (answer_of b) }
+pub fn of_built(built: Result<u64, Refusal>) -> Record
+    ensures { fields_of result ≡ built_fields (answer_of built) }
 {
-    match b {
-        Built::Tree(weight) => Record {
+    match built {
+        Ok(amount) => Record {
             kind: 1,
             number: 0,
             out: 0,
             into: 0,
             only: 0,
-            amount: weight,
+            amount,
         },
-        Built::Refused(r) => of_refusal(r),
+        Err(refusal) => of_refusal(refusal),
     }
 }

@@ -6,26 +6,28 @@ ghost use Rattle.star_spec.specs.Door.{fields_beside};
 
 use crate::verdict::of_verdict;
 use answer::Record;
-use cst::Checked;
+use cst::{Checked, Verdict};
+use refusal::Refusal;
 
 // The fields of CST's verdict, and beside a pass that is not the only one the two rows of the exchange.
-pub fn of_checked(x: Checked) -> Record
-    ensures { fields_of result ≡ fields_beside (answer_of x.verdict) (equal_rows_of x) }
+pub fn of_checked(answer: Result<Checked, Refusal>) -> Record
+    ensures { fields_of result ≡ fields_beside (answer_of answer) (equal_rows_of answer) }
 {
-    let v = x.verdict;
-    let plain = of_verdict(v);
-    if plain.kind != 1 {
-        return plain;
-    }
-    if plain.only != 0 {
-        return plain;
+    let Ok(checked) = answer else {
+        return of_verdict(answer);
+    };
+    let Verdict::Passed(pass) = checked.verdict else {
+        return of_verdict(answer);
+    };
+    if pass.only {
+        return of_verdict(answer);
     }
     Record {
         kind: 1,
         number: 0,
-        out: x.out,
-        into: x.into,
+        out: checked.out,
+        into: checked.into,
         only: 0,
-        amount: plain.amount,
+        amount: pass.weight,
     }
 }

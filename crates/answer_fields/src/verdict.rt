@@ -5,13 +5,18 @@ ghost use Rattle.cst.specs.Verdicts.{answer_of};
 ghost use Rattle.star_spec.specs.Door.{fields};
 
 use answer::{Record, of_refusal};
-use cst::Verdict;
+use cst::{Checked, Verdict};
+use refusal::Refusal;
 
 // The fields of CST's verdict.
-pub fn of_verdict(v: Verdict) -> Record
-    ensures { fields_of result ≡ fields (answer_of v) }
+pub fn of_verdict(answer: Result<Checked, Refusal>) -> Record
+    ensures { fields_of result ≡ fields (answer_of answer) }
 {
-    match v {
+    let checked = match answer {
+        Ok(checked) => checked,
+        Err(refusal) => return of_refusal(refusal),
+    };
+    match checked.verdict {
         Verdict::Passed(x) => Record {
             kind: 1,
             number: 0,
@@ -28,6 +33,5 @@ pub fn of_verdict(v: Verdict) -> Record
             only: 0,
             amount: x.saving as u64,
         },
-        Verdict::Refused(r) => of_refusal(r),
     }
 }

@@ -1,2 +1,1 @@
 pub mod Paths
-pub mod Records

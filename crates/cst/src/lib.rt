@@ -2,7 +2,7 @@
 
 #![tactic(auto)]
 
-ghost use Rattle.std.specs.Prelude.{Bool, true, ◌≡◌, ℕ, ◌*◌, ◌≤◌, length, ◌≤ℤ◌};
+ghost use Rattle.std.specs.Prelude.{Ok, Bool, true, ◌≡◌, ℕ, ◌*◌, ◌≤◌, length, ◌≤ℤ◌};
 ghost use Rattle.rowset.specs.Bytes.{in_row};
 ghost use Rattle.rowset.specs.Words.{column_words};
 ghost use Rattle.in_use.specs.Tables.{table_in};
@@ -12,13 +12,12 @@ ghost use Rattle.star_spec.specs.Call.{Call, table_of};
 ghost use Rattle.star_spec.specs.Refusals.{max_vertices};
 ghost use Rattle.table.specs.Loads.{loaded_row};
 ghost use Rattle.cst.specs.Steps.Paths.{weight_in, exchange_of, first_lighter, first_equal, Walked};
-ghost use Rattle.cst.specs.Steps.Records.{record_of};
 ghost use Rattle.cst.specs.Verdicts.{answer_of, equal_rows_of};
 
 use claim::flipped_weight;
 use cst_compare::{compared_rows, remember};
 use in_use::InUse;
-use refusal::{Outcome, Refusal};
+use refusal::Refusal;
 use slice::rows::rows_among;
 use slice::{Slice, difference};
 use slice_step::step_words;
@@ -47,12 +46,11 @@ pub struct Pass {
     pub only: bool,
 }
 
-// The verdict: passed, with the weight and yes or no; lighter, with the exchange; or refused, with the refusal.
+// The verdict: passed, with the weight and yes or no; or lighter, with the exchange.
 #[derive(Clone, Copy)]
 pub enum Verdict {
     Passed(Pass),
     Lighter(Exchange),
-    Refused(Refusal),
 }
 
 // The verdict with an exchange that gives another tree of the same weight, where the claim passes and there is one: the row that goes out and the row that comes in, else 0 and 0.
@@ -142,7 +140,7 @@ fn judge(
 ) -> Checked
     requires { loaded_row 4 weight.now ≡ in_row 4 weight.now }
     ensures { let call : ℕ → Bool → Call = λ n whole. table_of n m whole (component rows) left.now right.now weight.now mark.now in
-        ((n : ℕ) (whole : Bool) → Walked (call n whole) matrix.now → (answer_of result.verdict ≡ cst (call n whole)) × (equal_rows_of result ≡ equal_rows (call n whole))) }
+        ((n : ℕ) (whole : Bool) → Walked (call n whole) matrix.now → (answer_of (Ok result) ≡ cst (call n whole)) × (equal_rows_of (Ok result) ≡ equal_rows (call n whole))) }
 {
     let used = rows_among(m, rows);
     let marked = claim::claim_rows(mark, used);
@@ -168,19 +166,6 @@ fn judge(
     }
 }
 
-// The record of a refusal; number and place are 0 where there is none.
-fn record_of(answer: Outcome) -> Refusal
-    ensures { result ≡ record_of answer }
-{
-    let Outcome::Refused(refusal) = answer else {
-        return Refusal {
-            number: 0,
-            place: 0,
-        };
-    };
-    refusal
-}
-
 // CST with its path matrix lent, which has a column for each vertex: MatrixPath from vertex 1 fills it, and where MatrixPath refuses, its refusal is handed on unread.
 fn check_in(
     n: u32,
@@ -190,30 +175,30 @@ fn check_in(
     weight: &[u8],
     mark: &[u8],
     own: &mut [u64],
-) -> Checked
+) -> Result<Checked, Refusal>
     requires { n ≤ max_vertices → column_words * n ≤ length own.old }
     ensures verdict { let c = table_in n table left.now right.now weight.now mark.now in
-        answer_of result.verdict ≡ cst c }
+        answer_of result ≡ cst c }
     ensures rows { let c = table_in n table left.now right.now weight.now mark.now in
         equal_rows_of result ≡ equal_rows c }
 {
     let words = path::ALL_WORDS;
-    let answer = path::path_own(n, table, left, right, weight, mark, 1, words, own);
-    let Outcome::Done = answer else {
-        return Checked {
-            verdict: Verdict::Refused(record_of(answer)),
-            out: 0,
-            into: 0,
-        };
-    };
-    judge(own, table.m, table.rows, left, right, weight, mark)
+    path::path_own(n, table, left, right, weight, mark, 1, words, own)?;
+    Ok(judge(own, table.m, table.rows, left, right, weight, mark))
 }
 
 // CST over a table of either kind: the verdict on the claim, and beside a pass that is not the only one the rows of an exchange that gives another tree of the same weight.
 // The path matrix is CST's own, a smaller one where there are fewer vertices.
-pub fn cst(n: u32, table: InUse, left: &[u8], right: &[u8], weight: &[u8], mark: &[u8]) -> Checked
+pub fn cst(
+    n: u32,
+    table: InUse,
+    left: &[u8],
+    right: &[u8],
+    weight: &[u8],
+    mark: &[u8],
+) -> Result<Checked, Refusal>
     ensures verdict { let c = table_in n table left.now right.now weight.now mark.now in
-        answer_of result.verdict ≡ cst c }
+        answer_of result ≡ cst c }
     ensures rows { let c = table_in n table left.now right.now weight.now mark.now in
         equal_rows_of result ≡ equal_rows c }
 {

@@ -6,10 +6,10 @@ use Rattle.rowset.specs.Integers.{from_bits}
 use Rattle.star_spec.specs.Door.{outcome_fields}
 use Rattle.answer.proofs.of_outcome.Goals as goal
 
-pub returns-in-Done : goal.returns-in-Done
+pub returns-in-Ok : goal.returns-in-Ok
 unfolding fields_of outcome_fields refusal_of from_bits
-returns-in-Done c = rw c.in-Done.is refl
+returns-in-Ok c = rw c.in-Ok.is refl
 
-pub returns-in-Refused : goal.returns-in-Refused
+pub returns-in-Err : goal.returns-in-Err
 unfolding outcome_fields refusal_of
-returns-in-Refused c = rw c.in-Refused.is c.of_refusal.ensures
+returns-in-Err c = rw c.in-Err.is c.of_refusal.ensures

@@ -5,10 +5,10 @@ use Rattle.mst1.specs.Answers.{answer_of}
 use Rattle.star_spec.specs.Door.{fields, built_fields}
 use Rattle.answer_fields.proofs.built.of_built.Goals as goal
 
-pub returns-in-Tree : goal.returns-in-Tree
+pub returns-in-Ok : goal.returns-in-Ok
 unfolding fields_of built_fields answer_of
-returns-in-Tree c = rw c.in-Tree.is refl
+returns-in-Ok c = rw c.in-Ok.is refl
 
-pub returns-in-Refused : goal.returns-in-Refused
+pub returns-in-Err : goal.returns-in-Err
 unfolding built_fields answer_of fields
-returns-in-Refused c = rw c.in-Refused.is c.of_refusal.ensures
+returns-in-Err c = rw c.in-Err.is c.of_refusal.ensures
