@@ -41,204 +41,115 @@ pub fn words_for(rows: &[u64; COLUMN]) -> usize
     COLUMN
 }
 
-// Whether the first words of z, as many as `used` says, are all 0.
-fn none_in(z: &[u64], used: usize) -> bool
-    requires { (length z.now ≡ 16) × (used ≤ 16) }
-    ensures none { result ≡ true → (p : ℕ) → p < used → get_or z.now p 0 ≡ 0 }
+// Whether the first N words of z are all 0.
+fn none_in<const N: usize>(z: &[u64; COLUMN]) -> bool
+    requires { N ≤ 16 }
+    ensures none { result ≡ true → (p : ℕ) → p < N → get_or z.now p 0 ≡ 0 }
     ensures some { result ≡ false → any size (rows_of z.now) ≡ true }
 {
     let mut joined: u64 = 0;
-    for k in 0..used {
-        joined = joined | z[k];
+    for k in 0..N {
+        joined |= z[k];
     }
     joined == 0
 }
 
-// Words of 0 get the rows of the first words, as many as `used` says. The last comes first, so that the functions below that copy one, four and sixteen words begin with different ones: where they begin with the same the compiler joins them, and no longer works on two words at once.
-fn copy_words(z: &mut [u64], rows: &[u64; COLUMN], used: usize)
-    requires { (length z.old ≡ 16) × (rows_of z.old ≡ empty) × (used ≤ 16) }
-    ensures { rows_of z.new ≡ first_words used (rows_of rows.now) }
+// Words of 0 get the rows of the first N words. The last comes first, so that the copies of one, four and sixteen words begin with different ones: where they begin with the same the compiler joins them, and no longer works on two words at once.
+fn copy_words<const N: usize>(z: &mut [u64; COLUMN], rows: &[u64; COLUMN])
+    requires { (rows_of z.old ≡ empty) × (N ≤ 16) }
+    ensures rows { rows_of z.new ≡ first_words N (rows_of rows.now) }
+    ensures size { length z.new ≡ 16 }
 {
-    let mut k = used;
-    while 0 < k {
-        k -= 1;
+    for k in (0..N).rev() {
         z[k] = rows[k];
     }
 }
 
-// The rows of z, which has none past its first words, as many as `used` says, come to those of x.
-fn put_words(x: &mut [u64], z: &[u64; COLUMN], used: usize)
-    requires { (length x.old ≡ 16) × (used ≤ 16) × NonePast used (rows_of z.now) }
-    ensures { rows_of x.new ≡ either (rows_of x.old) (rows_of z.now) }
+// The rows of z, which has none past its first N words, come to those of x.
+fn put_words<const N: usize>(x: &mut [u64; COLUMN], z: &[u64; COLUMN])
+    requires { (N ≤ 16) × NonePast N (rows_of z.now) }
+    ensures rows { rows_of x.new ≡ either (rows_of x.old) (rows_of z.now) }
+    ensures size { length x.new ≡ 16 }
 {
-    for i in 0..used {
-        x[i] = x[i] | z[i];
+    for i in 0..N {
+        x[i] |= z[i];
     }
 }
 
-// Of the rows of z, which has none past its first words, as many as `used` says, those stay whose bit in column j + 1 is b.
-fn keep_words(z: &mut [u64], columns: &[u64; ALL], j: usize, b: bool, used: usize)
-    requires { (length z.old ≡ 16) × (j < 32) × (used ≤ 16) × NonePast used (rows_of z.old) }
+// Of the rows of z, which has none past its first N words, those stay whose bit in column j + 1 is b.
+fn keep_words<const N: usize>(z: &mut [u64; COLUMN], columns: &[u64; ALL], j: usize, b: bool)
+    requires { (j < 32) × (N ≤ 16) × NonePast N (rows_of z.old) }
     ensures rows { rows_of z.new ≡ kept b (rows_of z.old) (matrix_column columns.now (j + 1)) }
     ensures size { length z.new ≡ 16 }
 {
-    search_columns::keep_rows(z, columns, j, b, used);
+    search_columns::keep_rows(z, columns, j, b, N);
 }
 
-// Of the rows of z, which has none past its first word, those stay that equal w's last digits, from column 32 to the left; it stops where no row is left in the running. The number of columns read. The number of words is a constant of this function and of those of its kind, so that the compiler keeps them in registers; with one function for any number of words MST1 took up to 1.5 times the instructions.
-fn narrow_one(z: &mut [u64], columns: &[u64; ALL], first: usize, w: u32) -> usize
-    requires { (length z.old ≡ 16) × NonePast 1 (rows_of z.old) }
+// Of the rows of z, which has none past its first N words, those stay that equal w's last digits, from column 32 to the left; it stops where no row is left in the running. The number of columns read. The number of words is a constant, so that the compiler keeps them in registers; with one function for any number of words MST1 took up to 1.5 times the instructions.
+fn narrow<const N: usize>(
+    z: &mut [u64; COLUMN],
+    columns: &[u64; ALL],
+    first: usize,
+    w: u32,
+) -> usize
+    requires { (N ≤ 16) × NonePast N (rows_of z.old) }
     ensures rows { rows_of z.new ≡ equal_right (matrix_column columns.now) w (width - first) (rows_of z.old) }
     ensures read { result ≡ read_within (width - first) size (matrix_column columns.now) w (rows_of z.old) }
+    ensures size { length z.new ≡ 16 }
 {
-    let count = if first < WIDTH { WIDTH - first } else { 0 };
-    let mut k = 0;
-    while k < count {
-        if none_in(z, 1) {
+    let count = WIDTH.saturating_sub(first);
+    for k in 0..count {
+        if none_in::<N>(z) {
             return k;
         }
-        keep_words(z, columns, WIDTH - 1 - k, (w >> k) % 2 == 1, 1);
-        k += 1;
+        keep_words::<N>(z, columns, WIDTH - 1 - k, (w >> k) % 2 == 1);
     }
-    k
+    count
 }
 
-// MATCH in the first word of `rows`, its rows joined to those of x.
-fn join_one(
-    x: &mut [u64],
+// MATCH in the first N words of `rows`, its rows joined to those of x.
+fn join<const N: usize>(
+    x: &mut [u64; COLUMN],
     columns: &[u64; ALL],
     first: usize,
     w: u32,
     rows: &[u64; COLUMN],
 ) -> usize
-    requires { length x.old ≡ 16 }
-    ensures rows { rows_of x.new ≡ either (rows_of x.old) (equal_right (matrix_column columns.now) w (width - first) (first_words 1 (rows_of rows.now))) }
-    ensures read { result ≡ read_within (width - first) size (matrix_column columns.now) w (first_words 1 (rows_of rows.now)) }
+    requires { N ≤ 16 }
+    ensures rows { rows_of x.new ≡ either (rows_of x.old) (equal_right (matrix_column columns.now) w (width - first) (first_words N (rows_of rows.now))) }
+    ensures size { length x.new ≡ 16 }
+    ensures read { result ≡ read_within (width - first) size (matrix_column columns.now) w (first_words N (rows_of rows.now)) }
 {
     let mut z = [0u64; COLUMN];
-    copy_words(&mut z, rows, 1);
-    let read = narrow_one(&mut z, columns, first, w);
-    put_words(x, &z, 1);
-    read
-}
-
-// The same where z has no row past its first four words.
-fn narrow_four(z: &mut [u64], columns: &[u64; ALL], first: usize, w: u32) -> usize
-    requires { (length z.old ≡ 16) × NonePast 4 (rows_of z.old) }
-    ensures rows { rows_of z.new ≡ equal_right (matrix_column columns.now) w (width - first) (rows_of z.old) }
-    ensures read { result ≡ read_within (width - first) size (matrix_column columns.now) w (rows_of z.old) }
-{
-    let count = if first < WIDTH { WIDTH - first } else { 0 };
-    let mut k = 0;
-    while k < count {
-        if none_in(z, 4) {
-            return k;
-        }
-        keep_words(z, columns, WIDTH - 1 - k, (w >> k) % 2 == 1, 4);
-        k += 1;
-    }
-    k
-}
-
-// MATCH in the first four words.
-fn join_four(
-    x: &mut [u64],
-    columns: &[u64; ALL],
-    first: usize,
-    w: u32,
-    rows: &[u64; COLUMN],
-) -> usize
-    requires { length x.old ≡ 16 }
-    ensures rows { rows_of x.new ≡ either (rows_of x.old) (equal_right (matrix_column columns.now) w (width - first) (first_words 4 (rows_of rows.now))) }
-    ensures read { result ≡ read_within (width - first) size (matrix_column columns.now) w (first_words 4 (rows_of rows.now)) }
-{
-    let mut z = [0u64; COLUMN];
-    copy_words(&mut z, rows, 4);
-    let read = narrow_four(&mut z, columns, first, w);
-    put_words(x, &z, 4);
-    read
-}
-
-// The same in all words.
-fn narrow_all(z: &mut [u64], columns: &[u64; ALL], first: usize, w: u32) -> usize
-    requires { (length z.old ≡ 16) × NonePast 16 (rows_of z.old) }
-    ensures rows { rows_of z.new ≡ equal_right (matrix_column columns.now) w (width - first) (rows_of z.old) }
-    ensures read { result ≡ read_within (width - first) size (matrix_column columns.now) w (rows_of z.old) }
-{
-    let count = if first < WIDTH { WIDTH - first } else { 0 };
-    let mut k = 0;
-    while k < count {
-        if none_in(z, COLUMN) {
-            return k;
-        }
-        keep_words(z, columns, WIDTH - 1 - k, (w >> k) % 2 == 1, COLUMN);
-        k += 1;
-    }
-    k
-}
-
-// MATCH in all words.
-fn join_all(
-    x: &mut [u64],
-    columns: &[u64; ALL],
-    first: usize,
-    w: u32,
-    rows: &[u64; COLUMN],
-) -> usize
-    requires { length x.old ≡ 16 }
-    ensures rows { rows_of x.new ≡ either (rows_of x.old) (equal_right (matrix_column columns.now) w (width - first) (first_words 16 (rows_of rows.now))) }
-    ensures read { result ≡ read_within (width - first) size (matrix_column columns.now) w (first_words 16 (rows_of rows.now)) }
-{
-    let mut z = [0u64; COLUMN];
-    copy_words(&mut z, rows, COLUMN);
-    let read = narrow_all(&mut z, columns, first, w);
-    put_words(x, &z, COLUMN);
+    copy_words::<N>(&mut z, rows);
+    let read = narrow::<N>(&mut z, columns, first, w);
+    put_words::<N>(x, &z);
     read
 }
 
 // MATCH in one, four or sixteen words.
 fn join_words(
-    x: &mut [u64],
+    x: &mut [u64; COLUMN],
     columns: &[u64; ALL],
     first: usize,
     w: u32,
     rows: &[u64; COLUMN],
     used: usize,
 ) -> usize
-    requires { length x.old ≡ 16 }
     ensures rows { rows_of x.new ≡ either (rows_of x.old) (equal_right (matrix_column columns.now) w (width - first) (first_words (words_taken used) (rows_of rows.now))) }
+    ensures size { length x.new ≡ 16 }
     ensures read { result ≡ read_within (width - first) size (matrix_column columns.now) w (first_words (words_taken used) (rows_of rows.now)) }
 {
     if used <= 1 {
-        return join_one(x, columns, first, w, rows);
+        return join::<1>(x, columns, first, w, rows);
     }
     if used <= 4 {
-        return join_four(x, columns, first, w, rows);
+        return join::<4>(x, columns, first, w, rows);
     }
-    join_all(x, columns, first, w, rows)
+    join::<COLUMN>(x, columns, first, w, rows)
 }
 
-// MATCH, its rows joined to those of x: none where w has a digit before those of the columns that are not left out, and no column is read then.
-fn match_in(
-    x: &mut [u64],
-    columns: &[u64; ALL],
-    first: usize,
-    w: u32,
-    rows: &[u64; COLUMN],
-    used: usize,
-) -> usize
-    requires { length x.old ≡ 16 }
-    ensures rows { in_words x.new ≡ either (in_words x.old) (equal_to (in_columns (matrix_column columns.now) first (width - first)) w (first_words (words_taken used) (in_words rows.now))) }
-    ensures size { length x.new ≡ 16 }
-    ensures read { result ≡ cond (eqb (w / 2 ^ (width - first)) 0) (read_within (width - first) size (matrix_column columns.now) w (first_words (words_taken used) (in_words rows.now))) 0 }
-{
-    if !search_match::fits(first, w) {
-        return 0;
-    }
-    join_words(x, columns, first, w, rows, used)
-}
-
-// MATCH, its rows joined to those of x in place: of the rows in the first words, one, four or sixteen as `used` asks, those that equal w become 1 in x. The number of columns read.
+// MATCH, its rows joined to those of x in place: of the rows in the first words, one, four or sixteen as `used` asks, those that equal w become 1 in x. None does where w has a digit before those of the columns that are not left out, and no column is read then. The number of columns read.
 pub fn match_into(
     x: &mut [u64; COLUMN],
     columns: &[u64; ALL],
@@ -251,7 +162,10 @@ pub fn match_into(
     ensures size { length x.new ≡ 16 }
     ensures read { result ≡ cond (eqb (w / 2 ^ (width - first)) 0) (read_within (width - first) size (matrix_column columns.now) w (first_words (words_taken used) (in_words rows.now))) 0 }
 {
-    match_in(x, columns, first, w, rows, used)
+    if !search_match::fits(first, w) {
+        return 0;
+    }
+    join_words(x, columns, first, w, rows, used)
 }
 
 // MATCH over a table of ends, of which the columns before the last eight are Θ: of the rows in those words, those whose end is v become 1 in x.

@@ -5,8 +5,8 @@ use Rattle.search_columns.proofs.Words.{narrowed-is}
 use Rattle.search_join.proofs.keep_words.Goals as goal
 
 pub returns : goal.returns
-returns c =
+returns g c =
     record {
-      rows = narrowed-is _ _ _ _ _ _ c.keep_rows.ensures.rows (omega (arith, c.requires.1, c.well_formed)) c.requires.3;
+      rows = narrowed-is _ _ _ _ _ _ c.keep_rows.ensures.rows (omega arith) c.requires.2;
       size = search rules;
     }
