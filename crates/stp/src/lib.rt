@@ -11,7 +11,7 @@ ghost use Rattle.stp_spec.specs.Import.{imported, max_text, read_text, table_of,
 ghost use Rattle.stp.specs.Answers.{answer_of};
 ghost use Rattle.stp.specs.Steps.Settled.{Settled};
 
-use refusal::{Outcome, Refusal};
+use refusal::{Cause, Refusal};
 use stp_reader::lines::{EDGES, FOUND, LINES, NODES, ROWS, Step, WEIGHT_BYTES};
 
 // The number of vertices and of rows that were read.
@@ -19,23 +19,6 @@ use stp_reader::lines::{EDGES, FOUND, LINES, NODES, ROWS, Step, WEIGHT_BYTES};
 pub struct Sizes {
     pub n: u32,
     pub m: u32,
-}
-
-// What an import answers.
-#[derive(Clone, Copy)]
-pub enum Imported {
-    Taken(Sizes),
-    Refused(Refusal),
-}
-
-// A refusal with place 0.
-fn refused(number: u32) -> Outcome
-    ensures { result ≡ Outcome.Refused (record { number = number; place = 0 }) }
-{
-    Outcome::Refused(Refusal {
-        number: number,
-        place: 0,
-    })
 }
 
 // Causes 3, 4 and 15 of at most 1,024 rows that were read; l, r and w are the lengths of the lent columns.
@@ -47,12 +30,12 @@ fn rows_check(
     l: usize,
     r: usize,
     w: usize,
-) -> Outcome
+) -> Result<(), Refusal>
     requires { (none ≡ refusal (bad_vertices (get_or found 1 0) ∷ too_many_rows (rows_of found) ∷ [])) × Sized found left.now right.now weight.now }
     ensures { refusal_of result ≡ refusal (bad_columns l r w ∷ row_causes (table_of (read_of found left.now right.now weight.now))) }
 {
     if l != ROWS || r != ROWS || w != WEIGHT_BYTES {
-        return refused(3);
+        return Err(Refusal::of(Cause::BadLengths as u32));
     }
     let m = found[LINES] as usize;
     let end = 4 * m;
@@ -79,24 +62,21 @@ fn import_check(
     l: usize,
     r: usize,
     w: usize,
-) -> Outcome
+) -> Result<(), Refusal>
     requires { (step.at ≤ max_text) × Sized found left.now right.now weight.now }
     ensures { refusal_of result ≡ refusal (import_causes (finished step (read_of found left.now right.now weight.now)) l r w) }
 {
     if step.broken {
-        return Outcome::Refused(Refusal {
-            number: 12,
+        return Err(Refusal {
+            number: Cause::BadText as u32,
             place: step.at as u32,
         });
     }
     if found[LINES] != found[EDGES] {
-        return refused(13);
+        return Err(Refusal::of(Cause::BadEdgeCount as u32));
     }
-    let size = table_checks::size_check(found[NODES], found[LINES] as usize);
-    let Outcome::Refused(refusal) = size else {
-        return rows_check(found, left, right, weight, l, r, w);
-    };
-    Outcome::Refused(refusal)
+    table_checks::size_check(found[NODES], found[LINES] as usize)?;
+    rows_check(found, left, right, weight, l, r, w)
 }
 
 // The first `count` bytes of a column become those of another.
@@ -104,9 +84,7 @@ fn fill(column: &mut [u8], own: &[u8], count: usize)
     requires { (count ≤ length column.old) × (count ≤ length own.now) }
     ensures { column.new ≡ take count own.now ++ drop count column.old }
 {
-    for k in 0..count {
-        column[k] = own[k];
-    }
+    column[..count].copy_from_slice(&own[..count]);
 }
 
 // The first m rows of the lent columns become those that were read.
@@ -140,11 +118,11 @@ fn settle(
     left: &mut [u8],
     right: &mut [u8],
     weight: &mut [u8],
-) -> Imported
+) -> Result<Sizes, Refusal>
     requires { (step.at ≤ max_text) × Sized found lefts.now rights.now weights.now }
     ensures { Settled (finished step (read_of found lefts.now rights.now weights.now)) left.old right.old weight.old result left.new right.new weight.new }
 {
-    let checked = import_check(
+    import_check(
         step,
         found,
         lefts,
@@ -153,20 +131,22 @@ fn settle(
         left.len(),
         right.len(),
         weight.len(),
-    );
-    let Outcome::Refused(refusal) = checked else {
-        let m = found[LINES] as usize;
-        store_rows(m, lefts, rights, weights, left, right, weight);
-        return Imported::Taken(Sizes {
-            n: found[NODES],
-            m: found[LINES],
-        });
-    };
-    Imported::Refused(refusal)
+    )?;
+    let m = found[LINES] as usize;
+    store_rows(m, lefts, rights, weights, left, right, weight);
+    Ok(Sizes {
+        n: found[NODES],
+        m: found[LINES],
+    })
 }
 
 // The import: n and m, with the first m rows of the three columns written; or the refusal, and the columns stay as they were.
-pub fn import(text: &[u8], left: &mut [u8], right: &mut [u8], weight: &mut [u8]) -> Imported
+pub fn import(
+    text: &[u8],
+    left: &mut [u8],
+    right: &mut [u8],
+    weight: &mut [u8],
+) -> Result<Sizes, Refusal>
     ensures answer { answer_of result ≡ imported text.now (length left.old) (length right.old) (length weight.old) }
     ensures lefts { left.new ≡ left_after text.now left.old right.old weight.old }
     ensures rights { right.new ≡ right_after text.now left.old right.old weight.old }

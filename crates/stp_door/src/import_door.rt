@@ -7,14 +7,15 @@ ghost use Rattle.stp_spec.specs.Door.{import_fields, import_door, left_door, rig
 ghost use Rattle.stp.specs.Answers.{answer_of};
 
 use answer::{Record, well_lent, write_answer};
-use stp::Imported;
+use refusal::Refusal;
+use stp::Sizes;
 
 // The fields of what was imported: n and m stand where a verdict has its rows, and the refusal's place where it has its weight.
-pub fn of_imported(x: Imported) -> Record
+pub fn of_imported(x: Result<Sizes, Refusal>) -> Record
     ensures { fields_of result ≡ import_fields (answer_of x) }
 {
     match x {
-        Imported::Taken(s) => Record {
+        Ok(s) => Record {
             kind: 1,
             number: 0,
             out: s.n,
@@ -22,13 +23,13 @@ pub fn of_imported(x: Imported) -> Record
             only: 0,
             amount: 0,
         },
-        Imported::Refused(r) => Record {
+        Err(r) => Record {
             kind: 0,
             number: r.number,
             out: 0,
             into: 0,
             only: 0,
-            amount: r.place as u64,
+            amount: u64::from(r.place),
         },
     }
 }

@@ -4,7 +4,7 @@ use borrow.Author.Tests.{ne_eqb}
 use lib.Seq.{length-take-le}
 use mathlib.Core.Bool.{or-true}
 use mathlib.Core.Logic.{⊎_elim}
-use mathlib.Core.Path.{sym, ap, ◌∙◌}
+use mathlib.Core.Path.{sym, ◌∙◌}
 use native.Mathlib.Omega.{arith}
 use Rattle.refusal.specs.Outcomes.{refusal_of}
 use Rattle.star_spec.proofs.Accepted.{none-cons}
@@ -22,8 +22,8 @@ rows c =
 pub returns-then-l-ne-ROWS : goal.returns-then-l-ne-ROWS
 unfolding refusal_of
 returns-then-l-ne-ROWS c =
-    ap refusal_of c.refused.ensures
-    ∙ columns-first _ _ _ _ (⊎_elim (λ w. simp (ne_eqb _ _ w.if-l-ne-ROWS.true)) (⊎_elim (λ w. simp (ne_eqb _ _ w.if-r-ne-ROWS.true, or-true)) (λ w. simp (ne_eqb _ _ w.if-w-ne-WEIGHT_BYTES.true, or-true))) c.then-l-ne-ROWS.branch-raw)
+    rw c.of.ensures
+    (columns-first _ _ _ _ (⊎_elim (λ w. simp (ne_eqb _ _ w.if-l-ne-ROWS.true)) (⊎_elim (λ w. simp (ne_eqb _ _ w.if-r-ne-ROWS.true, or-true)) (λ w. simp (ne_eqb _ _ w.if-w-ne-WEIGHT_BYTES.true, or-true))) c.then-l-ne-ROWS.branch-raw))
 
 pub overflow_mul-end : goal.overflow_mul-end
 overflow_mul-end c = let few = rows (goal.at.overflow_mul-end c).Start in record { fits = omega arith }

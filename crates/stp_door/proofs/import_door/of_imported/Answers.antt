@@ -10,13 +10,13 @@ use Rattle.stp_spec.specs.Door.{import_fields}
 use Rattle.stp.specs.Answers.{answer_of}
 use Rattle.stp_door.proofs.import_door.of_imported.Goals as goal
 
-pub returns-in-Taken : goal.returns-in-Taken
+pub returns-in-Ok : goal.returns-in-Ok
 unfolding fields_of import_fields answer_of from_bits
-returns-in-Taken c = rw c.in-Taken.is refl
+returns-in-Ok c = rw c.in-Ok.is refl
 
-pub returns-in-Refused : goal.returns-in-Refused
+pub returns-in-Err : goal.returns-in-Err
 unfolding fields_of import_fields answer_of
-returns-in-Refused c =
-    let r = c.in-Refused.r in
+returns-in-Err c =
+    let r = c.in-Err.r in
     let written : ℤ → Fields = λ a. record { kind = 0; number = r.number; out = 0; into = 0; only = 0; amount = a } in
-    rw c.in-Refused.is (ap written (natural-bits 63 r.place (omega arith)))
+    rw c.in-Err.is (ap written (natural-bits 63 r.place (omega arith)))
