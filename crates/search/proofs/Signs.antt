@@ -1,18 +1,17 @@
 -- Columns on the left may be left out of a search: where they hold 0 in every row, the number in the others is the row; where they equal the column after them, the integer in the others is the row's.
 -- Main statements: small_row, empty-row, sign-row, sign_word. Assumes nothing.
-use Prim.Native.Nat.{ℕ, zero, suc, ◌+◌, ◌-◌, ◌*◌, ◌/◌, ◌%◌, ◌^◌, ◌≤◌, ◌<◌}
+use Prim.Native.Nat.{ℕ, zero, suc, ◌+◌, ◌-◌, ◌*◌, ◌/◌, ◌^◌, ◌≤◌, ◌<◌}
 use native.Mathlib.Nat.{div-eq_of_lt, zero-add, add-suc, suc-add, mul-add-mod_self_right, pow-suc}
 use native.Mathlib.Numerals.{add-one}
 use native.Mathlib.Omega.{arith}
-use mathlib.Core.Bool.{Bool, true, false, not, cond, xor, false≢true}
+use mathlib.Core.Bool.{Bool, true, false, cond, xor, false≢true}
 use mathlib.Core.Path.{◌≡◌, refl, sym, ap, ◌∙◌, fun_ext, subst}
-use lib.IntN.{ℤ}
 use lib.ListN.{get_or}
 use lib.Pow.{high}
 use Rattle.search_columns.proofs.Loops.{none, column-read, component-in}
 use Rattle.search_columns.proofs.Signs.{bits-parts, first-split}
-use Rattle.rowset.proofs.Integers.{up, down, integers}
-use Rattle.rowset.proofs.Laws.{any_none, refuted, clash, upwards, xor-false-same}
+use Rattle.rowset.proofs.Integers.{integers}
+use Rattle.rowset.proofs.Laws.{any_none, refuted, clash, xor-false-same}
 use Rattle.rowset.proofs.Numbers.{number-split, number-below}
 use Rattle.rowset.specs.Columns.{in_columns, repeated_columns}
 use Rattle.rowset.specs.Integers.{from_bits, integer_in, signed}
@@ -181,6 +180,6 @@ module _ (t : Table) where
     pub skipped-found : any size (one_of (component (get_or t.columns 0 none)) (component (get_or t.columns j none))) ≡ true → j - 1 ≡ skippable t
     skipped-found e = rw (s.counted, repeated-at j h, e) (omega arith)
 
-  pub skipped-all : (j : ℕ) → width ≤ j → Skipped t j → j - 1 ≡ skippable t
+  pub skipped-all : (j : ℕ) → width ≤ j → Skipped t j → width - 1 ≡ skippable t
   unfolding repeated_columns
-  skipped-all j h s = let e : width - j ≡ 0 = omega arith in rw (s.counted, e) (omega arith)
+  skipped-all j h s = let e : width - j ≡ 0 = omega arith in rw (s.counted, e) (omega (arith, s.most))

@@ -1,5 +1,5 @@
 // The searches MATCH, MIN, MAX and GREAT over the rows of a table that a slice selects. Their loops stand in the crates `search_match`, `search_great` and `search_extremes`, over columns that are lent, where the first columns may be left out.
-// What a row holds in the others is the row itself, for MATCH, where every row is below 2 ^ (32 - first) (the law `small_row_lem`); the integer is the row's, for GREAT, MIN and MAX, where `sign_columns` are left out (the law `sign-row`).
+// What a row holds in the others is the row itself, for MATCH, where every row is below 2 ^ (32 - first) (the law `small_row`); the integer is the row's, for GREAT, MIN and MAX, where `sign_columns` are left out (the law `sign-row`).
 
 #![tactic(auto)]
 
@@ -24,14 +24,12 @@ pub fn sign_columns(t: Table) -> usize
     ensures { result ≡ repeated_columns size (column t) 1 31 }
 {
     let sign = t.columns[0];
-    let mut j = 1;
-    while j < WIDTH {
+    for j in 1..WIDTH {
         if slice::some(slice::xor(sign, t.columns[j])) {
             return j - 1;
         }
-        j += 1;
     }
-    j - 1
+    WIDTH - 1
 }
 
 // MATCH: the selected rows that equal w.

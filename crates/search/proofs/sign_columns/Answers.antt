@@ -1,6 +1,5 @@
--- `search::sign_columns` meets its contract. The loop's invariant: columns 2 to j equal column 1. The measure is what is left of the columns.
+-- `search::sign_columns` meets its contract. The loop's invariant: columns 2 to j equal column 1.
 -- Assumes nothing.
-use Prim.Native.Nat.{◌-◌}
 use native.Mathlib.Omega.{arith}
 use mathlib.Core.Path.{sym, ◌∙◌}
 use Rattle.search.proofs.Signs.{skipped-start, skipped-more, skipped-found, skipped-all}
