@@ -1,7 +1,7 @@
 -- Blocks and words: the bits that a mask takes out of each byte of a word, a word one step further, and bounds.
 -- Assumes nothing.
 use mathlib.Core.Path.{◌≡◌, ap, ◌∙◌, fun_ext, ◌≡⟨◌⟩◌, ◌∎}
-use mathlib.Core.List.{List}
+use mathlib.Core.List.{List, []}
 use Prim.Native.Nat.{ℕ, zero, suc, ◌+◌, ◌*◌, ◌-◌, ◌/◌, ◌%◌, ◌^◌, ◌≤◌, ◌<◌}
 use native.Mathlib.Nat.{zero-add, add_comm, add-zero, mul-suc, mul_comm, mul-le-mul, le_of_lt, lt_of_lt_of_le, pow-le-pow_right, mod-lt, div-one, sub_self, add-sub_cancel_left}
 use native.Mathlib.Omega.{arith}
@@ -104,41 +104,35 @@ module _ (column : List ℕ) (stride offset : ℕ) (bytes : (i : ℕ) → get_or
   abbrev row_bit : ℕ → ℕ
   row_bit r = row_byte column stride offset r / 2 ^ k % 2
 
-  module _ (blocks : List ℕ) (right : (b : ℕ) → b < 128 → get_or blocks b 0 ≡ block_of column stride offset (64 * (b / 8) + b % 8)) (q : ℕ) (inside : q < 16) where
+  module _ (blocks : List ℕ) (q : ℕ) (right : (g : ℕ) → g < 8 → get_or blocks g 0 ≡ block_of column stride offset (64 * q + g)) where
     -- a bit of a byte of a block is a row's
-    lane-bit-row : (l g : ℕ) → l < 8 → g < 8 → lane_bit blocks k (0 + l) (8 * q + g) ≡ row_bit (8 * (8 * q + l) + g)
+    lane-bit-row : (l g : ℕ) → l < 8 → g < 8 → lane_bit blocks k (0 + l) (0 + g) ≡ row_bit (8 * (8 * q + l) + g)
     unfolding lane_bit block_of row_byte
     lane-bit-row l g hl hg =
-        let first : 64 * ((8 * q + g) / 8) + (8 * q + g) % 8 + 8 * l ≡ 8 * (8 * q + l) + g = omega arith in
-        rw (right (8 * q + g) (omega arith), zero-add l)
-        (digits-bit
-        (λ j. get_or column (offset + stride * (64 * ((8 * q + g) / 8) + (8 * q + g) % 8 + 8 * j)) 0)
-        (λ j. bytes (offset + stride * (64 * ((8 * q + g) / 8) + (8 * q + g) % 8 + 8 * j)))
-        0
-        8
-        l
-        k
-        hl
-        small
+        let first : 64 * q + g + 8 * l ≡ 8 * (8 * q + l) + g = omega arith in
+        rw (zero-add g, zero-add l, right g hg)
+        (digits-bit (λ j. get_or column (offset + stride * (64 * q + g + 8 * j)) 0) (λ j. bytes (offset + stride * (64 * q + g + 8 * j))) 0 8 l k hl small
         ∙ rw (zero-add l, first))
 
-    -- word q of plane k has the bits k of the rows from 64 q on
-    pub word_rows : word_of blocks k q ≡ from_digits 2 row_bit (8 * (8 * q)) 64
+    -- the bits k of the bytes of the blocks are those of the rows from 64 q on
+    pub word_rows : word_of blocks k 0 ≡ from_digits 2 row_bit (64 * q) 64
     unfolding word_of
     word_rows =
-        digits-ext 256 _ (λ l. from_digits 2 row_bit (8 * l) 8) 0 (8 * q) 8 (λ l hl. digits-ext 2 _ row_bit (8 * q) (8 * (8 * q + l)) 8 (λ g hg. lane-bit-row l g hl hg))
+        let start : 8 * (8 * q) ≡ 64 * q = omega arith in
+        digits-ext 256 _ (λ l. from_digits 2 row_bit (8 * l) 8) 0 (8 * q) 8 (λ l hl. digits-ext 2 _ row_bit 0 (8 * (8 * q + l)) 8 (λ g hg. lane-bit-row l g hl hg))
         ∙ digits-group 2 8 row_bit (8 * q) 8
+        ∙ ap (λ s. from_digits 2 row_bit s 64) start
 
   -- a slice of these words is plane k
-  pub plane-component : (blocks : List ℕ) → ((b : ℕ) → b < 128 → get_or blocks b 0 ≡ block_of column stride offset (64 * (b / 8) + b % 8))
-      → (x : Slice) → ((q : ℕ) → q < 16 → get_or x.words q 0 ≡ word_of blocks k q) → component x ≡ bit_plane column stride offset k
+  pub plane-component : (blocks : List (List ℕ)) → ((q : ℕ) → q < 16 → (g : ℕ) → g < 8 → get_or (get_or blocks q []) g 0 ≡ block_of column stride offset (64 * q + g))
+      → (x : Slice) → ((q : ℕ) → q < 16 → get_or x.words q 0 ≡ word_of (get_or blocks q []) k 0) → component x ≡ bit_plane column stride offset k
   unfolding bit_plane row_byte bit
   plane-component blocks right x words =
       component-ext x (bit_plane column stride offset k) (λ i e. rw e)
       (λ q j hq hj.
-      let at : 8 * (8 * q) + j ≡ 64 * q + j + 1 - 1 = omega arith in
-      rw (up_to-inside size (64 * q + j + 1) (omega arith) (omega arith), words q hq, word_rows blocks right q hq)
-      (ap (λ z. eqb z 1) (digits-at 2 row_bit (λ r. mod-lt _ (omega arith)) (8 * (8 * q)) 64 j hj ∙ ap row_bit at)))
+      let at : 64 * q + j ≡ 64 * q + j + 1 - 1 = omega arith in
+      rw (up_to-inside size (64 * q + j + 1) (omega arith) (omega arith), words q hq, word_rows (get_or blocks q []) q (right q hq))
+      (ap (λ z. eqb z 1) (digits-at 2 row_bit (λ r. mod-lt _ (omega arith)) (64 * q) 64 j hj ∙ ap row_bit at)))
 
 -- the slice of zeros is Θ
 pub blank-empty : component blank ≡ empty

@@ -3,11 +3,12 @@
 
 #![tactic(auto)]
 
-ghost use Rattle.std.specs.Prelude.{◌≡◌, ℕ, ◌+◌, ◌<◌, ◌*◌, ◌/◌, ◌%◌, ◌^◌, length, get_or};
+ghost use Rattle.std.specs.Prelude.{◌≡◌, ℕ, ◌+◌, ◌<◌, ◌*◌, ◌^◌, get_or, []};
 ghost use Rattle.slice_planes.specs.Planes.{plane, bit_plane};
 ghost use Rattle.slice_planes.specs.Steps.Blocks.{block_of, word_of};
 
-use slice::{Slice, WORDS};
+use slice::{BITS, Slice, WORDS};
+use std::array;
 
 // Plane k stands at index k.
 #[derive(Clone, Copy)]
@@ -15,28 +16,14 @@ pub struct Planes {
     pub planes: [Slice; 8],
 }
 
-// The number of blocks: eight for each 64 rows.
-const BLOCKS: usize = 128;
-
-// Byte l of the block at index 8 q + g is that of row 64 q + 8 l + g, rows counted from 0.
-#[derive(Clone, Copy)]
-struct Blocks {
-    blocks: [u64; BLOCKS],
-}
-
 // The lowest bit of each byte of a word.
 const LOWEST: u64 = 0x0101010101010101;
 
 // The byte at an index, 0 past the end.
-fn byte_at(column: &[u8], at: usize) -> u64
-    ensures value { result ≡ get_or column.now at 0 }
-    ensures small { result < 256 }
+fn byte_at(column: &[u8], at: usize) -> u8
+    ensures { result ≡ get_or column.now at 0 }
 {
-    if at < column.len() {
-        column[at] as u64
-    } else {
-        0
-    }
+    column.get(at).copied().unwrap_or(0)
 }
 
 // The bytes of row `first` and of every eighth row after it, eight in all.
@@ -45,53 +32,40 @@ fn block(column: &[u8], stride: usize, offset: usize, first: usize) -> u64
     ensures { result ≡ block_of column.now stride offset first }
 {
     let mut block: u64 = 0;
-    let mut l = 8;
-    while 0 < l {
-        l -= 1;
-        block = block * 256 + byte_at(column, offset + stride * (first + 8 * l));
+    for l in (0..8).rev() {
+        block = block * 256 + u64::from(byte_at(column, offset + stride * (first + 8 * l)));
     }
     block
 }
 
-// All blocks of the column.
-fn gather(column: &[u8], stride: usize, offset: usize) -> Blocks
-    requires { (stride < 2 ^ 32) × (offset < 2 ^ 32) }
-    ensures by_index { (b : ℕ) → b < 128 → get_or result.blocks b 0 ≡ block_of column.now stride offset (64 * (b / 8) + b % 8) }
-    ensures size { length result.blocks ≡ 128 }
+// The blocks of 64 rows: byte l of block g is that of row 64 q + 8 l + g, rows counted from 0.
+fn gather(column: &[u8], stride: usize, offset: usize, q: usize) -> [u64; 8]
+    requires { (stride < 2 ^ 32) × (offset < 2 ^ 32) × (q < 16) }
+    ensures { (g : ℕ) → g < 8 → get_or result g 0 ≡ block_of column.now stride offset (64 * q + g) }
 {
-    let mut blocks = Blocks {
-        blocks: [0; BLOCKS],
-    };
-    for b in 0..BLOCKS {
-        blocks.blocks[b] = block(column, stride, offset, 64 * (b / 8) + b % 8);
-    }
-    blocks
+    array::from_fn(|g| block(column, stride, offset, BITS * q + g))
 }
 
-// Word q of plane k: the bits k of the bytes of eight blocks.
-fn word(blocks: &[u64], k: usize, q: usize) -> u64
-    requires { (length blocks.now ≡ 128) × (k < 8) × (q < 16) }
-    ensures { result ≡ word_of blocks.now k q }
+// The bits k of the bytes of eight blocks.
+pub fn word(blocks: &[u64; 8], k: usize) -> u64
+    requires { k < 8 }
+    ensures { result ≡ word_of blocks.now k 0 }
 {
     let mut word: u64 = 0;
-    let mut b = 8 * q + 8;
-    while 8 * q < b {
-        b -= 1;
-        word = word * 2 + ((blocks[b] >> k) & LOWEST);
+    for g in (0..8).rev() {
+        word = word * 2 + ((blocks[g] >> k) & LOWEST);
     }
     word
 }
 
 // Plane k, word by word.
-fn plane(blocks: &[u64], k: usize) -> Slice
-    requires { (length blocks.now ≡ 128) × (k < 8) }
-    ensures { (q : ℕ) → q < 16 → get_or result.words q 0 ≡ word_of blocks.now k q }
+fn plane(blocks: &[[u64; 8]; WORDS], k: usize) -> Slice
+    requires { k < 8 }
+    ensures { (q : ℕ) → q < 16 → get_or result.words q 0 ≡ word_of (get_or blocks.now q []) k 0 }
 {
-    let mut x = Slice::EMPTY;
-    for q in 0..WORDS {
-        x.words[q] = word(blocks, k, q);
+    Slice {
+        words: array::from_fn(|q| word(&blocks[q], k)),
     }
-    x
 }
 
 // The bytes of the column, `stride` apart and the first at `offset`, as eight planes: component i of plane k is bit k of the byte at index
@@ -99,12 +73,11 @@ fn plane(blocks: &[u64], k: usize) -> Slice
 pub fn split(column: &[u8], stride: u32, offset: u32) -> Planes
     ensures { plane result ≡ bit_plane column.now stride offset }
 {
-    let blocks = gather(column, stride as usize, offset as usize);
-    let mut p = Planes {
-        planes: [Slice::EMPTY; 8],
-    };
-    for k in 0..8 {
-        p.planes[k] = plane(&blocks.blocks, k);
+    let mut blocks = [[0u64; 8]; WORDS];
+    for q in 0..WORDS {
+        blocks[q] = gather(column, stride as usize, offset as usize, q);
     }
-    p
+    Planes {
+        planes: array::from_fn(|k| plane(&blocks, k)),
+    }
 }

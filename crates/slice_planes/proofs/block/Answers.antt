@@ -1,6 +1,6 @@
 -- `slice_planes::block` meets its contract. The loop's invariant: the block so far has the bytes of the rows from number l on.
 -- The measure is l. Assumes nothing.
-use mathlib.Core.Path.{◌≡◌}
+use mathlib.Core.Path.{◌≡◌, sym}
 use Prim.Native.Nat.{ℕ, ◌+◌, ◌*◌, ◌-◌, ◌^◌, ◌<◌}
 use native.Mathlib.Omega.{arith}
 use borrow.Author.Rules.{rules}
@@ -18,8 +18,8 @@ rows c l = let a = c.args in row_byte a.column.now a.stride a.offset (a.first + 
 grown : (c : In-loop-l) → c.loop-l.block * 256 + rows c (c.loop-l.l - 1) < 2 ^ 64
 unfolding row_byte
 grown c =
-    rw c.loop-l.invariant.1
-    (block-fits (rows c) (λ l. (c.shared_slice_known-1.given _).fits) c.loop-l.l c.loop-l-test.true c.loop-l.invariant.0)
+    rw c.loop-l.invariant
+    (block-fits (rows c) (λ l. (c.shared_slice_known-1.given _).fits) c.loop-l.l (omega arith) (omega arith))
 
 -- the index of a row's byte fits
 place : (c : In-loop-l) →
@@ -42,15 +42,14 @@ overflow_add-offset c = omega (arith, place (goal.at.overflow_add-offset c).In-l
 
 pub overflow_add-block : goal.overflow_add-block
 unfolding row_byte
-overflow_add-block c = omega (arith, grown (goal.at.overflow_add-block c).In-loop-l, c.byte_at.ensures.value)
+overflow_add-block c = omega (arith, grown (goal.at.overflow_add-block c).In-loop-l, c.byte_at.ensures)
 
 pub loop-l-preserved : goal.loop-l-preserved
 unfolding row_byte
-loop-l-preserved c = (
-  omega arith,
-  rw (c.byte_at.ensures.value, c.loop-l.invariant.1, digits-down 256 (rows (goal.at.loop-l-preserved c).In-loop-l) c.loop-l.l 8 c.loop-l-test.true c.loop-l.invariant.0),
-)
+loop-l-preserved c =
+    rw (c.from.ensures, c.byte_at.ensures, c.loop-l.invariant)
+    (sym (digits-down 256 (rows (goal.at.loop-l-preserved c).In-loop-l) c.loop-l.l 8 (omega arith) (omega arith)))
 
 pub returns : goal.returns
 unfolding block_of
-returns c = let z : c.loop-l.l ≡ 0 = omega arith in rw z at c.loop-l.invariant.1
+returns c = let z : c.loop-l.l ≡ 0 = omega arith in rw z at c.loop-l.invariant

@@ -1,4 +1,4 @@
--- What the private functions of `slice_planes` compute. No contract of a public function speaks of it. Rows are counted from 0 here.
+-- What the functions of `slice_planes` compute on the way to planes. Of the public functions only `word` speaks of it. Rows are counted from 0 here.
 -- Assumes nothing.
 use Rattle.std.specs.Prelude.{ℕ, zero, suc, ◌+◌, ◌*◌, ◌/◌, ◌%◌, ◌^◌, List, get_or}
 
