@@ -24,13 +24,9 @@ fn mark_word(mark: &[u8], first: usize) -> u64
     requires { (first ≤ 960) × (first < length mark.now) }
     ensures { result ≡ word_at (marked mark.now) first 64 }
 {
+    let end = mark.len().min(first + 64);
     let mut word: u64 = 0;
-    let mut i = first + 64;
-    if mark.len() < i {
-        i = mark.len();
-    }
-    while first < i {
-        i -= 1;
+    for i in (first..end).rev() {
         word = word * 2 + (mark[i] == 1) as u64;
     }
     word
@@ -44,10 +40,8 @@ fn mark_rows(mark: &[u8]) -> Slice
         return Slice::empty();
     }
     let mut r = Slice::EMPTY;
-    let mut k = 0;
-    while 64 * k < mark.len() {
+    for k in 0..mark.len().div_ceil(64) {
         r.words[k] = mark_word(mark, 64 * k);
-        k += 1;
     }
     r
 }
@@ -92,16 +86,13 @@ fn add_word(weight: &[u8], w: u64, k: usize, before: Sums) -> Sums
     let mut at = 64 * k;
     let mut left = w;
     while left != 0 {
-        let z = u64::trailing_zeros(left) as usize;
+        let z = left.trailing_zeros() as usize;
         at = at + z + 1;
         above += flipped_weight(weight, at) as u64;
         taken += OFFSET as u64;
         left = (left >> z) >> 1;
     }
-    Sums {
-        above: above,
-        taken: taken,
-    }
+    Sums { above, taken }
 }
 
 // The 64 bits of the sum of the weights of the slice's rows; a byte past the column's end counts 0. The flipped weights are added up, and 2 ^ 31 taken off for each row.

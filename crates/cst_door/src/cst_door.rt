@@ -29,8 +29,7 @@ pub extern "C" fn star_cst(
     }
     let table = InUse::plain(left.len());
     let checked = cst::cst(n, table, left, right, weight, mark);
-    let v = checked.verdict;
-    let x = of_verdict(v);
+    let x = of_verdict(checked);
     write_answer(answer, x);
     1
 }

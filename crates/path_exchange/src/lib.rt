@@ -23,9 +23,7 @@ pub fn turn_column(matrix: &mut [u64], j: usize, e: usize, ring: Slice)
 pub fn turn_columns(matrix: &mut [u64], n: usize, e: usize, ring: Slice)
     ensures { matrix.new ≡ columns_turned matrix.old n e (component ring) }
 {
-    let mut j = 0;
-    while j < n {
-        j += 1;
-        turn_column(matrix, j, e, ring);
+    for j in 0..n {
+        turn_column(matrix, j + 1, e, ring);
     }
 }

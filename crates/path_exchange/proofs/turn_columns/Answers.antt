@@ -1,4 +1,4 @@
--- `path_exchange::turn_columns` meets its contract. The loop's invariant: the first j columns are turned over. The measure is what is left of the columns.
+-- `path_exchange::turn_columns` meets its contract. The loop's invariant: the first j columns are turned over.
 -- Assumes nothing.
 use Prim.Native.Nat.{ℕ, ◌+◌}
 use Rattle.path_exchange.specs.Turned.{column_turned, columns_turned}

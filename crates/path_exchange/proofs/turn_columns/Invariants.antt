@@ -1,4 +1,4 @@
--- `path_exchange::turn_columns` meets its contract. The loop's invariant: the first j columns are turned over. The measure is what is left of the columns.
+-- `path_exchange::turn_columns` meets its contract. The loop's invariant: the first j columns are turned over.
 -- Assumes nothing.
 use Prim.Native.Nat.{◌-◌, ◌≤◌}
 use Rattle.path_exchange.specs.Turned.{columns_turned}
@@ -9,6 +9,3 @@ use Rattle.path_exchange.proofs.turn_columns.Given as goal
 
 abbrev pub invariant-loop-j : goal.invariant-loop-j
 invariant-loop-j l = (l.j ≤ l.n) × (l.matrix ≡ columns_turned l.initial.matrix l.j l.e (component l.ring)) × (length l.matrix ≡ length l.initial.matrix)
-
-abbrev pub decreases-loop-j : goal.decreases-loop-j
-decreases-loop-j l = l.n - l.j
