@@ -1,7 +1,7 @@
 -- The integers that rows hold in bit columns, and the numbers that MIN and MAX compare.
 -- Main statements: the order is the same (integer-order), so MIN and MAX over the integers are MIN and MAX over those numbers (min-turned, max-turned).
 -- Assumes nothing.
-use Prim.Native.Nat.{ℕ, zero, suc, ◌-◌, ◌≤◌}
+use Prim.Native.Nat.{ℕ, zero, suc, ◌≤◌}
 use borrow.Author.Tests.{ltb-true, ltb-false}
 use lib.Dec.{ltb}
 use lib.Signed.{lt_z}

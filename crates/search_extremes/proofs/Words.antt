@@ -9,8 +9,9 @@ use mathlib.Core.List.{List}
 use mathlib.Core.Logic.{⊎_elim, by_cases}
 use mathlib.Core.Path.{◌≡◌, refl, sym, ap, ◌∙◌}
 use borrow.Author.Tests.{eq-eqb, ne_eqb, eqb-true}
-use lib.Bits.{bit_and, bit_or, bit_xor, or_zero_l, or_add_and, and_le_l, and_le_r, and_shr, and_self}
-use lib.Count.{count_trailing_zeros}
+use lib.Bits.{bit_or, bit_xor, or_zero_l, or_add_and, and_le_l, and_le_r}
+use lib.Count.{ones, ones_step, count_trailing_zeros}
+use Rattle.std.proofs.lemmas.Nat.{zero_from_ones}
 use lib.Dec.{eqb}
 use lib.ListN.{length, get_or}
 use Rattle.rowset.specs.Sets.{any}
@@ -71,25 +72,21 @@ module _ (b : Bool) (l cs : List ℕ) (j : ℕ) where
         go zero e = rw (eq-eqb w 0 e) (sym (none_any size (Kept b l cs j) (clear e)))
         go (suc v) e = rw (ne_eqb w 0 (λ z. omega arith)) (sym (m.found (omega arith)))
 
--- a number that shares no bit with the one before it has at most one bit
-odd-half : (w : ℕ) → w % 2 ≡ 1 → bit_and w (w - 1) ≡ 0 → w / 2 ≡ 0
-odd-half w o e =
-    let d : (w - 1) / 2 ^ 1 ≡ w / 2 = omega arith in
-    sym (and_self (w / 2)) ∙ sym (and_shr w (w - 1) 1 ∙ ap (bit_and (w / 2)) d) ∙ ap (λ a. a / 2) e
+-- a number of one bit: an odd one is 1, and the half of an even one has one bit
+odd-half : (w : ℕ) → w % 2 ≡ 1 → ones w ≡ 1 → w / 2 ≡ 0
+odd-half w o e = zero_from_ones (w / 2) (omega (arith, ones_step w))
 
-even-half : (w : ℕ) → w % 2 ≡ 0 → bit_and w (w - 1) ≡ 0 → bit_and (w / 2) (w / 2 - 1) ≡ 0
-even-half w o e =
-    let d : (w - 1) / 2 ^ 1 ≡ w / 2 - 1 = omega arith in
-    sym (and_shr w (w - 1) 1 ∙ ap (bit_and (w / 2)) d) ∙ ap (λ a. a / 2) e
+even-half : (w : ℕ) → w % 2 ≡ 0 → ones w ≡ 1 → ones (w / 2) ≡ 1
+even-half w o e = omega (arith, ones_step w)
 
 -- an odd number with no other bit
-no_other : (w a : ℕ) → w % 2 ≡ 1 → bit_and w (w - 1) ≡ 0 → bit w (suc a) ≡ false
+no_other : (w a : ℕ) → w % 2 ≡ 1 → ones w ≡ 1 → bit w (suc a) ≡ false
 no_other w a o e = bit-suc w a ∙ ap (λ v. bit v a) (odd-half w o e) ∙ bit-of-zero a
 
 lowest : (w : ℕ) → bit w 0 ≡ true → w % 2 ≡ 1
 lowest w h = eqb-true (w % 2) 1 (sym (bit-zero w) ∙ h)
 
-pub one_bit : (a c w : ℕ) → bit_and w (w - 1) ≡ 0 → bit w a ≡ true → bit w c ≡ true → a ≡ c
+pub one_bit : (a c w : ℕ) → ones w ≡ 1 → bit w a ≡ true → bit w c ≡ true → a ≡ c
 one_bit zero zero w e ha hc = refl
 one_bit zero (suc c) w e ha hc = clash hc (no_other w c (lowest w ha) e)
 one_bit (suc a) zero w e ha hc = clash ha (no_other w a (lowest w hc) e)
@@ -136,7 +133,7 @@ module _ (l : List ℕ) where
       some zero h = clash h (bit-of-zero ((i - 1) % 64))
       some (suc w) h = omega arith
 
-  pub word-all : (used found k : ℕ) → NonePast used (rows_of l) → used ≤ k → bit_and found (found - 1) ≡ 0 → OneWord l found k → AtMostOne (rows_of l)
+  pub word-all : (used found k : ℕ) → NonePast used (rows_of l) → used ≤ k → ones found ≡ 1 → OneWord l found k → AtMostOne (rows_of l)
   word-all used found k past h e m a c ha hc =
       let (pa, sa, ba, la) = row_word used past a ha in
       let (pc, sc, bc, lc) = row_word used past c hc in

@@ -30,7 +30,7 @@ fn joined_rows(z: &[u64], columns: &[u64], j: usize, b: bool, used: usize) -> u6
     let from = COLUMN * j;
     let mut joined: u64 = 0;
     for k in 0..used {
-        joined = joined | (z[k] & (columns[from + k] ^ mask));
+        joined |= z[k] & (columns[from + k] ^ mask);
     }
     joined
 }
@@ -50,10 +50,7 @@ fn single(z: &[u64], used: usize) -> bool
             found = w;
         }
     }
-    if found == 0 {
-        return false;
-    }
-    found & (found - 1) == 0
+    found.is_power_of_two()
 }
 
 // Of the rows of z those whose bit in column j + 1 is b stay, or all where there is no such row. True where a single row is left.
@@ -70,10 +67,7 @@ fn prefer_rows(z: &mut [u64], columns: &[u64], j: usize, b: bool, used: usize) -
         return false;
     }
     search_columns::keep_rows(z, columns, j, b, used);
-    if joined & (joined - 1) != 0 {
-        return false;
-    }
-    single(z, used)
+    joined.is_power_of_two() && single(z, used)
 }
 
 // The bit of column j + 1 that a row has that comes first: the other one in the first column that is read, that of the sign.

@@ -1,6 +1,6 @@
 -- `search_extremes::extreme_from` meets its contract. The loop's invariant: z has the rows of x that come first in the columns read, of which the first is turned over, and none past the words that are read.
 -- Assumes nothing.
-use Prim.Native.Nat.{◌+◌, ◌-◌}
+use Prim.Native.Nat.{◌+◌}
 use native.Mathlib.Omega.{arith}
 use borrow.Author.Rules.{rules}
 use Rattle.search_extremes.proofs.Loops.{sought-start, sought-all}

@@ -25,19 +25,19 @@ returns-then-joined-eq0 c =
       last = λ e. clash e refl;
     }
 
-pub returns-then-joined-ne0 : goal.returns-then-joined-ne0
-returns-then-joined-ne0 c =
+pub returns-else-is_power_of_two : goal.returns-else-is_power_of_two
+returns-else-is_power_of_two c =
     record {
       rows = preferred-kept _ _ _ _ _ _ c.joined_rows-joined.ensures c.if-joined-eq0.false (narrowed-is _ _ _ _ _ _ c.keep_rows.ensures.rows (omega arith) c.requires.2);
-      last = λ e. clash e refl;
+      last = λ e. clash e c.if-is_power_of_two.false;
     }
 
 pub single-requires : goal.single-requires
 single-requires c =
     (omega (arith, c.requires), c.requires.1, none-past-kept _ _ _ _ _ (narrowed-is _ _ _ _ _ _ c.keep_rows.ensures.rows (omega arith) c.requires.2) c.requires.2)
 
-pub returns : goal.returns
-returns c =
+pub returns-then-is_power_of_two : goal.returns-then-is_power_of_two
+returns-then-is_power_of_two c =
     record {
       rows = preferred-kept _ _ _ _ _ _ c.joined_rows-joined.ensures c.if-joined-eq0.false (narrowed-is _ _ _ _ _ _ c.keep_rows.ensures.rows (omega arith) c.requires.2);
       last = c.single.ensures;
