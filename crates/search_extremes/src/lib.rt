@@ -81,15 +81,15 @@ fn wanted(first: usize, high: bool, j: usize) -> bool
 fn extreme_from(columns: &[u64], first: usize, high: bool, x: Slice) -> Slice
     ensures { component result ≡ extreme high size (in_columns (turned first (matrix_column columns.now)) first (width - first)) (component x) }
 {
-    let mut z = x.words;
-    let used = search_columns::words_used(&z);
+    let mut z = x;
+    let used = search_columns::words_used(&z.words);
     for j in first..WIDTH {
         let b = wanted(first, high, j);
-        if prefer_rows(&mut z, columns, j, b, used) {
-            return Slice { words: z };
+        if prefer_rows(&mut z.words, columns, j, b, used) {
+            return z;
         }
     }
-    Slice { words: z }
+    z
 }
 
 // MIN: the selected rows than which no selected row is smaller.

@@ -9,4 +9,4 @@ use Rattle.search_columns.specs.Steps.Rows.{rows_of, NonePast}
 use Rattle.search_extremes.proofs.extreme_from.Given as goal
 
 abbrev pub invariant-loop-j : goal.invariant-loop-j
-invariant-loop-j l = Sought (turned l.first (matrix_column l.columns)) l.first l.high (record { words = l.initial.z }) (record { words = l.z }) l.j × NonePast l.used (rows_of l.z) × (length l.z ≡ 16)
+invariant-loop-j l = Sought (turned l.first (matrix_column l.columns)) l.first l.high l.initial.z l.z l.j × NonePast l.used (rows_of l.z.words) × (length l.z.words ≡ 16)
