@@ -8,14 +8,14 @@ ghost use Rattle.change_spec.specs.Door.{add_fields, add_door, add_door_table};
 ghost use Rattle.change_spec.specs.Tables.{working};
 
 use answer::{Record, of_refusal, well_lent, write_answer};
-use change::Added;
+use refusal::Refusal;
 
 // The fields of an add's answer: the new row's position stands where a verdict has its weight.
-pub fn of_added(x: Added) -> Record
-    ensures { fields_of result ≡ add_fields (answer_of x) }
+pub fn of_added(added: Result<u32, Refusal>) -> Record
+    ensures { fields_of result ≡ add_fields (answer_of added) }
 {
-    match x {
-        Added::At(position) => Record {
+    match added {
+        Ok(position) => Record {
             kind: 1,
             number: 0,
             out: 0,
@@ -23,7 +23,7 @@ pub fn of_added(x: Added) -> Record
             only: 0,
             amount: position as u64,
         },
-        Added::Refused(r) => of_refusal(r),
+        Err(refusal) => of_refusal(refusal),
     }
 }
 
@@ -48,8 +48,7 @@ pub extern "C" fn star_add(
     if !well_lent(answer) {
         return 0;
     }
-    let i = change::add_row(words, left, right, weight, numbers, a, b, price);
-    let x = of_added(i);
-    write_answer(answer, x);
+    let added = change::add_row(words, left, right, weight, numbers, a, b, price);
+    write_answer(answer, of_added(added));
     1
 }

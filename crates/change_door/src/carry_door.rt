@@ -18,8 +18,7 @@ pub extern "C" fn star_carry(numbers: &[u32], mark: &mut [u8], answer: &mut [u8]
     if !well_lent(answer) {
         return 0;
     }
-    let o = change::carry::carry(numbers, mark);
-    let x = of_outcome(o);
-    write_answer(answer, x);
+    let outcome = change::carry::carry(numbers, mark);
+    write_answer(answer, of_outcome(outcome));
     1
 }

@@ -26,8 +26,7 @@ pub extern "C" fn star_merge(
     if !well_lent(answer) {
         return 0;
     }
-    let o = change::merge(words, left, right, weight, numbers);
-    let x = of_outcome(o);
-    write_answer(answer, x);
+    let outcome = change::merge(words, left, right, weight, numbers);
+    write_answer(answer, of_outcome(outcome));
     1
 }

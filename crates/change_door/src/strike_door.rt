@@ -17,8 +17,7 @@ pub extern "C" fn star_strike(words: &mut [u64], row: u32, answer: &mut [u8]) ->
     if !well_lent(answer) {
         return 0;
     }
-    let o = change::strike(words, row);
-    let x = of_outcome(o);
-    write_answer(answer, x);
+    let outcome = change::strike(words, row);
+    write_answer(answer, of_outcome(outcome));
     1
 }

@@ -17,8 +17,7 @@ pub extern "C" fn star_restore(words: &mut [u64], row: u32, answer: &mut [u8]) -
     if !well_lent(answer) {
         return 0;
     }
-    let o = restore::restore(words, row);
-    let x = of_outcome(o);
-    write_answer(answer, x);
+    let outcome = restore::restore(words, row);
+    write_answer(answer, of_outcome(outcome));
     1
 }

@@ -3,6 +3,4 @@
 
 #![tactic(auto)]
 
-pub mod fields; // fields.rt: the fields of a total
-pub mod total_door; // total_door.rt: a plain table's
-pub mod work_total_door; // work_total_door.rt: a working table's
+pub mod total_door; // total_door.rt: the doors over a plain and a working table

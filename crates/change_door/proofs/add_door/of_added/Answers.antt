@@ -9,13 +9,13 @@ use Rattle.change.specs.Answers.{answer_of}
 use Rattle.change_spec.specs.Door.{add_fields}
 use Rattle.change_door.proofs.add_door.of_added.Goals as goal
 
-pub returns-in-At : goal.returns-in-At
+pub returns-in-Ok : goal.returns-in-Ok
 unfolding fields_of add_fields answer_of
-returns-in-At c =
-    let position = c.in-At.position in
+returns-in-Ok c =
+    let position = c.in-Ok.position in
     let written : ℤ → Fields = λ a. record { kind = 1; number = 0; out = 0; into = 0; only = 0; amount = a } in
-    rw c.in-At.is (ap written (natural-bits 63 position (omega arith)))
+    rw c.in-Ok.is (ap written (natural-bits 63 position (omega arith)))
 
-pub returns-in-Refused : goal.returns-in-Refused
+pub returns-in-Err : goal.returns-in-Err
 unfolding add_fields answer_of fields outcome_fields
-returns-in-Refused c = rw c.in-Refused.is c.of_refusal.ensures
+returns-in-Err c = rw c.in-Err.is c.of_refusal.ensures

@@ -23,8 +23,8 @@ returns c =
     let a = c.args in
     let t = working a.words.now a.left.now a.right.now a.weight.now a.numbers.now in
     let well = sym c.well_lent.ensures ∙ c.if-not-well_lent.false in
-    let n = c.add_row-i.new in
+    let n = c.add_row-added.new in
     let returned : 1 ≡ door_returns a.answer.now = rw well in
-    let answered : c.write_answer.new.answer ≡ add_door t a.answer.now = c.write_answer.ensures ∙ ap (answer_after _) (c.of_added-x.ensures ∙ ap add_fields c.add_row-i.ensures.answer) in
-    let table : working n.words n.left n.right n.weight n.numbers ≡ add_door_table t a.a a.b a.price a.answer.now = rw well c.add_row-i.ensures.table in
+    let answered : c.write_answer.new.answer ≡ add_door t a.answer.now = c.write_answer.ensures ∙ ap (answer_after _) (c.of_added.ensures ∙ ap add_fields c.add_row-added.ensures.answer) in
+    let table : working n.words n.left n.right n.weight n.numbers ≡ add_door_table t a.a a.b a.price a.answer.now = rw well c.add_row-added.ensures.table in
     record { returned = returned; answered = answered; table = table; means = (add-call (returned, (answered, table))).1.1.1 }

@@ -21,6 +21,6 @@ returns c =
     let a = c.args in
     let well = sym c.well_lent.ensures ∙ c.if-not-well_lent.false in
     let returned : 1 ≡ door_returns a.answer.now = rw well in
-    let answered : c.write_answer.new.answer ≡ carry_door a.numbers.now a.mark.now a.answer.now = c.write_answer.ensures ∙ ap (answer_after _) (c.of_outcome-x.ensures ∙ ap outcome_fields c.carry-o.ensures.answer) in
-    let marks : c.carry-o.new.mark ≡ carry_door_marks a.numbers.now a.mark.now a.answer.now = rw well c.carry-o.ensures.marks in
+    let answered : c.write_answer.new.answer ≡ carry_door a.numbers.now a.mark.now a.answer.now = c.write_answer.ensures ∙ ap (answer_after _) (c.of_outcome.ensures ∙ ap outcome_fields c.carry-outcome.ensures.answer) in
+    let marks : c.carry-outcome.new.mark ≡ carry_door_marks a.numbers.now a.mark.now a.answer.now = rw well c.carry-outcome.ensures.marks in
     record { returned = returned; answered = answered; marks = marks; means = (carry-call (returned, (answered, marks))).1.1.1 }

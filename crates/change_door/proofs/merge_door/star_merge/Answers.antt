@@ -23,8 +23,8 @@ returns c =
     let a = c.args in
     let t = working a.words.now a.left.now a.right.now a.weight.now a.numbers.now in
     let well = sym c.well_lent.ensures ∙ c.if-not-well_lent.false in
-    let n = c.merge-o.new in
+    let n = c.merge-outcome.new in
     let returned : 1 ≡ door_returns a.answer.now = rw well in
-    let answered : c.write_answer.new.answer ≡ merge_door t a.answer.now = c.write_answer.ensures ∙ ap (answer_after _) (c.of_outcome-x.ensures ∙ ap outcome_fields c.merge-o.ensures.answer) in
-    let table : working n.words n.left n.right n.weight n.numbers ≡ merge_door_table t a.answer.now = rw well c.merge-o.ensures.table in
+    let answered : c.write_answer.new.answer ≡ merge_door t a.answer.now = c.write_answer.ensures ∙ ap (answer_after _) (c.of_outcome.ensures ∙ ap outcome_fields c.merge-outcome.ensures.answer) in
+    let table : working n.words n.left n.right n.weight n.numbers ≡ merge_door_table t a.answer.now = rw well c.merge-outcome.ensures.table in
     record { returned = returned; answered = answered; table = table; means = (merge-call (returned, (answered, table))).1.1.1 }

@@ -21,6 +21,6 @@ returns c =
     let a = c.args in
     let well = sym c.well_lent.ensures ∙ c.if-not-well_lent.false in
     let returned : 1 ≡ door_returns a.answer.now = rw well in
-    let answered : c.write_answer.new.answer ≡ strike_door a.words.now a.row a.answer.now = c.write_answer.ensures ∙ ap (answer_after _) (c.of_outcome-x.ensures ∙ ap outcome_fields c.strike-o.ensures.answer) in
-    let rows : c.strike-o.new.words ≡ strike_door_words a.words.now a.row a.answer.now = rw well c.strike-o.ensures.rows in
+    let answered : c.write_answer.new.answer ≡ strike_door a.words.now a.row a.answer.now = c.write_answer.ensures ∙ ap (answer_after _) (c.of_outcome.ensures ∙ ap outcome_fields c.strike-outcome.ensures.answer) in
+    let rows : c.strike-outcome.new.words ≡ strike_door_words a.words.now a.row a.answer.now = rw well c.strike-outcome.ensures.rows in
     record { returned = returned; answered = answered; rows = rows; means = (strike-call (returned, (answered, rows))).1.1.1 }

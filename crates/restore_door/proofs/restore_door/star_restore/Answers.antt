@@ -21,6 +21,6 @@ returns c =
     let a = c.args in
     let well = sym c.well_lent.ensures ∙ c.if-not-well_lent.false in
     let returned : 1 ≡ door_returns a.answer.now = rw well in
-    let answered : c.write_answer.new.answer ≡ restore_door a.words.now a.row a.answer.now = c.write_answer.ensures ∙ ap (answer_after _) (c.of_outcome-x.ensures ∙ ap outcome_fields c.restore-o.ensures.answer) in
-    let rows : c.restore-o.new.words ≡ restore_door_words a.words.now a.row a.answer.now = rw well c.restore-o.ensures.rows in
+    let answered : c.write_answer.new.answer ≡ restore_door a.words.now a.row a.answer.now = c.write_answer.ensures ∙ ap (answer_after _) (c.of_outcome.ensures ∙ ap outcome_fields c.restore-outcome.ensures.answer) in
+    let rows : c.restore-outcome.new.words ≡ restore_door_words a.words.now a.row a.answer.now = rw well c.restore-outcome.ensures.rows in
     record { returned = returned; answered = answered; rows = rows; means = (restore-call (returned, (answered, rows))).1.1.1 }

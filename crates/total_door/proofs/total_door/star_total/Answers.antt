@@ -1,27 +1,6 @@
--- `total_door::total_door::star_total` meets its contract: what the total, `of_total` and `write_answer` promise, one after the other. Assumes nothing.
-use mathlib.Core.Path.{◌≡◌, sym, ap, ◌∙◌}
-use Rattle.star_spec.specs.Call.{call_of}
-use Rattle.star_spec.specs.Door.{answer_after, door_returns}
-use Rattle.total_spec.proofs.Bytes.{total-call}
-use Rattle.total_spec.specs.Total.{total_fields, total_door}
+-- `total_door::total_door::star_total` meets its contract: it is that of the shared door over a plain table. Assumes nothing.
 use Rattle.total_door.proofs.total_door.star_total.Goals as goal
 
-pub returns-then-not-well_lent : goal.returns-then-not-well_lent
-unfolding door_returns total_door answer_after
-returns-then-not-well_lent c =
-    let a = c.args in
-    let ill = sym c.well_lent.ensures ∙ c.if-not-well_lent.true in
-    let returned : 0 ≡ door_returns a.answer.now = rw ill in
-    let answered : a.answer.now ≡ total_door (call_of a.n a.left.now a.right.now a.weight.now a.mark.now) a.answer.now = rw ill in
-    record { returned = returned; answered = answered; means = (total-call (returned, answered)).1.1 }
-
 pub returns : goal.returns
-unfolding door_returns total_door
 returns c =
-    let a = c.args in
-    let well = sym c.well_lent.ensures ∙ c.if-not-well_lent.false in
-    let w = c.plain-table.ensures in
-    let answer = rw (w.rows.0, w.rows.1, w.used) at c.claim_total-t.ensures in
-    let returned : 1 ≡ door_returns a.answer.now = rw well in
-    let answered : c.write_answer.new.answer ≡ total_door (call_of a.n a.left.now a.right.now a.weight.now a.mark.now) a.answer.now = c.write_answer.ensures ∙ ap (answer_after _) (c.of_total-x.ensures ∙ ap total_fields answer) in
-    record { returned = returned; answered = answered; means = (total-call (returned, answered)).1.1 }
+    let t = c.plain-plain.ensures in rw (t.rows.0, t.rows.1, t.used) at c.answered.ensures

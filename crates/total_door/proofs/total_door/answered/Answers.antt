@@ -1,10 +1,10 @@
--- `total_door::work_total_door::star_work_total` meets its contract: what the total, `of_total` and `write_answer` promise, one after the other. Assumes nothing.
+-- `total_door::total_door::answered` meets its contract: what the total, `of_total` and `write_answer` promise, one after the other. Assumes nothing.
 use mathlib.Core.Path.{◌≡◌, sym, ap, ◌∙◌}
-use Rattle.star_spec.specs.Call.{work_of}
+use Rattle.in_use.specs.Tables.{table_in}
 use Rattle.star_spec.specs.Door.{answer_after, door_returns}
 use Rattle.total_spec.proofs.Bytes.{total-call}
 use Rattle.total_spec.specs.Total.{total_fields, total_door}
-use Rattle.total_door.proofs.work_total_door.star_work_total.Goals as goal
+use Rattle.total_door.proofs.total_door.answered.Goals as goal
 
 pub returns-then-not-well_lent : goal.returns-then-not-well_lent
 unfolding door_returns total_door answer_after
@@ -12,7 +12,7 @@ returns-then-not-well_lent c =
     let a = c.args in
     let ill = sym c.well_lent.ensures ∙ c.if-not-well_lent.true in
     let returned : 0 ≡ door_returns a.answer.now = rw ill in
-    let answered : a.answer.now ≡ total_door (work_of a.n a.words.now a.left.now a.right.now a.weight.now a.mark.now) a.answer.now = rw ill in
+    let answered : a.answer.now ≡ total_door (table_in a.n a.table a.left.now a.right.now a.weight.now a.mark.now) a.answer.now = rw ill in
     record { returned = returned; answered = answered; means = (total-call (returned, answered)).1.1 }
 
 pub returns : goal.returns
@@ -20,8 +20,6 @@ unfolding door_returns total_door
 returns c =
     let a = c.args in
     let well = sym c.well_lent.ensures ∙ c.if-not-well_lent.false in
-    let w = c.working-table.ensures in
-    let answer = rw (w.rows.0, w.rows.1, w.used) at c.claim_total-t.ensures in
     let returned : 1 ≡ door_returns a.answer.now = rw well in
-    let answered : c.write_answer.new.answer ≡ total_door (work_of a.n a.words.now a.left.now a.right.now a.weight.now a.mark.now) a.answer.now = c.write_answer.ensures ∙ ap (answer_after _) (c.of_total-x.ensures ∙ ap total_fields answer) in
+    let answered : c.write_answer.new.answer ≡ total_door (table_in a.n a.table a.left.now a.right.now a.weight.now a.mark.now) a.answer.now = c.write_answer.ensures ∙ ap (answer_after _) (c.of_total.ensures ∙ ap total_fields c.claim_total-total.ensures) in
     record { returned = returned; answered = answered; means = (total-call (returned, answered)).1.1 }
