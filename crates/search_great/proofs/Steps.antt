@@ -1,6 +1,6 @@
 -- GREAT at one more column, by the column fact. The rows are those of any bit columns c, in the k columns after column j.
 -- Assumes nothing.
-use Prim.Native.Nat.{ℕ, suc, ◌+◌, ◌*◌, ◌-◌, ◌≤◌}
+use Prim.Native.Nat.{ℕ, suc, ◌+◌, ◌*◌, ◌≤◌}
 use mathlib.Core.Bool.{Bool, true, false, not, cond, ◌&&◌, ◌||◌, and_assoc, and-or_distrib_left, and-true, and-false, or-false}
 use mathlib.Core.Path.{◌≡◌, refl, fun_ext, ap, ◌∙◌}
 use lib.Dec.{leb-suc-zero, eqb}

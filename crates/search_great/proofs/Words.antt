@@ -1,6 +1,6 @@
 -- Rows as words that are put into the words of other rows: what the loop over the words has done.
 -- Assumes nothing.
-use Prim.Native.Nat.{ℕ, ◌+◌, ◌-◌, ◌*◌, ◌<◌, ◌≤◌}
+use Prim.Native.Nat.{ℕ, ◌+◌, ◌*◌, ◌<◌, ◌≤◌}
 use native.Mathlib.Decide.{dec_lt}
 use native.Mathlib.Nat.{eq-or-lt_of_le}
 use native.Mathlib.Omega.{arith}
@@ -15,7 +15,6 @@ use Rattle.rowset.specs.Sets.{either}
 use Rattle.slice.specs.Slices.{bit}
 use Rattle.slice.proofs.Bits.{bit-op, or-bitwise}
 use Rattle.slice.proofs.Laws.{component-at, component-outside, component-ext}
-use Rattle.search_columns.specs.Steps.Column.{kept}
 use Rattle.search_columns.specs.Steps.Rows.{rows_of, NonePast}
 use Rattle.search_columns.proofs.Words.{Kept, word, kept-no, kept_word_lem}
 

@@ -70,7 +70,7 @@ fn grow_rows(g: &mut [u64], z: &[u64], columns: &[u64], j: usize, b: bool, used:
     let mask = search_columns::mask_of(b);
     let from = COLUMN * j;
     for k in 0..used {
-        g[k] = g[k] | (z[k] & (columns[from + k] ^ mask));
+        g[k] |= z[k] & (columns[from + k] ^ mask);
     }
 }
 
@@ -105,29 +105,27 @@ pub fn great_from(columns: &[u64], first: usize, w: u32, x: Slice) -> Compared
 {
     let v = turned_bits(first, w);
     let four = in_four(columns, &x.words);
-    let mut g = [0u64; COLUMN];
-    let mut z = x.words;
+    let mut g = Slice::empty();
+    let mut z = x;
     for j in first..WIDTH {
-        if slice::zero(Slice { words: z }) {
+        if slice::zero(z) {
             return Compared {
-                greater: Slice { words: g },
-                equal: Slice { words: z },
+                greater: g,
+                equal: z,
             };
         }
         let digit = WIDTH - 1 - j;
         let b = (v >> digit) % 2 == 1;
         if four {
-            compare_four(&mut g, &mut z, columns, first, j, b);
+            compare_four(&mut g.words, &mut z.words, columns, first, j, b);
         } else {
             let c = ordered(columns, first, j);
-            let more = grow(Slice { words: g }, Slice { words: z }, c, b);
-            let rest = search_columns::keep(Slice { words: z }, c, b);
-            g = more.words;
-            z = rest.words;
+            g = grow(g, z, c, b);
+            z = search_columns::keep(z, c, b);
         }
     }
     Compared {
-        greater: Slice { words: g },
-        equal: Slice { words: z },
+        greater: g,
+        equal: z,
     }
 }

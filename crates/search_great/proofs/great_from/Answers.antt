@@ -1,25 +1,28 @@
 -- `search_great::great_from` meets its contract. The loop's invariant: z has the rows that equal v in the columns read, of which the first is turned over, and g those that are greater there; where `four` is true, z has no row past four words.
 -- Assumes nothing.
-use Prim.Native.Nat.{◌-◌}
+use Prim.Native.Nat.{ℕ}
 use native.Mathlib.Omega.{arith}
 use borrow.Author.Rules.{rules}
 use borrow.Author.Tests.{not-true}
-use mathlib.Core.Bool.{true}
 use mathlib.Core.Logic.{⊎_elim}
 use mathlib.Core.Path.{sym, ap, ◌∙◌}
 use lib.ListN.{length}
 use Rattle.rowset.specs.Columns.{in_columns}
 use Rattle.rowset.proofs.Laws.{clash}
 use Rattle.search_great.proofs.Loops.{comparing-start, comparing-more, comparing-none, comparing-all}
-use Rattle.search_columns.proofs.Loops.{component-in, blank-empty}
+use Rattle.search_columns.proofs.Loops.{component-in}
 use Rattle.search_columns.proofs.Words.{none-past-kept}
 use Rattle.search_great.proofs.Signs.{great-turned, same-turned, all-equal}
-use Rattle.search_columns.specs.Steps.Rows.{rows_of}
+use Rattle.slice.specs.Slices.{component}
+use Rattle.slice.specs.declared.Slice.{Slice}
 use Rattle.search_great.proofs.great_from.Goals as goal
+
+abbrev words : Slice → ℕ
+words x = length x.words
 
 pub loop-j-init : goal.loop-j-init
 loop-j-init c =
-    (comparing-start _ _ _ _ _ blank-empty, λ e. (c.in_four-four.ensures e).1, search rules, search rules)
+    (comparing-start _ _ _ _ _ c.empty-g.ensures, λ e. (c.in_four-four.ensures e).1, search rules, search rules)
 
 pub returns-then-zero : goal.returns-then-zero
 unfolding in_columns
@@ -50,19 +53,19 @@ loop-j-preserved c =
     (λ s.
     let l = c.loop-j in
     let e = s.compare_four.ensures in
-    let z = ap rows_of s.z-is ∙ e.equal in (
-      comparing-more _ _ _ _ _ _ _ _ _ (omega arith) (ap rows_of s.g-is ∙ e.greater) z l.invariant.0,
+    let z = ap component s.z-is ∙ e.equal in (
+      comparing-more _ _ _ _ _ _ _ _ _ (omega arith) (ap component s.g-is ∙ e.greater) z l.invariant.0,
       λ q. none-past-kept 4 _ _ _ _ z (l.invariant.1 q),
-      omega (arith, ap length s.g-is, s.compare_four, s.g-then-four-1, s.z-then-four-2-1, l.invariant.2),
-      omega (arith, ap length s.z-is, s.compare_four, s.g-then-four-1, s.z-then-four-2-1, l.invariant.3),
+      omega (arith, ap words s.g-is, s.compare_four, l.invariant.2),
+      omega (arith, ap words s.z-is, s.compare_four, l.invariant.3),
     ))
     (λ s.
     let l = c.loop-j in
     let read = s.ordered-c.ensures in (
-      comparing-more _ _ _ _ _ _ _ _ _ (omega arith) (ap rows_of s.g-is ∙ rw read at s.grow-more.ensures) (ap rows_of s.z-is ∙ rw read at s.keep-rest.ensures) l.invariant.0,
+      comparing-more _ _ _ _ _ _ _ _ _ (omega arith) (ap component s.g-is ∙ rw read at s.grow-g.ensures) (ap component s.z-is ∙ rw read at s.keep-z.ensures) l.invariant.0,
       λ q. clash q s.if-four.false,
-      ap length s.g-is ∙ search (rules, s.grow-more),
-      ap length s.z-is ∙ search (rules, s.keep-rest),
+      ap words s.g-is ∙ search (rules, s.grow-g),
+      ap words s.z-is ∙ search (rules, s.keep-z),
     ))
     c.if-four.branch-raw
 

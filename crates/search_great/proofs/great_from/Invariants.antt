@@ -1,6 +1,5 @@
 -- `search_great::great_from` meets its contract. The loop's invariant: z has the rows that equal v in the columns read, of which the first is turned over, and g those that are greater there; where `four` is true, z has no row past four words.
 -- Assumes nothing.
-use Prim.Native.Nat.{◌-◌}
 use mathlib.Core.Bool.{true}
 use mathlib.Core.Path.{◌≡◌}
 use lib.ListN.{length}
@@ -11,4 +10,4 @@ use Rattle.search_columns.specs.Steps.Rows.{rows_of, NonePast}
 use Rattle.search_great.proofs.great_from.Given as goal
 
 abbrev pub invariant-loop-j : goal.invariant-loop-j
-invariant-loop-j l = Comparing (turned l.first (matrix_column l.columns)) l.first l.v (record { words = l.initial.z }) (record { words = l.g }) (record { words = l.z }) l.j × (l.four ≡ true → NonePast 4 (rows_of l.z)) × (length l.g ≡ 16) × (length l.z ≡ 16)
+invariant-loop-j l = Comparing (turned l.first (matrix_column l.columns)) l.first l.v l.initial.z l.g l.z l.j × (l.four ≡ true → NonePast 4 (rows_of l.z.words)) × (length l.g.words ≡ 16) × (length l.z.words ≡ 16)
