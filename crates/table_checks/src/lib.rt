@@ -36,10 +36,7 @@ const SOME_WORDS: usize = 256;
 fn byte_at(column: &[u8], k: usize) -> u8
     ensures { result ≡ get_or column.now k 0 }
 {
-    if k < column.len() {
-        return column[k];
-    }
-    0
+    column.get(k).copied().unwrap_or(0)
 }
 
 // The number in row i of a column with one byte a row.
@@ -57,11 +54,7 @@ fn quad(weight: &[u8], at: usize) -> u32
     requires { at + 4 ≤ length weight.now }
     ensures { result ≡ little weight.now at 4 }
 {
-    let b0 = weight[at] as u32;
-    let b1 = weight[at + 1] as u32;
-    let b2 = weight[at + 2] as u32;
-    let b3 = weight[at + 3] as u32;
-    b0 + 256 * (b1 + 256 * (b2 + 256 * b3))
+    u32::from_le_bytes([weight[at], weight[at + 1], weight[at + 2], weight[at + 3]])
 }
 
 // The number of the 32 bits in row i of a column with four bytes a row, least significant first. A row that the column has whole is read after one test; one that begins past its end holds 0.
