@@ -1,6 +1,6 @@
 -- The steps of the machine, case by case; what each column of the matrix reads once columns are turned over. Assumes nothing.
-use Prim.Native.Nat.{ℕ, zero, suc, ◌+◌, ◌*◌, ◌≤◌, ◌<◌}
-use borrow.Author.Tests.{eq-eqb, ne_eqb, lt-ltb, le-ltb}
+use Prim.Native.Nat.{ℕ, zero, suc, min, max, ◌+◌, ◌*◌, ◌≤◌, ◌<◌}
+use borrow.Author.Tests.{eq-eqb, ne_eqb}
 use lib.Dec.{eqb}
 use lib.ListN.{length, replicate}
 use mathlib.Core.Bool.{Bool, true, false, cond, xor}
@@ -10,7 +10,7 @@ use mathlib.Core.Path.{◌≡◌, refl, sym, ◌∙◌, ap}
 use native.Mathlib.Nat.{eq-or-lt_of_le}
 use native.Mathlib.Numerals.{add-one}
 use native.Mathlib.Omega.{arith}
-use Rattle.groups.specs.Steps.Machine.{State, larger, smaller, ring_at, column_turned, columns_turned, joined_at, visit_at, row_at, visits, all_visited}
+use Rattle.groups.specs.Steps.Machine.{State, ring_at, column_turned, columns_turned, joined_at, visit_at, row_at, visits, all_visited}
 use Rattle.mend_groups.specs.Steps.Machine.{all_renamed, labels_from}
 use Rattle.path_exchange.proofs.Turned.{InSize, column-in}
 use Rattle.path_matrix.proofs.Laws.{length-with_column, with_column-same, with_column-other}
@@ -20,22 +20,6 @@ use Rattle.rowset.specs.Bytes.{in_row}
 use Rattle.rowset.specs.Sets.{empty, either, one_of}
 use Rattle.rowset.specs.Words.{column_words}
 use Rattle.slice.specs.Slices.{size, written}
-
-pub larger-second : (x y : ℕ) → x < y → larger x y ≡ y
-unfolding larger
-larger-second x y l = rw (lt-ltb x y l)
-
-pub larger-first : (x y : ℕ) → y ≤ x → larger x y ≡ x
-unfolding larger
-larger-first x y l = rw (le-ltb x y l)
-
-pub smaller-first : (x y : ℕ) → x < y → smaller x y ≡ x
-unfolding smaller
-smaller-first x y l = rw (lt-ltb x y l)
-
-pub smaller-second : (x y : ℕ) → y ≤ x → smaller x y ≡ y
-unfolding smaller
-smaller-second x y l = rw (le-ltb x y l)
 
 -- the ring from both columns, their xor, and the row
 pub ring-read : (own : List ℕ) (a b i : ℕ) {r z x y : ℕ → Bool} → r ≡ written z i true → z ≡ one_of x y → y ≡ matrix_column own b → x ≡ matrix_column own a → r ≡ ring_at own a b i
@@ -82,7 +66,7 @@ module _ (n : ℕ) (left right : List ℕ) (i : ℕ) (s : State) where
   -- a row between two groups joins them
   pub visit-joins : in_row 1 s.labels (in_row 1 left i) ≢ in_row 1 s.labels (in_row 1 right i)
       → visit_at n left right i s
-      ≡ joined_at n s (larger (in_row 1 s.labels (in_row 1 left i)) (in_row 1 s.labels (in_row 1 right i))) (smaller (in_row 1 s.labels (in_row 1 left i)) (in_row 1 s.labels (in_row 1 right i))) (ring_at s.own (in_row 1 left i) (in_row 1 right i) i)
+      ≡ joined_at n s (max (in_row 1 s.labels (in_row 1 left i)) (in_row 1 s.labels (in_row 1 right i))) (min (in_row 1 s.labels (in_row 1 left i)) (in_row 1 s.labels (in_row 1 right i))) (ring_at s.own (in_row 1 left i) (in_row 1 right i) i)
   unfolding visit_at
   visit-joins e = rw (ne_eqb (in_row 1 s.labels a) (in_row 1 s.labels b) e)
 
@@ -101,7 +85,7 @@ module _ (n : ℕ) (left right : List ℕ) (i : ℕ) (s : State) {a b x y : ℕ}
   pub visit-ring : {r : ℕ → Bool} → x ≡ y → r ≡ either s.rings ring → ◌≡◌ {A = State} (record { rings = r; labels = s.labels; own = s.own }) (visit_at n left right i s)
   visit-ring e q = rw (q, ring-same) (sym (visit-closes n left right i s (sym first-label ∙ e ∙ second-label)))
 
-  pub visit-join : {big small : ℕ} {labels own : List ℕ} → x ≢ y → big ≡ larger x y → small ≡ smaller x y → labels ≡ all_renamed s.labels big small → own ≡ columns_turned s.labels s.own n big ring
+  pub visit-join : {big small : ℕ} {labels own : List ℕ} → x ≢ y → big ≡ max x y → small ≡ min x y → labels ≡ all_renamed s.labels big small → own ≡ columns_turned s.labels s.own n big ring
       → ◌≡◌ {A = State} (record { rings = s.rings; labels = labels; own = own }) (visit_at n left right i s)
   unfolding joined_at
   visit-join ne eg es el eo = rw (el, eo, eg, es, ring-same, first-label, second-label) (sym (visit-joins n left right i s (λ e. ne (first-label ∙ e ∙ sym second-label))))

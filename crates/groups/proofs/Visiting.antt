@@ -1,6 +1,6 @@
 -- The visits on the machine keep what the theory asks for (Kept), so that the labels are the groups and the rings the rows that close one (all-labels, all-rings).
 -- Assumes nothing.
-use Prim.Native.Nat.{ℕ, zero, suc, ◌≤◌, ◌<◌}
+use Prim.Native.Nat.{ℕ, zero, suc, min, max, ◌≤◌, ◌<◌}
 use lib.Dec.{eqb}
 use lib.ListN.{length, get_or, replicate, length-replicate, get_or-replicate, get_or-eq_default}
 use mathlib.Core.Bool.{Bool, true, false, cond, and-false}
@@ -12,8 +12,8 @@ use native.Mathlib.Omega.{arith}
 use Rattle.graph_theory.proofs.Reach.{Joins, rightward, leftward}
 use Rattle.graph_theory.specs.Graph.{Graph, Sound, Inside}
 use Rattle.graph_theory.specs.Meaning.{Vertex}
-use Rattle.groups.proofs.Steps.{larger-first, larger-second, smaller-first, smaller-second, row-marked, row-unmarked, visit-closes, visit-joins, xor-in, length-all-turned, column-turned}
-use Rattle.groups.specs.Steps.Machine.{State, larger, smaller, ring_at, columns_turned, joined_at, visit_at, row_at, visits, all_visited}
+use Rattle.groups.proofs.Steps.{row-marked, row-unmarked, visit-closes, visit-joins, xor-in, length-all-turned, column-turned}
+use Rattle.groups.specs.Steps.Machine.{State, ring_at, columns_turned, joined_at, visit_at, row_at, visits, all_visited}
 use Rattle.groups_theory.proofs.Rings.{ring_of}
 use Rattle.groups_theory.proofs.Held.{Held, relabelled, turned, held_start, held_same, held-ring, held-join, held-group, held-closes}
 use Rattle.groups_theory.specs.Groups.{group_of, closes_ring}
@@ -141,9 +141,15 @@ module _ (n m : ℕ) (left right : List ℕ) (U : ℕ → Bool) where
       joins-kept : L (in_row 1 left (suc k)) ≢ L (in_row 1 right (suc k)) → Kept (suc k) (visit_at n left right (suc k) s)
       joins-kept e = rw (visit-joins n left right (suc k) s e, ring-is) (go (dec_lt (L (in_row 1 left (suc k))) (L (in_row 1 right (suc k)))))
         where
-          go : Dec (L a < L b) → Kept (suc k) (joined_at n s (larger (L a) (L b)) (smaller (L a) (L b)) (ring_of g P (suc k)))
-          go (yes l) = rw (larger-second (L a) (L b) l, smaller-first (L a) (L b) l) (joined-kept _ _ rightward l)
-          go (no l) = rw (larger-first (L a) (L b) (omega arith), smaller-second (L a) (L b) (omega arith)) (joined-kept _ _ leftward (omega (arith, e)))
+          go : Dec (L a < L b) → Kept (suc k) (joined_at n s (max (L a) (L b)) (min (L a) (L b)) (ring_of g P (suc k)))
+          go (yes l) =
+              let more : max (L a) (L b) ≡ L b = omega arith in
+              let less : min (L a) (L b) ≡ L a = omega arith in
+              rw (more, less) (joined-kept _ _ rightward l)
+          go (no l) =
+              let more : max (L a) (L b) ≡ L a = omega arith in
+              let less : min (L a) (L b) ≡ L b = omega arith in
+              rw (more, less) (joined-kept _ _ leftward (omega (arith, e)))
 
     kept_step : (k : ℕ) → suc k ≤ m → (s : State) → Kept k s → Kept (suc k) (row_at M n left right (suc k) s)
     kept_step k low s h = go (M (suc k)) refl

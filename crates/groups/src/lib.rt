@@ -7,7 +7,7 @@
 ghost use Rattle.std.specs.Prelude.{ℕ, ◌≤◌, eqb, length, ◌≡◌};
 ghost use Rattle.groups_spec.specs.Groups.{groups_causes, groups_answer, groups_after, rings_after};
 ghost use Rattle.in_use.specs.Tables.{table_in};
-ghost use Rattle.mend_groups.specs.Steps.Machine.{all_renamed, labels_from};
+ghost use Rattle.mend_groups.specs.Steps.Machine.{all_renamed};
 ghost use Rattle.refusal.specs.Outcomes.{refusal_of};
 ghost use Rattle.rowset.specs.Bytes.{in_row};
 ghost use Rattle.rowset.specs.Sets.{empty, count};
@@ -15,10 +15,10 @@ ghost use Rattle.slice.specs.Slices.{component};
 ghost use Rattle.star_spec.specs.Call.{table_of};
 ghost use Rattle.star_spec.specs.Refusals.{refusal};
 ghost use Rattle.groups.specs.Answers.{answer_of};
-ghost use Rattle.groups.specs.Steps.Machine.{state_of, larger, smaller, ring_at, column_turned, columns_turned, visit_at, row_at, visits, all_visited};
+ghost use Rattle.groups.specs.Steps.Machine.{state_of, ring_at, column_turned, columns_turned, visit_at, row_at, visits, all_visited};
 
 use in_use::InUse;
-use mend_groups::rename_all;
+use mend_groups::{own_labels, rename_all};
 use refusal::{Outcome, Refusal};
 use slice::Slice;
 use table_checks::row_byte;
@@ -38,19 +38,6 @@ pub struct Counts {
 pub enum Grouped {
     Told(Counts),
     Refused(Refusal),
-}
-
-// The larger of two labels, and the smaller.
-fn larger(x: u8, y: u8) -> u8
-    ensures { result ≡ larger x y }
-{
-    if x < y { y } else { x }
-}
-
-fn smaller(x: u8, y: u8) -> u8
-    ensures { result ≡ smaller x y }
-{
-    if x < y { x } else { y }
 }
 
 // The ring of row i with ends a and b: the row, and the rows in which the columns of its ends differ.
@@ -76,10 +63,8 @@ fn turn_column(labels: &[u8], own: &mut [u64], v: usize, x: u8, ring: Slice)
 fn turn_columns(labels: &[u8], own: &mut [u64], n: usize, x: u8, ring: Slice)
     ensures { own.new ≡ columns_turned labels.now own.old n x (component ring) }
 {
-    let mut v = 0;
-    while v < n {
-        v += 1;
-        turn_column(labels, own, v, x, ring);
+    for v in 0..n {
+        turn_column(labels, own, v + 1, x, ring);
     }
 }
 
@@ -112,7 +97,7 @@ fn visit(
     if x == y {
         return slice::or(rings, ring);
     }
-    join(n, larger(x, y), smaller(x, y), ring, labels, own);
+    join(n, x.max(y), x.min(y), ring, labels, own);
     rings
 }
 
@@ -148,22 +133,10 @@ fn visit_rows(
     ensures { state_of result labels.new own.new ≡ visits (row_at (component marked) n left.now right.now) m (record { rings = empty; labels = labels.old; own = own.old }) }
 {
     let mut rings = Slice::empty();
-    let mut i = 0;
-    while i < m {
-        i += 1;
-        rings = visit_marked(n, left, right, marked, i, rings, labels, own);
+    for i in 0..m {
+        rings = visit_marked(n, left, right, marked, i + 1, rings, labels, own);
     }
     rings
-}
-
-// Each vertex is a group of its own.
-fn own_labels(labels: &mut [u8])
-    requires { length labels.old ≤ 255 }
-    ensures { labels.new ≡ labels_from 0 (length labels.old) }
-{
-    for i in 0..labels.len() {
-        labels[i] = (i + 1) as u8;
-    }
 }
 
 // The groups' labels, and the rows that close a ring, of the marked rows of 1 to m.
@@ -190,10 +163,8 @@ fn count_own(labels: &[u8], n: usize) -> u32
     ensures { result ≡ count n (λ v. eqb (in_row 1 labels.now v) v) }
 {
     let mut total: u32 = 0;
-    let mut v = 0;
-    while v < n {
-        v += 1;
-        total += has_own(labels, v) as u32;
+    for v in 0..n {
+        total += u32::from(has_own(labels, v + 1));
     }
     total
 }

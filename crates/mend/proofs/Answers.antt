@@ -2,7 +2,7 @@
 -- Assumes nothing.
 use Prim.Native.Nat.{ℕ, ◌*◌, ◌≤◌}
 use borrow.Author.Tests.{ltb-false}
-use lib.ListN.{length, get_or, drop, length-append}
+use lib.ListN.{length, take, drop, length-append}
 use mathlib.Core.Bool.{Bool}
 use mathlib.Core.List.{List, [], ◌∷◌, ◌++◌}
 use mathlib.Core.Option.{Option, none, some}
@@ -39,10 +39,11 @@ use Rattle.star_spec.specs.Call.{Call, used, graph_of, weight_of, marked, claime
 use Rattle.star_spec.specs.MatrixPath.{path_column, matrix_path, matrix_or, matrix_after}
 use Rattle.star_spec.specs.Refusals.{Accepted, max_vertices, cause, is_none, no_tree, table_causes, bad_claim, bad_count, unjoined, cst_causes, or_else, refusal}
 use Rattle.table.specs.Loads.{loaded_row}
+use Rattle.mend_groups.proofs.Listed.{begun}
 use Rattle.mend_groups.proofs.Joining.{Second, passes-shown}
-use Rattle.mend.proofs.Written.{stored-all, numbers-past}
+use Rattle.mend.proofs.Written.{records-taken, stored-all}
 use Rattle.mend.proofs.Third.{Third, third-after}
-use Rattle.mend_groups.specs.Steps.Machine.{State, numbered, visits, two_passes}
+use Rattle.mend_groups.specs.Steps.Machine.{State, visits, two_passes}
 use Rattle.mend.specs.Steps.Machine.{swap_at}
 
 -- the causes in order
@@ -109,8 +110,8 @@ module _ (c : Call) (records : ℕ) where
     inside i e = (both-in (used c) (marked c.mark) i e).0
 
     -- the rows in use and the marked rows as the machine has them
-    module _ (U M : ℕ → Bool) (e_u : U ≡ both (up_to c.m) c.in_use) (e_m : M ≡ both U (claim_rows c.mark)) (l₀ : List ℕ) (room : length l₀ ≡ 9216) where
-      space : 9 * c.m ≤ length l₀
+    module _ (U M : ℕ → Bool) (e_u : U ≡ both (up_to c.m) c.in_use) (e_m : M ≡ both U (claim_rows c.mark)) (l₀ : List Record) (room : length l₀ ≡ 3072) where
+      space : 3 * c.m ≤ length l₀
       space = omega (arith, few-rows)
 
       are-used : U ≡ used c
@@ -210,7 +211,7 @@ module _ (c : Call) (records : ℕ) where
                 go none f = absurd (not-connected g ok (weight_of c) f (tree-connected spans))
                 go (some f) h = rw h
 
-            module _ (count : ℕ) (list : List ℕ) (ec : count ≡ two.count) (el : list ≡ two.list) (s : State) (es : s ≡ visits (swap_at c.n U (λ k. signed (in_row 4 c.weight k)) c.left c.right c.weight) c.m (record { marks = S; count = count; list = list; own = own })) where
+            module _ (count : ℕ) (list : List Record) (ec : count ≡ two.count) (el : list ≡ two.list) (s : State) (es : s ≡ visits (swap_at c.n U (λ k. signed (in_row 4 c.weight k)) c.left c.right c.weight) c.m (record { marks = S; count = count; list = list; own = own })) where
               third : Third c.n c.m c.left c.right (used c) c.weight ok few-rows l₀ space c.m s (drawn c)
               unfolding drawn exchanged graph_of weight_of
               third =
@@ -231,12 +232,15 @@ module _ (c : Call) (records : ℕ) where
               unfolding drawn graph_of
               few = omega (arith, third.shows.count, (mends g ok (weight_of c) (claimed c) inside (spanned g ok (weight_of c) (claimed c) inside marks spans)).few)
 
-              pub mended : (mended_by s.count ≡ mend c records) × (redrawn U s.marks c.mark ≡ mend_marks c records) × ((l : List Record) → length l ≡ records → stored_to s.count s.list l ≡ mend_list c l)
-                  × ((i : ℕ) → 3 * s.count ≤ i → get_or s.list i 0 ≡ get_or l₀ i 0)
-              unfolding mend mend_marks mend_list answer_or marks_or list_or numbered
+              -- the first records of the list are those of the drawing
+              records-first : take s.count s.list ≡ (drawn c).records
+              unfolding begun
+              records-first = rw (third.shows.list, third.shows.count) (records-taken (drawn c).records (drop (length (drawn c).records) l₀))
+
+              pub mended : (mended_by s.count ≡ mend c records) × (redrawn U s.marks c.mark ≡ mend_marks c records) × ((l : List Record) → length l ≡ records → stored_to (length (take s.count s.list)) (take s.count s.list) l ≡ mend_list c l)
+              unfolding mend mend_marks mend_list answer_or marks_or list_or
               mended = (
                 rw (last-cause, twelve) (ap mended_by third.shows.count),
                 rw (last-cause, twelve) (ap₂ (λ (p r : ℕ → Bool). redrawn p r c.mark) are-used third.shows.marks),
-                λ l z. rw (z, last-cause, twelve, third.shows.list, third.shows.count) (stored-all (drawn c).records (drop (3 * length (drawn c).records) l₀) l (omega (arith, z, long-list, few, third.shows.count)) (omega (arith, few-rows, few, third.shows.count))),
-                λ i h. rw third.shows.list (numbers-past (drawn c).records l₀ i (omega (arith, third.shows.count))),
+                λ l z. rw (z, last-cause, twelve, records-first) (stored-all (drawn c).records l (omega (arith, z, long-list, few, third.shows.count))),
               )

@@ -15,6 +15,7 @@ use Rattle.graph_theory.proofs.Path.{path_inside, path-columns}
 use Rattle.graph_theory.proofs.Reach.{same_truth}
 use Rattle.graph_theory.specs.Graph.{Graph, Sound}
 use Rattle.graph_theory.specs.Tree.{SpanningTree, on_path, exchange}
+use Rattle.mend_record.specs.declared.Record.{Record}
 use Rattle.mend_theory.proofs.Drawing.{done-length}
 use Rattle.mend_theory.proofs.Visits.{row_out-some, row_out-heaviest}
 use Rattle.mend_theory.specs.Mending.{Drawing, exchange_of, unmark_row, mark_row, apply, done, down, row_out, exchange_for, exchange_at}
@@ -70,7 +71,7 @@ module _ (n m : ℕ) (left right : List ℕ) (U : ℕ → Bool) (weight : List �
           cut : uppermost size (largest size w P) ≡ uppermost m (largest m w P)
           cut = largest-cut size m w P short (λ j p. ok.position j (tree.inside j (path_inside g ok S tree (in_row 1 left i) (in_row 1 right i) j p)))
 
-    module _ (l₀ : List ℕ) (room : 9 * m ≤ length l₀) where
+    module _ (l₀ : List Record) (room : 3 * m ≤ length l₀) where
       -- after the third pass at rows 1 to k
       pub record Third (k : ℕ) (s : State) (d : Drawing) : Type 0 where
         pub shows : Shows l₀ s d

@@ -1,10 +1,9 @@
 // Mending an old claim: marks that close a ring are dropped, rows that join two groups are added (crate mend_groups), and each unmarked row from the top is exchanged for the heaviest row of its path where that is heavier.
-// Each drop, addition and exchange becomes a record, kept in numbers of the mender's own, three a record; the doors, which alone see the lent list, write them there through the crate mend_list.
-// The claim is written once nothing can be refused any more.
+// Each drop, addition and exchange becomes a record, kept in a list of the mender's own. The claim and the lent list of records are written once nothing can be refused any more.
 
 #![tactic(auto)]
 
-ghost use Rattle.std.specs.Prelude.{ℕ, ◌+◌, ◌*◌, ◌^◌, ◌-◌, ◌<◌, ◌≤◌, ltb, length, get_or, Bool, true, cond, List, ◌≡◌};
+ghost use Rattle.std.specs.Prelude.{◌*◌, ◌^◌, ◌-◌, ◌<◌, ◌≤◌, length, cond, ◌≡◌};
 ghost use Rattle.std.proofs.Math.Option.{none};
 ghost use Rattle.path_matrix.specs.Matrix.{matrix_column};
 ghost use Rattle.refusal.specs.Outcomes.{refusal_of};
@@ -19,38 +18,32 @@ ghost use Rattle.star_spec.specs.MatrixPath.{matrix_path, matrix_after};
 ghost use Rattle.star_spec.specs.Refusals.{or_else, refusal};
 ghost use Rattle.table.specs.Loads.{loaded_row};
 ghost use Rattle.mend_spec.specs.Mend.{claim_causes, few_records, redrawn, unmended, mend, mend_marks, mend_list};
-ghost use Rattle.mend_record.specs.declared.Record.{Record};
-ghost use Rattle.mend_list.specs.Steps.Stored.{stored_to};
-ghost use Rattle.mend.specs.Answers.{answer_of, count_of};
+ghost use Rattle.mend.specs.Answers.{answer_of};
 ghost use Rattle.mend_groups.specs.Steps.Machine.{state_of, visits};
 ghost use Rattle.mend.specs.Steps.Machine.{path_of, out_of, swapped, swap_at};
 
 use claim::flipped_weight;
 use in_use::InUse;
-use mend_groups::Drawn;
-use mend_list::NUMBERS;
+use mend_groups::{Drawn, RECORDS};
+use mend_list::write_records;
+use mend_record::{Kind, Record};
 use refusal::{Outcome, Refusal};
 use slice::rows::rows_among;
 use slice::{SIZE, Slice};
 use table_checks::row_byte;
 
-// The kind of a record of an exchange; drops and additions are 1 and 2.
-const EXCHANGE: u32 = 3;
+// What stands in the list where no record was noted.
+const NO_RECORD: Record = Record {
+    kind: 0,
+    out: 0,
+    into: 0,
+};
 
-// What the mender answers: the number of records, or the refusal.
-#[derive(Clone, Copy)]
-pub enum Mended {
-    Records(u32),
-    Refused(Refusal),
-}
-
-// What mending gives: the answer, and the records to be written, as the first `count` of numbers, three a record.
-#[derive(Clone, Copy)]
-pub struct Mending {
-    pub list: [u32; NUMBERS],
-    pub count: usize,
-    pub answer: Mended,
-}
+// Refused 11: no spanning tree exists.
+const NO_TREE: Refusal = Refusal {
+    number: 11,
+    place: 0,
+};
 
 // The rows on the tree path between row i's ends, from the path matrix.
 fn path_of(own: &[u64], left: &[u8], right: &[u8], i: usize) -> Slice
@@ -82,18 +75,21 @@ fn swap(
     out: usize,
     i: usize,
     s: Drawn,
-    list: &mut [u32],
+    list: &mut [Record],
     own: &mut [u64],
 ) -> Drawn
-    requires { (out ≤ size) × (i < 2 ^ 32) × (3 * s.count + 3 ≤ length list.old) }
+    requires { (out ≤ size) × (i < 2 ^ 32) × (s.count < length list.old) }
     ensures { state_of result list.new own.new ≡ swapped n (component path) out i (state_of s list.old own.old) }
 {
     path_exchange::turn_columns(own, n, out, slice::put(path, i, true));
-    let count = s.count;
-    mend_groups::note(list, count, EXCHANGE, out as u32, i as u32);
+    list[s.count] = Record {
+        kind: Kind::Exchange as u32,
+        out: out as u32,
+        into: i as u32,
+    };
     Drawn {
         marks: slice::put(slice::put(s.marks, out, false), i, true),
-        count: count + 1,
+        count: s.count + 1,
     }
 }
 
@@ -108,10 +104,10 @@ fn swap_at(
     first: usize,
     i: usize,
     s: Drawn,
-    list: &mut [u32],
+    list: &mut [Record],
     own: &mut [u64],
 ) -> Drawn
-    requires { (i < 2 ^ 32) × (3 * s.count + 3 ≤ length list.old) }
+    requires { (i < 2 ^ 32) × (s.count < length list.old) }
     ensures { state_of result list.new own.new ≡ swap_at n (component used) (integer_in (matrix_column weights.now) first (width - first)) left.now right.now weight.now i (state_of s list.old own.old) }
 {
     if !slice::get(used, i) {
@@ -139,10 +135,10 @@ fn swap_rows(
     weights: &[u64],
     first: usize,
     start: Drawn,
-    list: &mut [u32],
+    list: &mut [Record],
     own: &mut [u64],
 ) -> Drawn
-    requires { (m ≤ size) × (start.count ≤ 2 * m) × (9 * m ≤ length list.old) }
+    requires { (m ≤ size) × (start.count ≤ 2 * m) × (3 * m ≤ length list.old) }
     ensures passed { state_of result list.new own.new ≡ visits (swap_at n (component used) (integer_in (matrix_column weights.now) first (width - first)) left.now right.now weight.now) m (state_of start list.old own.old) }
     ensures few { result.count ≤ 3 * m }
 {
@@ -174,7 +170,7 @@ fn exchange_rows(
     right: &[u8],
     weight: &[u8],
     start: Drawn,
-    list: &mut [u32; NUMBERS],
+    list: &mut [Record; RECORDS],
     own: &mut [u64],
 ) -> Drawn
     requires { (m ≤ size) × (start.count ≤ 2 * m) × (loaded_row 4 weight.now ≡ in_row 4 weight.now) }
@@ -207,11 +203,7 @@ fn tree_paths(
 {
     let mut plan = [0u8; SIZE];
     claim::write_claim(&mut plan, marks);
-    let table = InUse {
-        m: m,
-        whole: whole,
-        rows: rows,
-    };
+    let table = InUse { m, whole, rows };
     path::matrix_path(n, table, left, right, weight, &plan[..m], 1, own)
 }
 
@@ -220,7 +212,7 @@ fn mark_of(old: u8, used: Slice, marks: Slice, i: usize) -> u8
     ensures { result ≡ cond (component used i) (cond (component marks i) 1 0) old }
 {
     if slice::get(used, i) {
-        return slice::get(marks, i) as u8;
+        return u8::from(slice::get(marks, i));
     }
     old
 }
@@ -229,8 +221,8 @@ fn mark_of(old: u8, used: Slice, marks: Slice, i: usize) -> u8
 fn write_marks(mark: &mut [u8], used: Slice, marks: Slice)
     ensures { mark.new ≡ redrawn (component used) (component marks) mark.old }
 {
-    for i in 0..mark.len() {
-        mark[i] = mark_of(mark[i], used, marks, i + 1);
+    for (i, byte) in mark.iter_mut().enumerate() {
+        *byte = mark_of(*byte, used, marks, i + 1);
     }
 }
 
@@ -253,28 +245,7 @@ fn mend_check(
     table_checks::first(claim, table_checks::refused_if(records / 2 < m, 16))
 }
 
-// A refusal: no record is to be written.
-fn refused(r: Refusal) -> Mending
-    ensures { (answer_of result.answer ≡ unmended r) × (result.count ≡ 0) × ((i : ℕ) → 3 * result.count ≤ i → get_or result.list i 0 ≡ 0) }
-{
-    Mending {
-        list: [0u32; NUMBERS],
-        count: 0,
-        answer: Mended::Refused(r),
-    }
-}
-
-// Refused 11: no spanning tree exists.
-fn no_tree() -> Mending
-    ensures { (answer_of result.answer ≡ unmended (record { number = 11; place = 0 })) × (result.count ≡ 0) × ((i : ℕ) → 3 * result.count ≤ i → get_or result.list i 0 ≡ 0) }
-{
-    refused(Refusal {
-        number: 11,
-        place: 0,
-    })
-}
-
-// The three passes over a call that nothing but cause 11 can refuse: the claim is written once a tree is known to exist.
+// The three passes over a call that nothing but cause 11 can refuse: the claim and the lent list are written once a tree is known to exist.
 fn redraw(
     n: u32,
     m: usize,
@@ -284,34 +255,30 @@ fn redraw(
     right: &[u8],
     weight: &[u8],
     mark: &mut [u8],
-    records: usize,
-) -> Mending
-    requires { or_else (refusal (claim_causes (table_of n m whole (component rows) left.now right.now weight.now mark.old))) (few_records m records) ≡ none }
+    records: &mut [Record],
+) -> Result<u32, Refusal>
+    requires { or_else (refusal (claim_causes (table_of n m whole (component rows) left.now right.now weight.now mark.old))) (few_records m (length records.old)) ≡ none }
     ensures { let c = table_of n m whole (component rows) left.now right.now weight.now mark.old in
-        (answer_of result.answer ≡ mend c records) × (mark.new ≡ mend_marks c records) × ((l : List Record) → length l ≡ records → stored_to result.count result.list l ≡ mend_list c l) × (result.count ≡ count_of (answer_of result.answer)) × ((i : ℕ) → 3 * result.count ≤ i → get_or result.list i 0 ≡ 0) }
+        (answer_of result ≡ mend c (length records.old)) × (mark.new ≡ mend_marks c (length records.old)) × (records.new ≡ mend_list c records.old) }
 {
     let used = rows_among(m, rows);
     let marked = claim::claim_rows(mark, used);
-    let mut list = [0u32; NUMBERS];
+    let mut list = [NO_RECORD; RECORDS];
     let tree = mend_groups::two_passes(m, used, left, right, marked, &mut list);
     let mut own = [0u64; path::ALL_WORDS];
     let walked = tree_paths(n, m, whole, rows, left, right, weight, tree.marks, &mut own);
     let Outcome::Done = walked else {
-        return no_tree();
+        return Err(NO_TREE);
     };
     let least = exchange_rows(
         n as usize, m, used, left, right, weight, tree, &mut list, &mut own,
     );
-    let count = least.count;
     write_marks(mark, used, least.marks);
-    Mending {
-        list: list,
-        count: count,
-        answer: Mended::Records(count as u32),
-    }
+    write_records(records, &list[..least.count]);
+    Ok(least.count as u32)
 }
 
-// Mending over a table of either kind, but for the lent list, which has so many records.
+// Mending over a table of either kind: the refusal, and the claim and the lent list stay as they were; or the number of records, which stand at the top of the list, and the mended claim.
 pub fn mend(
     n: u32,
     table: InUse,
@@ -319,18 +286,26 @@ pub fn mend(
     right: &[u8],
     weight: &[u8],
     mark: &mut [u8],
-    records: usize,
-) -> Mending
+    records: &mut [Record],
+) -> Result<u32, Refusal>
     ensures { let c = table_in n table left.now right.now weight.now mark.old in
-        (answer_of result.answer ≡ mend c records) × (mark.new ≡ mend_marks c records) × ((l : List Record) → length l ≡ records → stored_to result.count result.list l ≡ mend_list c l) × (result.count ≡ count_of (answer_of result.answer)) × ((i : ℕ) → 3 * result.count ≤ i → get_or result.list i 0 ≡ 0) }
+        (answer_of result ≡ mend c (length records.old)) × (mark.new ≡ mend_marks c (length records.old)) × (records.new ≡ mend_list c records.old) }
 {
     let m = table.m;
     let whole = table.whole;
     let rows = table.rows;
     if let Outcome::Refused(refusal) = mend_check(
-        n, m, whole, rows, left, right, weight, mark, records,
+        n,
+        m,
+        whole,
+        rows,
+        left,
+        right,
+        weight,
+        mark,
+        records.len(),
     ) {
-        return refused(refusal);
+        return Err(refusal);
     }
     redraw(n, m, whole, rows, left, right, weight, mark, records)
 }

@@ -11,6 +11,7 @@ use native.Mathlib.Omega.{arith}
 use Rattle.graph_theory.proofs.Reach.{same_truth}
 use Rattle.graph_theory.specs.Graph.{Graph, Sound, Inside}
 use Rattle.graph_theory.specs.Meaning.{Vertex}
+use Rattle.mend_record.specs.declared.Record.{Record}
 use Rattle.mend_theory.proofs.Drawing.{done-length}
 use Rattle.mend_theory.proofs.Groups.{Labels, relabelled, labels-start, labels-put}
 use Rattle.mend_theory.proofs.Rings.{above-put, above_same}
@@ -23,9 +24,9 @@ use Rattle.rowset.specs.Sets.{empty, up_to, both, put, take_out}
 use Rattle.slice.specs.Slices.{size, written}
 use Rattle.star_spec.proofs.Claims.{in_row-byte}
 use Rattle.mend_groups.proofs.Groups.{length-renamed, get_d-renamed, length-labels, get_d-labels, joined_same, joined-two}
-use Rattle.mend_groups.proofs.Listed.{Shows, shows-noted, shows-own}
+use Rattle.mend_groups.proofs.Listed.{begun, Shows, shows-noted, shows-own}
 use Rattle.mend_groups.proofs.Steps.{drop-unmarked, drop-joins, drop-drops, add-unused, add-joined, add-adds}
-use Rattle.mend_groups.specs.Steps.Machine.{State, numbers_of, numbered, noted, renamed, all_renamed, labels_from, apart, drop_at, add_at, visits, two_passes}
+use Rattle.mend_groups.specs.Steps.Machine.{State, noted, renamed, all_renamed, labels_from, apart, drop_at, add_at, visits, two_passes}
 
 eqb_swap : (x y : ℕ) → eqb x y ≡ eqb y x
 eqb_swap x y = same_truth _ _ (λ t. eq-eqb y x (sym (eqb-true x y t))) (λ t. eq-eqb x y (sym (eqb-true y x t)))
@@ -90,7 +91,7 @@ module _ (n m : ℕ) (left right : List ℕ) (U : ℕ → Bool) where
             size = length-renamed l x y ∙ h.size;
           }
 
-    module _ (M : ℕ → Bool) (inside : Inside g M) (l₀ : List ℕ) (room : 9 * m ≤ length l₀) where
+    module _ (M : ℕ → Bool) (inside : Inside g M) (l₀ : List Record) (room : 3 * m ≤ length l₀) where
       -- after the first pass at rows 1 to k
       pub record First (k : ℕ) (s : State) (d : Drawing) : Type 0 where
         pub shows : Shows l₀ s d
@@ -222,7 +223,7 @@ module _ (n m : ℕ) (left right : List ℕ) (U : ℕ → Bool) where
           go i false e = refl
 
       first-start : First 0 start (old M)
-      unfolding old numbered numbers_of
+      unfolding old begun
       first-start =
           record {
             shows = record { marks = refl; count = refl; list = refl };

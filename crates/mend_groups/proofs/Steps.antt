@@ -1,16 +1,15 @@
 -- The steps of the passes by their cases, and how they count.
 -- Assumes nothing.
 use Prim.Native.Nat.{ℕ, ◌+◌, ◌≤◌}
-use borrow.Author.Tests.{ltb-false}
-use lib.Dec.{ltb}
 use mathlib.Core.Bool.{Bool, true, false, cond}
 use mathlib.Core.List.{List}
 use mathlib.Core.Path.{◌≡◌, refl}
 use native.Mathlib.Numerals.{add-one}
 use native.Mathlib.Omega.{arith}
+use Rattle.mend_theory.specs.Mending.{drop, addition}
 use Rattle.rowset.specs.Bytes.{in_row}
-use Rattle.slice.specs.Slices.{size, written}
-use Rattle.mend_groups.specs.Steps.Machine.{State, noted, apart, joined_labels, drop_at, add_at, visits, bounded}
+use Rattle.slice.specs.Slices.{written}
+use Rattle.mend_groups.specs.Steps.Machine.{State, noted, apart, joined_labels, drop_at, add_at, visits}
 
 -- the state with other labels
 abbrev pub with_own : State → List ℕ → State
@@ -32,7 +31,7 @@ module _ (left right : List ℕ) (i : ℕ) (s : State) where
   unfolding drop_at
   drop-joins e t = rw (e, t)
 
-  pub drop-drops : s.marks i ≡ true → apart s.own (in_row 1 left i) (in_row 1 right i) ≡ false → drop_at left right i s ≡ noted s (written s.marks i false) new 1 i 0
+  pub drop-drops : s.marks i ≡ true → apart s.own (in_row 1 left i) (in_row 1 right i) ≡ false → drop_at left right i s ≡ noted s (written s.marks i false) new (drop i)
   unfolding drop_at
   drop-drops e t = rw (e, t)
 
@@ -41,7 +40,7 @@ module _ (left right : List ℕ) (i : ℕ) (s : State) where
   unfolding drop_at noted
   drop-count = go (s.marks i) (apart s.own (in_row 1 left i) (in_row 1 right i))
     where
-      go : (b d : Bool) → (cond b (cond d (with_own s new) (noted s (written s.marks i false) new 1 i 0)) s).count ≤ s.count + 1
+      go : (b d : Bool) → (cond b (cond d (with_own s new) (noted s (written s.marks i false) new (drop i))) s).count ≤ s.count + 1
       go true true = omega arith
       go true false = omega arith
       go false d = omega arith
@@ -55,7 +54,7 @@ module _ (left right : List ℕ) (i : ℕ) (s : State) where
     unfolding add_at
     add-joined e t = rw (e, t)
 
-    pub add-adds : U i ≡ true → apart s.own (in_row 1 left i) (in_row 1 right i) ≡ true → add_at U left right i s ≡ noted s (written s.marks i true) new 2 0 i
+    pub add-adds : U i ≡ true → apart s.own (in_row 1 left i) (in_row 1 right i) ≡ true → add_at U left right i s ≡ noted s (written s.marks i true) new (addition i)
     unfolding add_at
     add-adds e t = rw (e, t)
 
@@ -63,16 +62,7 @@ module _ (left right : List ℕ) (i : ℕ) (s : State) where
     unfolding add_at noted
     add-count = go (U i) (apart s.own (in_row 1 left i) (in_row 1 right i))
       where
-        go : (b d : Bool) → (cond b (cond d (noted s (written s.marks i true) new 2 0 i) (with_own s new)) s).count ≤ s.count + 1
+        go : (b d : Bool) → (cond b (cond d (noted s (written s.marks i true) new (addition i)) (with_own s new)) s).count ≤ s.count + 1
         go true true = omega arith
         go true false = omega arith
         go false d = omega arith
-
--- rows that a slice has
-pub bounded-few : (m : ℕ) → m ≤ size → bounded m ≡ m
-unfolding bounded
-bounded-few m few = go (ltb m size) refl
-  where
-    go : (b : Bool) → ltb m size ≡ b → cond b m size ≡ m
-    go true e = refl
-    go false e = omega (arith, few, ltb-false m size e)

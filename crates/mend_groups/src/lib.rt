@@ -1,26 +1,21 @@
 // Groups of vertices, and the first two passes of mending over them: marks that close a ring are dropped, and rows that join two groups are added.
-// A group is told by a byte a vertex, its label. Each drop and addition is noted as a record, three numbers.
+// A group is told by a byte a vertex, its label. Each drop and addition is noted as a record.
 
 #![tactic(auto)]
 
-ghost use Rattle.std.specs.Prelude.{ℕ, ◌+◌, ◌*◌, ◌^◌, ◌≤◌, ◌<◌, length, set, ◌≡◌};
+ghost use Rattle.std.specs.Prelude.{◌*◌, ◌^◌, ◌≤◌, ◌<◌, min, length, ◌≡◌};
 ghost use Rattle.slice.specs.Slices.{size, component};
-ghost use Rattle.mend_groups.specs.Steps.Machine.{state_of, stored, renamed, all_renamed, labels_from, apart, joined_labels, drop_at, add_at, visits, two_passes, bounded};
+ghost use Rattle.mend_groups.specs.Steps.Machine.{state_of, all_renamed, labels_from, apart, joined_labels, drop_at, add_at, visits, two_passes};
 
-use mend_list::NUMBERS;
+use mend_record::{Kind, Record};
 use slice::{SIZE, Slice};
 use table_checks::row_byte;
 
 // The vertices that can be.
 const VERTICES: usize = 255;
 
-// The numbers of a record.
-const FIELDS: usize = 3;
-
-// The kinds of records.
-const DROP: u32 = 1;
-
-const ADDITION: u32 = 2;
+// The records that three passes over 1,024 rows can make.
+pub const RECORDS: usize = 3072;
 
 // The drawing while it is mended: the rows marked by now, and the number of records.
 #[derive(Clone, Copy)]
@@ -29,57 +24,25 @@ pub struct Drawn {
     pub count: usize,
 }
 
-// The labels of vertices 1 to 255.
-#[derive(Clone, Copy)]
-struct Labels {
-    labels: [u8; VERTICES],
-}
-
-// Writes number i of a list, where it has one.
-fn put(list: &mut [u32], i: usize, x: u32)
-    ensures { list.new ≡ set list.old i x }
-{
-    if i < list.len() {
-        list[i] = x;
-    }
-}
-
-// Notes record k of the numbers, counted from 0, where they have room for it.
-pub fn note(list: &mut [u32], k: usize, kind: u32, out: u32, into: u32)
-    ensures { list.new ≡ stored list.old k kind out into }
-{
-    if k < list.len() {
-        put(list, FIELDS * k, kind);
-        put(list, FIELDS * k + 1, out);
-        put(list, FIELDS * k + 2, into);
-    }
-}
-
-// A label, where label x becomes y.
-fn rename(z: u8, x: u8, y: u8) -> u8
-    ensures { result ≡ renamed z x y }
-{
-    if z == x { y } else { z }
-}
-
 // Label x becomes y at every vertex that has it.
 pub fn rename_all(labels: &mut [u8], x: u8, y: u8)
     ensures { labels.new ≡ all_renamed labels.old x y }
 {
-    for i in 0..labels.len() {
-        labels[i] = rename(labels[i], x, y);
+    for label in labels.iter_mut() {
+        if *label == x {
+            *label = y;
+        }
     }
 }
 
 // Each vertex is a group of its own.
-fn own_labels() -> Labels
-    ensures { result.labels ≡ labels_from 0 255 }
+pub fn own_labels(labels: &mut [u8])
+    requires { length labels.old ≤ 255 }
+    ensures { labels.new ≡ labels_from 0 (length labels.old) }
 {
-    let mut labels = [0u8; VERTICES];
-    for i in 0..VERTICES {
-        labels[i] = (i + 1) as u8;
+    for (i, label) in labels.iter_mut().enumerate() {
+        *label = (i + 1) as u8;
     }
-    Labels { labels: labels }
 }
 
 // Whether vertices a and b are of two groups, which then become one.
@@ -102,10 +65,10 @@ fn drop_at(
     right: &[u8],
     i: usize,
     s: Drawn,
-    list: &mut [u32],
+    list: &mut [Record],
     labels: &mut [u8],
 ) -> Drawn
-    requires { (i < 2 ^ 32) × (3 * s.count + 3 ≤ length list.old) }
+    requires { (i < 2 ^ 32) × (s.count < length list.old) }
     ensures { state_of result list.new labels.new ≡ drop_at left.now right.now i (state_of s list.old labels.old) }
 {
     if !slice::get(s.marks, i) {
@@ -114,11 +77,14 @@ fn drop_at(
     if join(labels, row_byte(left, i), row_byte(right, i)) {
         return s;
     }
-    let count = s.count;
-    note(list, count, DROP, i as u32, 0);
+    list[s.count] = Record {
+        kind: Kind::Drop as u32,
+        out: i as u32,
+        into: 0,
+    };
     Drawn {
         marks: slice::put(s.marks, i, false),
-        count: count + 1,
+        count: s.count + 1,
     }
 }
 
@@ -128,10 +94,10 @@ fn drop_rings(
     left: &[u8],
     right: &[u8],
     marked: Slice,
-    list: &mut [u32],
+    list: &mut [Record],
     labels: &mut [u8],
 ) -> Drawn
-    requires { (m ≤ size) × (3 * m ≤ length list.old) }
+    requires { (m ≤ size) × (m ≤ length list.old) }
     ensures passed { state_of result list.new labels.new ≡ visits (drop_at left.now right.now) m (record { marks = component marked; count = 0; list = list.old; own = labels.old }) }
     ensures few { result.count ≤ m }
 {
@@ -152,10 +118,10 @@ fn add_at(
     right: &[u8],
     i: usize,
     s: Drawn,
-    list: &mut [u32],
+    list: &mut [Record],
     labels: &mut [u8],
 ) -> Drawn
-    requires { (i < 2 ^ 32) × (3 * s.count + 3 ≤ length list.old) }
+    requires { (i < 2 ^ 32) × (s.count < length list.old) }
     ensures { state_of result list.new labels.new ≡ add_at (component used) left.now right.now i (state_of s list.old labels.old) }
 {
     if !slice::get(used, i) {
@@ -164,11 +130,14 @@ fn add_at(
     if !join(labels, row_byte(left, i), row_byte(right, i)) {
         return s;
     }
-    let count = s.count;
-    note(list, count, ADDITION, 0, i as u32);
+    list[s.count] = Record {
+        kind: Kind::Addition as u32,
+        out: 0,
+        into: i as u32,
+    };
     Drawn {
         marks: slice::put(s.marks, i, true),
-        count: count + 1,
+        count: s.count + 1,
     }
 }
 
@@ -179,10 +148,10 @@ fn close_gaps(
     left: &[u8],
     right: &[u8],
     start: Drawn,
-    list: &mut [u32],
+    list: &mut [Record],
     labels: &mut [u8],
 ) -> Drawn
-    requires { (m ≤ size) × (start.count ≤ m) × (6 * m ≤ length list.old) }
+    requires { (m ≤ size) × (start.count ≤ m) × (2 * m ≤ length list.old) }
     ensures passed { state_of result list.new labels.new ≡ visits (add_at (component used) left.now right.now) m (state_of start list.old labels.old) }
     ensures few { result.count ≤ 2 * m }
 {
@@ -200,44 +169,33 @@ fn join_groups(
     left: &[u8],
     right: &[u8],
     marked: Slice,
-    list: &mut [u32],
+    list: &mut [Record],
 ) -> Drawn
-    requires { (m ≤ size) × (6 * m ≤ length list.old) }
+    requires { (m ≤ size) × (2 * m ≤ length list.old) }
     ensures marks { component result.marks ≡ (two_passes m (component used) (component marked) left.now right.now list.old).marks }
     ensures count { result.count ≡ (two_passes m (component used) (component marked) left.now right.now list.old).count }
     ensures list { list.new ≡ (two_passes m (component used) (component marked) left.now right.now list.old).list }
     ensures few { result.count ≤ 2 * m }
 {
-    let own = own_labels();
-    let mut labels = own.labels;
+    let mut labels = [0u8; VERTICES];
+    own_labels(&mut labels);
     let ringless = drop_rings(m, left, right, marked, list, &mut labels);
     close_gaps(m, used, left, right, ringless, list, &mut labels)
 }
 
-// m, or 1,024 where it is more.
-fn row_count(m: usize) -> usize
-    ensures { result ≡ bounded m }
-{
-    if m < SIZE {
-        return m;
-    }
-    SIZE
-}
-
-// The first two passes over rows 1 to m, of at most 1,024, their records noted in numbers that have room for those of three passes.
+// The first two passes over rows 1 to m, of at most 1,024, their records noted in a list that has room for those of three passes.
 pub fn two_passes(
     m: usize,
     used: Slice,
     left: &[u8],
     right: &[u8],
     marked: Slice,
-    list: &mut [u32; NUMBERS],
+    list: &mut [Record; RECORDS],
 ) -> Drawn
-    ensures marks { component result.marks ≡ (two_passes (bounded m) (component used) (component marked) left.now right.now list.old).marks }
-    ensures count { result.count ≡ (two_passes (bounded m) (component used) (component marked) left.now right.now list.old).count }
-    ensures list { list.new ≡ (two_passes (bounded m) (component used) (component marked) left.now right.now list.old).list }
-    ensures few { result.count ≤ 2 * bounded m }
+    ensures marks { component result.marks ≡ (two_passes (min m size) (component used) (component marked) left.now right.now list.old).marks }
+    ensures count { result.count ≡ (two_passes (min m size) (component used) (component marked) left.now right.now list.old).count }
+    ensures list { list.new ≡ (two_passes (min m size) (component used) (component marked) left.now right.now list.old).list }
+    ensures few { result.count ≤ 2 * min m size }
 {
-    let rows = row_count(m);
-    join_groups(rows, used, left, right, marked, list)
+    join_groups(m.min(SIZE), used, left, right, marked, list)
 }

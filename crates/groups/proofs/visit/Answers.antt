@@ -9,4 +9,4 @@ returns-then-x-y c =
 
 pub returns : goal.returns
 returns c =
-    visit-join _ _ _ _ _ c.row_byte-a.ensures c.row_byte-b.ensures c.row_byte-x.ensures c.row_byte-y.ensures c.ring_at-ring.ensures c.if-x-y.false c.larger.ensures c.smaller.ensures c.join.ensures.labels c.join.ensures.own
+    visit-join _ _ _ _ _ c.row_byte-a.ensures c.row_byte-b.ensures c.row_byte-x.ensures c.row_byte-y.ensures c.ring_at-ring.ensures c.if-x-y.false c.max.ensures c.min.ensures c.join.ensures.labels c.join.ensures.own

@@ -1,8 +1,8 @@
--- `groups::visit_rows` meets its contract. The loop's invariant: the state is that after i rows. The measure is what is left of the rows.
+-- `groups::visit_rows` meets its contract. The loop's invariant: the state is that after i rows.
 -- Assumes nothing.
 use Prim.Native.Nat.{ℕ, ◌+◌}
 use mathlib.Core.Bool.{Bool}
-use mathlib.Core.Path.{◌≡◌, refl, sym, ◌∙◌, ap}
+use mathlib.Core.Path.{◌≡◌, sym, ◌∙◌, ap}
 use native.Mathlib.Omega.{arith}
 use Rattle.groups.proofs.Steps.{visits-next}
 use Rattle.groups.specs.Steps.Machine.{row_at, visits}
@@ -13,21 +13,16 @@ pub loop-i-init : goal.loop-i-init
 unfolding visits
 loop-i-init c =
     let a = c.args in
-    (omega arith, ap (λ (p : ℕ → Bool). record { rings = p; labels = a.labels.now; own = a.own.now }) c.empty-rings.ensures, refl, refl)
+    ap (λ (p : ℕ → Bool). record { rings = p; labels = a.labels.now; own = a.own.now }) c.empty-rings.ensures
 
 pub loop-i-preserved : goal.loop-i-preserved
 loop-i-preserved c =
     let l = c.loop-i in
-    let a = c.args in (
-      omega arith,
-      c.visit_marked-rings.ensures ∙ ap (row_at (component a.marked) a.n a.left.now a.right.now (l.i + 1)) l.invariant.1 ∙ sym (visits-next _ _ _),
-      omega arith,
-      omega arith,
-    )
+    let a = c.args in
+    c.visit_marked-rings.ensures ∙ ap (row_at (component a.marked) a.n a.left.now a.right.now (l.i + 1)) l.invariant ∙ sym (visits-next _ _ _)
 
 pub returns : goal.returns
 returns c =
     let l = c.loop-i in
-    let a = c.args in
-    let all : l.i ≡ a.m = omega arith in
-    rw (← all) l.invariant.1
+    let all : l.i ≡ c.args.m = omega arith in
+    rw (← all) l.invariant

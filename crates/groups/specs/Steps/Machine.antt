@@ -1,6 +1,6 @@
 -- Groups and rings as the machine finds them: the rows that close a ring so far, a label for each vertex, and the words of a matrix with a column for each.
 -- Assumes nothing.
-use Rattle.std.specs.Prelude.{ℕ, zero, suc, eqb, ltb, replicate, Bool, true, cond, List}
+use Rattle.std.specs.Prelude.{ℕ, zero, suc, min, max, eqb, replicate, Bool, true, cond, List}
 use Rattle.mend_groups.specs.Steps.Machine.{all_renamed, labels_from}
 use Rattle.path_matrix.specs.Matrix.{matrix_column, with_column}
 use Rattle.rowset.specs.Bytes.{in_row}
@@ -16,13 +16,6 @@ pub record State : Type 0 where
 -- the state that a slice and the lent columns stand for
 abbrev pub state_of : Slice → (labels own : List ℕ) → State
 state_of rings labels own = record { rings = component rings; labels = labels; own = own }
-
--- the larger of two labels, and the smaller
-unfoldable pub larger : ℕ → ℕ → ℕ
-larger x y = cond (ltb x y) y x
-
-unfoldable pub smaller : ℕ → ℕ → ℕ
-smaller x y = cond (ltb x y) x y
 
 -- the ring of row i with ends a and b: the row, and the rows in which their columns differ
 unfoldable pub ring_at : List ℕ → (a b i : ℕ) → ℕ → Bool
@@ -48,7 +41,7 @@ visit_at n left right i s =
     let x = in_row 1 s.labels a in
     let y = in_row 1 s.labels b in
     let ring = ring_at s.own a b i in
-    cond (eqb x y) (record { rings = either s.rings ring; labels = s.labels; own = s.own }) (joined_at n s (larger x y) (smaller x y) ring)
+    cond (eqb x y) (record { rings = either s.rings ring; labels = s.labels; own = s.own }) (joined_at n s (max x y) (min x y) ring)
 
 -- row i is visited where M has it
 unfoldable pub row_at : (ℕ → Bool) → ℕ → (left right : List ℕ) → ℕ → State → State

@@ -18,11 +18,6 @@ slice_bounds-sign_columns-end c = search (rules, length-put _ _ 4 c.put_prices.e
 pub slice_bounds-swap_rows-end : goal.slice_bounds-swap_rows-end
 slice_bounds-swap_rows-end c = search (rules, length-put _ _ 4 c.put_prices.ensures.columns zeros)
 
-pub swap_rows-requires : goal.swap_rows-requires
-swap_rows-requires c =
-    let p = c.requires in
-    (p.0, p.1, omega (arith, p.0, c.swap_rows-arg-1.given.0.1))
-
 pub returns : goal.returns
 returns c =
     let a = c.args in

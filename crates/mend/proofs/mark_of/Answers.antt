@@ -16,7 +16,7 @@ not-in-use : (u s : Bool) (old : ℕ) → u ≡ false → old ≡ cond u (cond s
 not-in-use u s old f = rw f
 
 pub returns-then-get : goal.returns-then-get
-returns-then-get c = in_use _ _ _ _ (sym c.get.ensures ∙ c.if-get.true) c.get-then-get.ensures
+returns-then-get c = c.from.ensures ∙ in_use _ _ _ _ (sym c.get.ensures ∙ c.if-get.true) c.get-then-get.ensures
 
 pub returns : goal.returns
 returns c =

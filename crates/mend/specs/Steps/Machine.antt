@@ -1,8 +1,9 @@
--- The third pass as the machine makes it: a slice of marked rows, a count and the numbers of records, and beside them the words of a path matrix.
+-- The third pass as the machine makes it: a slice of marked rows, a count and the list of records, and beside them the words of a path matrix.
 -- Assumes nothing.
 use Rattle.std.specs.Prelude.{ℕ, eqb, ltb, ℤ, Bool, true, false, cond, List}
 use Rattle.path_exchange.specs.Turned.{columns_turned}
 use Rattle.mend_groups.specs.Steps.Machine.{State, noted}
+use Rattle.mend_theory.specs.Mending.{exchange_of}
 use Rattle.path_matrix.specs.Matrix.{matrix_column}
 use Rattle.rowset.specs.Bytes.{in_row}
 use Rattle.rowset.specs.Searches.{largest}
@@ -25,7 +26,7 @@ out_of f weight path i = cond (ltb (flipped (in_row 4 weight i)) (flipped (in_ro
 -- row e of the path goes out for row i
 unfoldable pub swapped : (n : ℕ) → (path : ℕ → Bool) → (e i : ℕ) → State → State
 swapped n path e i s =
-    noted s (written (written s.marks e false) i true) (columns_turned s.own n e (written path i true)) 3 e i
+    noted s (written (written s.marks e false) i true) (columns_turned s.own n e (written path i true)) (exchange_of e i)
 
 -- the third pass at row i, a row of U that is not marked by now
 unfoldable pub swap_at : (n : ℕ) → (U : ℕ → Bool) → (f : ℕ → ℤ) → (left right weight : List ℕ) → ℕ → State → State

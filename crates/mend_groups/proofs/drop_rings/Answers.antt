@@ -1,4 +1,5 @@
--- `mend_groups::drop_rings` meets its contract. The loop's invariant: the state is that after i rows, and there are at most i records. -- Assumes nothing.
+-- `mend_groups::drop_rings` meets its contract. The loop's invariant: the state is that after i rows, and there are at most i records.
+-- Assumes nothing.
 use Prim.Native.Nat.{◌+◌}
 use mathlib.Core.Path.{◌≡◌, refl, sym, ◌∙◌, ap}
 use native.Mathlib.Omega.{arith}
@@ -8,10 +9,7 @@ use Rattle.mend_groups.proofs.drop_rings.Goals as goal
 
 pub loop-i-init : goal.loop-i-init
 unfolding visits
-loop-i-init c = (omega arith, omega arith, omega arith, omega arith, refl, refl, refl)
-
-pub drop_at-s-requires : goal.drop_at-s-requires
-drop_at-s-requires c = (omega arith, omega arith)
+loop-i-init c = (omega arith, refl)
 
 pub loop-i-preserved : goal.loop-i-preserved
 loop-i-preserved c =
@@ -19,21 +17,13 @@ loop-i-preserved c =
     let a = c.args in
     let step = c.drop_at-s.ensures in
     let count = ap (λ (x : State). x.count) step in
-    let few = drop-count a.left.now a.right.now (l.i + 1) (state_of l.s l.list l.labels) in (
-      omega arith,
-      l.invariant.1,
-      omega arith,
-      omega (arith, count, few),
-      step ∙ ap (drop_at a.left.now a.right.now (l.i + 1)) l.invariant.4 ∙ sym (visits-next _ _ _),
-      omega arith,
-      omega arith,
-    )
+    let few = drop-count a.left.now a.right.now (l.i + 1) (state_of l.s l.list l.labels) in
+    (omega (arith, count, few), step ∙ ap (drop_at a.left.now a.right.now (l.i + 1)) l.invariant.1 ∙ sym (visits-next _ _ _))
 
 pub returns : goal.returns
 returns c =
     let l = c.loop-i in
-    let a = c.args in
-    let all : l.i ≡ a.m = omega arith in record {
-      passed = rw (← all) l.invariant.4;
+    let all : l.i ≡ c.args.m = omega arith in record {
+      passed = rw (← all) l.invariant.1;
       few = omega arith;
     }

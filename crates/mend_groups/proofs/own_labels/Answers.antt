@@ -1,5 +1,5 @@
--- `mend_groups::own_labels` meets its contract. The loop's invariant: the first i labels are 1 to i. -- Assumes nothing.
-use borrow.Author.Rules.{rules}
+-- `mend_groups::own_labels` meets its contract. The loop's invariant: the first i labels are 1 to i.
+-- Assumes nothing.
 use mathlib.Core.Path.{refl}
 use native.Mathlib.Omega.{arith}
 use Rattle.slice.proofs.Stores.{filled_none, filled_more, filled-all}
@@ -7,10 +7,10 @@ use Rattle.mend_groups.proofs.Groups.{labels-whole}
 use Rattle.mend_groups.proofs.own_labels.Goals as goal
 
 pub loop-i-init : goal.loop-i-init
-loop-i-init c = filled_none (search rules)
+loop-i-init c = filled_none refl
 
 pub loop-i-preserved : goal.loop-i-preserved
 loop-i-preserved c = filled_more c.loop-i.invariant (omega arith) refl
 
 pub returns : goal.returns
-returns c = labels-whole 255 _ c.loop-i.invariant.full (filled-all c.loop-i.invariant (omega arith))
+returns c = labels-whole _ _ c.loop-i.invariant.full (filled-all c.loop-i.invariant (omega arith))

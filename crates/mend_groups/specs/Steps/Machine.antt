@@ -1,39 +1,26 @@
--- The first two passes as the machine makes them: a slice of marked rows, a count and the numbers of records, and beside them the labels of the vertices' groups; the third pass has the words of a path matrix there.
+-- The first two passes as the machine makes them: a slice of marked rows, a count and the list of records, and beside them the labels of the vertices' groups; the third pass has the words of a path matrix there.
 -- Assumes nothing.
-use Rattle.std.specs.Prelude.{ℕ, zero, suc, ◌+◌, ◌*◌, eqb, ltb, length, set, drop, Bool, true, false, not, cond, List, [], ◌∷◌, ◌++◌}
+use Rattle.std.specs.Prelude.{ℕ, zero, suc, ◌+◌, ◌*◌, eqb, length, set, Bool, true, false, not, cond, List, [], ◌∷◌}
 use Rattle.mend_record.specs.declared.Record.{Record}
+use Rattle.mend_theory.specs.Mending.{drop, addition}
 use Rattle.rowset.specs.Bytes.{in_row}
 use Rattle.slice.specs.Slices.{size, component, written}
 use Rattle.mend_groups.specs.declared.Drawn.{Drawn}
 
--- the rows marked by now, the number of records, the numbers of the list, and the labels or the words
+-- the rows marked by now, the number of records, the list of them, and the labels or the words
 pub record State : Type 0 where
   pub marks : ℕ → Bool
   pub count : ℕ
-  pub list : List ℕ
+  pub list : List Record
   pub own : List ℕ
 
 -- the state that the machine's slice, count and lent columns stand for
-abbrev pub state_of : Drawn → (list own : List ℕ) → State
+abbrev pub state_of : Drawn → List Record → (own : List ℕ) → State
 state_of s list own = record { marks = component s.marks; count = s.count; list = list; own = own }
 
--- records as numbers, three a record
-unfoldable pub numbers_of : List Record → List ℕ
-numbers_of [] = []
-numbers_of (r ∷ rs) = r.kind ∷ r.out ∷ r.into ∷ numbers_of rs
-
--- the numbers with these records from their top on
-unfoldable pub numbered : List Record → List ℕ → List ℕ
-numbered rs l = numbers_of rs ++ drop (3 * length rs) l
-
--- record k of the numbers, counted from 0, written
-unfoldable pub stored : List ℕ → (k kind out into : ℕ) → List ℕ
-stored l k kind out into = set (set (set l (3 * k) kind) (3 * k + 1) out) (3 * k + 2) into
-
 -- the state with other marks and labels or words, and one record more
-unfoldable pub noted : State → (marks : ℕ → Bool) → (own : List ℕ) → (kind out into : ℕ) → State
-noted s marks own kind out into =
-    record { marks = marks; count = s.count + 1; list = stored s.list s.count kind out into; own = own }
+unfoldable pub noted : State → (marks : ℕ → Bool) → (own : List ℕ) → Record → State
+noted s marks own r = record { marks = marks; count = s.count + 1; list = set s.list s.count r; own = own }
 
 -- a label, where label x becomes y
 unfoldable pub renamed : (z x y : ℕ) → ℕ
@@ -61,7 +48,7 @@ drop_at left right i s =
     let a = in_row 1 left i in
     let b = in_row 1 right i in
     let own = joined_labels s.own a b in
-    cond (s.marks i) (cond (apart s.own a b) (record { marks = s.marks; count = s.count; list = s.list; own = own }) (noted s (written s.marks i false) own 1 i 0)) s
+    cond (s.marks i) (cond (apart s.own a b) (record { marks = s.marks; count = s.count; list = s.list; own = own }) (noted s (written s.marks i false) own (drop i))) s
 
 -- the second pass at row i: a row of U that joins two groups is added
 unfoldable pub add_at : (U : ℕ → Bool) → (left right : List ℕ) → ℕ → State → State
@@ -69,7 +56,7 @@ add_at U left right i s =
     let a = in_row 1 left i in
     let b = in_row 1 right i in
     let own = joined_labels s.own a b in
-    cond (U i) (cond (apart s.own a b) (noted s (written s.marks i true) own 2 0 i) (record { marks = s.marks; count = s.count; list = s.list; own = own })) s
+    cond (U i) (cond (apart s.own a b) (noted s (written s.marks i true) own (addition i)) (record { marks = s.marks; count = s.count; list = s.list; own = own })) s
 
 -- what is done at the positions 1 to k, one after the other
 unfoldable pub visits : (ℕ → State → State) → ℕ → State → State
@@ -77,11 +64,7 @@ visits visit zero s = s
 visits visit (suc k) s = visit (suc k) (visits visit k s)
 
 -- the first two passes over the rows of U, of which those of M are marked: from no record and each vertex a group of its own
-unfoldable pub two_passes : (m : ℕ) → (U M : ℕ → Bool) → (left right list : List ℕ) → State
+unfoldable pub two_passes : (m : ℕ) → (U M : ℕ → Bool) → (left right : List ℕ) → List Record → State
 two_passes m U M left right list =
     visits (add_at U left right) m
     (visits (drop_at left right) m (record { marks = M; count = 0; list = list; own = labels_from 0 255 }))
-
--- as many rows as a slice has, where m is more
-unfoldable pub bounded : ℕ → ℕ
-bounded m = cond (ltb m size) m size

@@ -9,13 +9,13 @@ use Rattle.rowset.proofs.Signed.{natural-bits}
 use Rattle.star_spec.specs.Door.{Fields, fields}
 use Rattle.mend_door.proofs.mend_door.of_mended.Goals as goal
 
-pub returns-in-Records : goal.returns-in-Records
+pub returns-in-Ok : goal.returns-in-Ok
 unfolding fields_of mend_fields answer_of
-returns-in-Records c =
-    let count = c.in-Records.count in
+returns-in-Ok c =
+    let count = c.in-Ok.count in
     let written : ℤ → Fields = λ a. record { kind = 1; number = 0; out = 0; into = 0; only = 0; amount = a } in
-    rw c.in-Records.is (ap written (natural-bits 63 count (omega arith)))
+    rw (c.in-Ok.is, c.from.ensures) (ap written (natural-bits 63 count (omega arith)))
 
-pub returns-in-Refused : goal.returns-in-Refused
+pub returns-in-Err : goal.returns-in-Err
 unfolding mend_fields answer_of fields
-returns-in-Refused c = rw c.in-Refused.is c.of_refusal.ensures
+returns-in-Err c = rw c.in-Err.is c.of_refusal.ensures

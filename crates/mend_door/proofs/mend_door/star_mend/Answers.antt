@@ -1,9 +1,12 @@
--- `mend_door::mend_door::star_mend` meets its contract: what `mend_answer` and `write_records` promise, one after the other, and what that means. Assumes nothing.
-use mathlib.Core.Path.{refl, ◌∙◌}
+-- `mend_door::mend_door::star_mend` meets its contract: what `mend_table` promises, and what that means. Assumes nothing.
 use Rattle.mend_meaning.proofs.Bytes.{mend-call}
 use Rattle.mend_door.proofs.mend_door.star_mend.Goals as goal
 
-pub returns-clause-means : goal.returns-clause-means
-returns-clause-means c =
-    let e = c.mend_answer-m.ensures in
-    mend-call e.0 (e.1, e.2, c.write_records.ensures ∙ e.3 c.args.records.now refl)
+pub returns : goal.returns
+returns c =
+    let table = c.plain-table.ensures in
+    let told = rw (table.rows.0, table.rows.1, table.used) at c.mend_table.ensures in record {
+      returned = told.0;
+      written = (told.1, told.2, told.3);
+      means = mend-call told.0 (told.1, told.2, told.3);
+    }
