@@ -5,7 +5,7 @@ use lib.ListN.{length}
 use lib.Seq.{ext_get_or}
 use mathlib.Core.Bool.{Bool, true, false, not, ◌||◌, and-eq-true_iff}
 use mathlib.Core.List.{List, [], ◌∷◌, ◌++◌}
-use mathlib.Core.Option.{none, some}
+use mathlib.Core.Option.{Option, none, some}
 use mathlib.Core.Path.{◌≡◌, refl, sym, ◌∙◌, ap}
 use native.Mathlib.Omega.{arith}
 use Rattle.claim.proofs.Laws.{claim_rows-marked}
@@ -20,8 +20,7 @@ use Rattle.groups_spec.specs.Means.{Taken}
 use Rattle.groups_theory.proofs.Held.{count-ext}
 use Rattle.groups_theory.specs.Groups.{group_of, group_count, closes_ring}
 use Rattle.refusal.specs.Outcomes.{refusal_of}
-use Rattle.refusal.specs.declared.Outcome.{Outcome}
-use Rattle.refusal.specs.declared.Outcome.TheVariants.{Done, Refused}
+use Rattle.std.specs.Prelude.{Result, Ok, Err, ⊤}
 use Rattle.refusal.specs.declared.Refusal.{Refusal}
 use Rattle.rowset.proofs.Laws.{refuted, sum-cut, count-bound}
 use Rattle.rowset.proofs.Members.{both-in}
@@ -44,28 +43,36 @@ two-tests true y = refl
 two-tests false true = refl
 two-tests false false = refl
 
+-- the second and the third of four answers taken together
+or_else-inner : (a b d e : Option Refusal) → or_else a (or_else b (or_else d e)) ≡ or_else (or_else a (or_else b d)) e
+unfolding or_else
+or_else-inner (some r) b d e = refl
+or_else-inner none (some r) d e = refl
+or_else-inner none none d e = refl
+
 -- how many rows a slice can have
 pub small_count : (k : ℕ) (p : ℕ → Bool) → k ≡ count size p → k < 4294967296
 small_count k p e = omega (arith, count-bound size p)
 
 module _ (c : Call) (G Z : List ℕ) where
   -- the checks one after the other
-  pub lent-in-order : or_else (or_else (refusal (bad_vertices c.n ∷ too_many_rows (rows_of c) ∷ [])) (or_else (cause (not (eqb (length G) c.n)) 3 0) (cause (not (eqb (length Z) (rows_of c))) 3 0))) (refusal (table_causes c ++ (bad_claim c ∷ []))) ≡ refusal (groups_causes c G Z)
+  pub lent-in-order : or_else (refusal (bad_vertices c.n ∷ too_many_rows (rows_of c) ∷ [])) (or_else (cause (not (eqb (length G) c.n)) 3 0) (or_else (cause (not (eqb (length Z) (rows_of c))) 3 0) (refusal (table_causes c ++ (bad_claim c ∷ []))))) ≡ refusal (groups_causes c G Z)
   unfolding bad_columns
   lent-in-order =
-      ap (λ x. or_else (or_else (refusal (bad_vertices c.n ∷ too_many_rows (rows_of c) ∷ [])) x) (refusal (table_causes c ++ (bad_claim c ∷ []))))
+      or_else-inner _ _ _ _
+      ∙ ap (λ x. or_else (or_else (refusal (bad_vertices c.n ∷ too_many_rows (rows_of c) ∷ [])) x) (refusal (table_causes c ++ (bad_claim c ∷ []))))
       (two-tests (not (eqb (length G) c.n)) (not (eqb (length Z) (rows_of c))))
       ∙ checks-in-order c G Z
 
   -- a call that the checks refuse leaves both columns
-  pub call-refused : {o : Outcome} {r : Refusal} → refusal_of o ≡ refusal (groups_causes c G Z) → o ≡ Refused r → Ends c G Z (ungrouped r) G Z
+  pub call-refused : {o : Result ⊤ Refusal} {r : Refusal} → refusal_of o ≡ refusal (groups_causes c G Z) → o ≡ Err r → Ends c G Z (ungrouped r) G Z
   unfolding refusal_of groups_answer answer_or groups_after rings_after column_or
   call-refused {r = r} e q =
       let h : refusal (groups_causes c G Z) ≡ some r = sym e ∙ ap refusal_of q in
       (rw h, rw h, rw h)
 
   -- a call that they accept
-  module _ {o : Outcome} (checked : refusal_of o ≡ refusal (groups_causes c G Z)) (done : o ≡ Done) where
+  module _ {o : Result ⊤ Refusal} (checked : refusal_of o ≡ refusal (groups_causes c G Z)) (done : o ≡ Ok tt) where
     no-cause : refusal (groups_causes c G Z) ≡ none
     unfolding refusal_of
     no-cause = sym checked ∙ ap refusal_of done

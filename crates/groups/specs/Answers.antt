@@ -1,9 +1,10 @@
 -- What the answer says, by its cases.
 -- Assumes nothing.
-use Rattle.groups.specs.declared.Grouped.{Grouped}
-use Rattle.groups.specs.declared.Grouped.TheVariants.{Told, Refused}
+use Rattle.std.specs.Prelude.{Result, Ok, Err}
+use Rattle.groups.specs.declared.Counts.{Counts}
 use Rattle.groups_spec.specs.Groups.{GroupsAnswer, ungrouped, grouped}
+use Rattle.refusal.specs.declared.Refusal.{Refusal}
 
-unfoldable pub answer_of : Grouped → GroupsAnswer
-answer_of (Told x) = grouped x.groups x.rings
-answer_of (Refused r) = ungrouped r
+unfoldable pub answer_of : Result Counts Refusal → GroupsAnswer
+answer_of (Ok x) = grouped x.groups x.rings
+answer_of (Err r) = ungrouped r

@@ -19,9 +19,9 @@ ghost use Rattle.groups.specs.Steps.Machine.{state_of, ring_at, column_turned, c
 
 use in_use::InUse;
 use mend_groups::{own_labels, rename_all};
-use refusal::{Outcome, Refusal};
+use refusal::{Cause, Refusal};
 use slice::Slice;
-use table_checks::row_byte;
+use table_checks::{claim_check, refused_if, row_byte, size_check};
 
 // The words of a path matrix with as many columns as there can be vertices.
 const ALL_WORDS: usize = 4080;
@@ -31,13 +31,6 @@ const ALL_WORDS: usize = 4080;
 pub struct Counts {
     pub groups: u32,
     pub rings: u32,
-}
-
-// The answer.
-#[derive(Clone, Copy)]
-pub enum Grouped {
-    Told(Counts),
-    Refused(Refusal),
 }
 
 // The ring of row i with ends a and b: the row, and the rows in which the columns of its ends differ.
@@ -181,18 +174,14 @@ fn call_check(
     mark: &[u8],
     groups: &[u8],
     rings: &[u8],
-) -> Outcome
+) -> Result<(), Refusal>
     ensures { let c = table_of n m whole (component rows) left.now right.now weight.now mark.now in
         refusal_of result ≡ refusal (groups_causes c groups.now rings.now) }
 {
-    let sizes = table_checks::size_check(n, m);
-    let lent = table_checks::first(
-        table_checks::refused_if(groups.len() != n as usize, 3),
-        table_checks::refused_if(rings.len() != m, 3),
-    );
-    let columns = table_checks::first(sizes, lent);
-    let claim = table_checks::claim_check(n, m, whole, rows, left, right, weight, mark);
-    table_checks::first(columns, claim)
+    size_check(n, m)?;
+    refused_if(groups.len() != n as usize, Cause::BadLengths as u32)?;
+    refused_if(rings.len() != m, Cause::BadLengths as u32)?;
+    claim_check(n, m, whole, rows, left, right, weight, mark)
 }
 
 // Groups and rings over a table of either kind: the refusal, and both lent columns stay as they were;
@@ -206,7 +195,7 @@ pub fn groups(
     mark: &[u8],
     groups: &mut [u8],
     rings: &mut [u8],
-) -> Grouped
+) -> Result<Counts, Refusal>
     ensures { let c = table_in n table left.now right.now weight.now mark.now in
         (answer_of result ≡ groups_answer c groups.old rings.old)
         × (groups.new ≡ groups_after c groups.old rings.old)
@@ -214,7 +203,7 @@ pub fn groups(
 {
     let m = table.m;
     let rows = table.rows;
-    if let Outcome::Refused(refusal) = call_check(
+    call_check(
         n,
         m,
         table.whole,
@@ -225,13 +214,11 @@ pub fn groups(
         mark,
         groups,
         rings,
-    ) {
-        return Grouped::Refused(refusal);
-    }
+    )?;
     let marked = claim::claim_rows(mark, slice::rows::rows_among(m, rows));
     let found = find(n as usize, m, left, right, marked, groups);
     claim::write_claim(rings, found);
-    Grouped::Told(Counts {
+    Ok(Counts {
         groups: count_own(groups, n as usize),
         rings: slice_words::count_rows(found) as u32,
     })

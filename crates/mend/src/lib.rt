@@ -27,7 +27,7 @@ use in_use::InUse;
 use mend_groups::{Drawn, RECORDS};
 use mend_list::write_records;
 use mend_record::{Kind, Record};
-use refusal::{Outcome, Refusal};
+use refusal::{Cause, Refusal};
 use slice::rows::rows_among;
 use slice::{SIZE, Slice};
 use table_checks::row_byte;
@@ -37,12 +37,6 @@ const NO_RECORD: Record = Record {
     kind: 0,
     out: 0,
     into: 0,
-};
-
-// Refused 11: no spanning tree exists.
-const NO_TREE: Refusal = Refusal {
-    number: 11,
-    place: 0,
 };
 
 // The rows on the tree path between row i's ends, from the path matrix.
@@ -196,7 +190,7 @@ fn tree_paths(
     weight: &[u8],
     marks: Slice,
     own: &mut [u64],
-) -> Outcome
+) -> Result<(), Refusal>
     requires { m ≤ size }
     ensures { let c = table_of n m whole (component rows) left.now right.now weight.now (claim_of m (component marks)) in
         (refusal_of result ≡ matrix_path c 1 own.old) × (own.new ≡ matrix_after c 1 own.old) }
@@ -237,12 +231,12 @@ fn mend_check(
     weight: &[u8],
     mark: &[u8],
     records: usize,
-) -> Outcome
+) -> Result<(), Refusal>
     ensures { let c = table_of n m whole (component rows) left.now right.now weight.now mark.now in
         refusal_of result ≡ or_else (refusal (claim_causes c)) (few_records m records) }
 {
-    let claim = table_checks::claim_check(n, m, whole, rows, left, right, weight, mark);
-    table_checks::first(claim, table_checks::refused_if(records / 2 < m, 16))
+    table_checks::claim_check(n, m, whole, rows, left, right, weight, mark)?;
+    table_checks::refused_if(records / 2 < m, Cause::ShortRecords as u32)
 }
 
 // The three passes over a call that nothing but cause 11 can refuse: the claim and the lent list are written once a tree is known to exist.
@@ -267,8 +261,8 @@ fn redraw(
     let tree = mend_groups::two_passes(m, used, left, right, marked, &mut list);
     let mut own = [0u64; path::ALL_WORDS];
     let walked = tree_paths(n, m, whole, rows, left, right, weight, tree.marks, &mut own);
-    let Outcome::Done = walked else {
-        return Err(NO_TREE);
+    let Ok(()) = walked else {
+        return Err(Refusal::of(Cause::NoNetwork as u32));
     };
     let least = exchange_rows(
         n as usize, m, used, left, right, weight, tree, &mut list, &mut own,
@@ -294,18 +288,7 @@ pub fn mend(
     let m = table.m;
     let whole = table.whole;
     let rows = table.rows;
-    if let Outcome::Refused(refusal) = mend_check(
-        n,
-        m,
-        whole,
-        rows,
-        left,
-        right,
-        weight,
-        mark,
-        records.len(),
-    ) {
-        return Err(refusal);
-    }
+    let room = records.len();
+    mend_check(n, m, whole, rows, left, right, weight, mark, room)?;
     redraw(n, m, whole, rows, left, right, weight, mark, records)
 }

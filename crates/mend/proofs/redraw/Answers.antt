@@ -28,7 +28,7 @@ exchange_rows-least-requires c =
     let few = few-rows _ _ c.requires in
     let all : min c.args.m 1024 ≡ c.args.m = omega (arith, few) in
     let two = rw all at c.two_passes-tree.ensures in
-    let done = ap refusal_of (sym c.in-Done.is) ∙ c.tree_paths-walked.ensures.0 in
+    let done = ap refusal_of (sym c.in-Ok.is) ∙ c.tree_paths-walked.ensures.0 in
     let loaded = loads _ _ c.requires _ _ c.rows_among-used.ensures c.claim_rows-marked.ensures _ refl _ two.marks _ refl _ done c.tree_paths-walked.ensures.1 in
     (few, two.few, loaded)
 
@@ -53,6 +53,6 @@ returns c =
     let few = few-rows _ _ c.requires in
     let all : min c.args.m 1024 ≡ c.args.m = omega (arith, few) in
     let two = rw all at c.two_passes-tree.ensures in
-    let done = ap refusal_of (sym c.in-Done.is) ∙ c.tree_paths-walked.ensures.0 in
+    let done = ap refusal_of (sym c.in-Ok.is) ∙ c.tree_paths-walked.ensures.0 in
     let (answer, marks, list) = mended _ _ c.requires _ _ c.rows_among-used.ensures c.claim_rows-marked.ensures _ refl _ two.marks _ refl _ done c.tree_paths-walked.ensures.1 _ _ two.count two.list _ c.exchange_rows-least.ensures.passed in
     (answer, c.write_marks.ensures ∙ marks, c.write_records.ensures ∙ list _ refl)
