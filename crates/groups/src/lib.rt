@@ -12,7 +12,6 @@ ghost use Rattle.refusal.specs.Outcomes.{refusal_of};
 ghost use Rattle.rowset.specs.Bytes.{in_row};
 ghost use Rattle.rowset.specs.Sets.{empty, count};
 ghost use Rattle.slice.specs.Slices.{component};
-ghost use Rattle.star_spec.specs.Call.{table_of};
 ghost use Rattle.star_spec.specs.Refusals.{refusal};
 ghost use Rattle.groups.specs.Answers.{answer_of};
 ghost use Rattle.groups.specs.Steps.Machine.{state_of, ring_at, column_turned, columns_turned, visit_at, row_at, visits, all_visited};
@@ -165,9 +164,7 @@ fn count_own(labels: &[u8], n: usize) -> u32
 // Causes 1 to 4, 15 and 6; 3 looks at both lent columns.
 fn call_check(
     n: u32,
-    m: usize,
-    whole: bool,
-    rows: Slice,
+    table: InUse,
     left: &[u8],
     right: &[u8],
     weight: &[u8],
@@ -175,13 +172,14 @@ fn call_check(
     groups: &[u8],
     rings: &[u8],
 ) -> Result<(), Refusal>
-    ensures { let c = table_of n m whole (component rows) left.now right.now weight.now mark.now in
+    ensures { let c = table_in n table left.now right.now weight.now mark.now in
         refusal_of result ≡ refusal (groups_causes c groups.now rings.now) }
 {
+    let m = table.m;
     size_check(n, m)?;
     refused_if(groups.len() != n as usize, Cause::BadLengths as u32)?;
     refused_if(rings.len() != m, Cause::BadLengths as u32)?;
-    claim_check(n, m, whole, rows, left, right, weight, mark)
+    claim_check(n, m, table.whole, table.rows, left, right, weight, mark)
 }
 
 // Groups and rings over a table of either kind: the refusal, and both lent columns stay as they were;
@@ -201,21 +199,9 @@ pub fn groups(
         × (groups.new ≡ groups_after c groups.old rings.old)
         × (rings.new ≡ rings_after c groups.old rings.old) }
 {
+    call_check(n, table, left, right, weight, mark, groups, rings)?;
     let m = table.m;
-    let rows = table.rows;
-    call_check(
-        n,
-        m,
-        table.whole,
-        rows,
-        left,
-        right,
-        weight,
-        mark,
-        groups,
-        rings,
-    )?;
-    let marked = claim::claim_rows(mark, slice::rows::rows_among(m, rows));
+    let marked = claim::claim_rows(mark, slice::rows::rows_among(m, table.rows));
     let found = find(n as usize, m, left, right, marked, groups);
     claim::write_claim(rings, found);
     Ok(Counts {

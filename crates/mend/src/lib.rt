@@ -13,11 +13,11 @@ ghost use Rattle.rowset.specs.Integers.{integer_in, signed};
 ghost use Rattle.rowset.specs.Sets.{up_to, both};
 ghost use Rattle.slice.specs.Slices.{size, component};
 ghost use Rattle.in_use.specs.Tables.{table_in};
-ghost use Rattle.star_spec.specs.Call.{Call, table_of, claim_of};
+ghost use Rattle.star_spec.specs.Call.{claim_of};
 ghost use Rattle.star_spec.specs.MatrixPath.{matrix_path, matrix_after};
 ghost use Rattle.star_spec.specs.Refusals.{or_else, refusal};
 ghost use Rattle.table.specs.Loads.{loaded_row};
-ghost use Rattle.mend_spec.specs.Mend.{claim_causes, few_records, redrawn, unmended, mend, mend_marks, mend_list};
+ghost use Rattle.mend_spec.specs.Mend.{claim_causes, few_records, redrawn, mend, mend_marks, mend_list};
 ghost use Rattle.mend.specs.Answers.{answer_of};
 ghost use Rattle.mend_groups.specs.Steps.Machine.{state_of, visits};
 ghost use Rattle.mend.specs.Steps.Machine.{path_of, out_of, swapped, swap_at};
@@ -182,23 +182,20 @@ fn exchange_rows(
 // MatrixPath from vertex 1 of the claim that marks these rows.
 fn tree_paths(
     n: u32,
-    m: usize,
-    whole: bool,
-    rows: Slice,
+    table: InUse,
     left: &[u8],
     right: &[u8],
     weight: &[u8],
     marks: Slice,
     own: &mut [u64],
 ) -> Result<(), Refusal>
-    requires { m ≤ size }
-    ensures { let c = table_of n m whole (component rows) left.now right.now weight.now (claim_of m (component marks)) in
+    requires { table.m ≤ size }
+    ensures { let c = table_in n table left.now right.now weight.now (claim_of table.m (component marks)) in
         (refusal_of result ≡ matrix_path c 1 own.old) × (own.new ≡ matrix_after c 1 own.old) }
 {
     let mut plan = [0u8; SIZE];
     claim::write_claim(&mut plan, marks);
-    let table = InUse { m, whole, rows };
-    path::matrix_path(n, table, left, right, weight, &plan[..m], 1, own)
+    path::matrix_path(n, table, left, right, weight, &plan[..table.m], 1, own)
 }
 
 // The byte of row i in the mended claim: as it was where the row is not in use.
@@ -223,49 +220,55 @@ fn write_marks(mark: &mut [u8], used: Slice, marks: Slice)
 // Causes 1 to 4, 15 and 6, and 16 where a list of so many records has fewer than two a row.
 fn mend_check(
     n: u32,
-    m: usize,
-    whole: bool,
-    rows: Slice,
+    table: InUse,
     left: &[u8],
     right: &[u8],
     weight: &[u8],
     mark: &[u8],
     records: usize,
 ) -> Result<(), Refusal>
-    ensures { let c = table_of n m whole (component rows) left.now right.now weight.now mark.now in
-        refusal_of result ≡ or_else (refusal (claim_causes c)) (few_records m records) }
+    ensures { let c = table_in n table left.now right.now weight.now mark.now in
+        refusal_of result ≡ or_else (refusal (claim_causes c)) (few_records table.m records) }
 {
-    table_checks::claim_check(n, m, whole, rows, left, right, weight, mark)?;
-    table_checks::refused_if(records / 2 < m, Cause::ShortRecords as u32)
+    table_checks::claim_check(
+        n,
+        table.m,
+        table.whole,
+        table.rows,
+        left,
+        right,
+        weight,
+        mark,
+    )?;
+    table_checks::refused_if(records / 2 < table.m, Cause::ShortRecords as u32)
 }
 
 // The three passes over a call that nothing but cause 11 can refuse: the claim and the lent list are written once a tree is known to exist.
 fn redraw(
     n: u32,
-    m: usize,
-    whole: bool,
-    rows: Slice,
+    table: InUse,
     left: &[u8],
     right: &[u8],
     weight: &[u8],
     mark: &mut [u8],
     records: &mut [Record],
 ) -> Result<u32, Refusal>
-    requires { or_else (refusal (claim_causes (table_of n m whole (component rows) left.now right.now weight.now mark.old))) (few_records m (length records.old)) ≡ none }
-    ensures { let c = table_of n m whole (component rows) left.now right.now weight.now mark.old in
+    requires { or_else (refusal (claim_causes (table_in n table left.now right.now weight.now mark.old))) (few_records table.m (length records.old)) ≡ none }
+    ensures { let c = table_in n table left.now right.now weight.now mark.old in
         (answer_of result ≡ mend c (length records.old)) × (mark.new ≡ mend_marks c (length records.old)) × (records.new ≡ mend_list c records.old) }
 {
-    let used = rows_among(m, rows);
+    let m = table.m;
+    let used = rows_among(m, table.rows);
     let marked = claim::claim_rows(mark, used);
     let mut list = [NO_RECORD; RECORDS];
-    let tree = mend_groups::two_passes(m, used, left, right, marked, &mut list);
+    let joined = mend_groups::two_passes(m, used, left, right, marked, &mut list);
     let mut own = [0u64; path::ALL_WORDS];
-    let walked = tree_paths(n, m, whole, rows, left, right, weight, tree.marks, &mut own);
+    let walked = tree_paths(n, table, left, right, weight, joined.marks, &mut own);
     let Ok(()) = walked else {
         return Err(Refusal::of(Cause::NoNetwork as u32));
     };
     let least = exchange_rows(
-        n as usize, m, used, left, right, weight, tree, &mut list, &mut own,
+        n as usize, m, used, left, right, weight, joined, &mut list, &mut own,
     );
     write_marks(mark, used, least.marks);
     write_records(records, &list[..least.count]);
@@ -285,10 +288,6 @@ pub fn mend(
     ensures { let c = table_in n table left.now right.now weight.now mark.old in
         (answer_of result ≡ mend c (length records.old)) × (mark.new ≡ mend_marks c (length records.old)) × (records.new ≡ mend_list c records.old) }
 {
-    let m = table.m;
-    let whole = table.whole;
-    let rows = table.rows;
-    let room = records.len();
-    mend_check(n, m, whole, rows, left, right, weight, mark, room)?;
-    redraw(n, m, whole, rows, left, right, weight, mark, records)
+    mend_check(n, table, left, right, weight, mark, records.len())?;
+    redraw(n, table, left, right, weight, mark, records)
 }

@@ -91,6 +91,6 @@ pub extern "C" fn star_work_mend(
     ensures means { let c = work_of n words.now left.now right.now weight.now mark.old in
         MendCall c records.old answer.old answer.new mark.new records.new result }
 {
-    let table = InUse::working(words);
-    mend_table(n, table, left, right, weight, mark, records, answer)
+    let used = InUse::working(words);
+    mend_table(n, used, left, right, weight, mark, records, answer)
 }

@@ -13,8 +13,7 @@ overflow_add-total c = omega (arith, bool_small c.has_own.result, c.from-total.e
 
 pub loop-v-preserved : goal.loop-v-preserved
 loop-v-preserved c =
-    let l = c.loop-v in
-    (
+    let l = c.loop-v in (
       omega (arith, bool_small c.has_own.result, c.from-total.ensures),
       rw c.from-total.ensures (count-more _ _ _ c.has_own.result l.invariant.1 c.has_own.ensures),
     )

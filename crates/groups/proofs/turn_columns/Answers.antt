@@ -18,8 +18,8 @@ loop-v-preserved c =
     let l = c.loop-v in
     let a = c.args in
     c.turn_column.ensures
-        ∙ ap (λ (m : List ℕ). column_turned a.labels.now m (l.v + 1) a.x (component a.ring)) l.invariant
-        ∙ sym (turned-next a.labels.now a.own.now l.v a.x (component a.ring))
+    ∙ ap (λ (m : List ℕ). column_turned a.labels.now m (l.v + 1) a.x (component a.ring)) l.invariant
+    ∙ sym (turned-next a.labels.now a.own.now l.v a.x (component a.ring))
 
 pub returns : goal.returns
 returns c =

@@ -9,13 +9,13 @@ use Rattle.rowset.proofs.Signed.{natural-bits}
 use Rattle.star_spec.specs.Door.{Fields}
 use Rattle.groups_door.proofs.of_groups.Goals as goal
 
-pub returns-in-Told : goal.returns-in-Told
+pub returns-in-Ok : goal.returns-in-Ok
 unfolding fields_of groups_fields answer_of
-returns-in-Told c =
-    let counts = c.in-Told.counts in
+returns-in-Ok c =
+    let counts = c.in-Ok.counts in
     let written : ℤ → Fields = λ a. record { kind = 1; number = 0; out = 0; into = counts.rings; only = 0; amount = a } in
-    rw c.in-Told.is (ap written (natural-bits 63 counts.groups (omega arith)))
+    rw (c.in-Ok.is, c.from.ensures) (ap written (natural-bits 63 counts.groups (omega arith)))
 
-pub returns-in-Refused : goal.returns-in-Refused
+pub returns-in-Err : goal.returns-in-Err
 unfolding groups_fields answer_of
-returns-in-Refused c = rw c.in-Refused.is c.of_refusal.ensures
+returns-in-Err c = rw c.in-Err.is c.of_refusal.ensures

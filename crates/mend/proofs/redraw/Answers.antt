@@ -16,18 +16,18 @@ pub returns-in_default : goal.returns-in_default
 unfolding refusal_of answer_of
 returns-in_default c =
     let few = few-rows _ _ c.requires in
-    let all : min c.args.m 1024 ≡ c.args.m = omega (arith, few) in
-    let two = rw all at c.two_passes-tree.ensures in
+    let all : min c.args.table.m 1024 ≡ c.args.table.m = omega (arith, few) in
+    let two = rw all at c.two_passes-joined.ensures in
     let refused = ap refusal_of (sym c.in_default.is) ∙ c.tree_paths-walked.ensures.0 in
     let (answer, marks, list) = no-tree _ _ c.requires _ _ c.rows_among-used.ensures c.claim_rows-marked.ensures _ refl _ two.marks _ refl _ refused in
-    (answer, marks, list _ refl)
+    rw c.of.ensures (answer, marks, list _ refl)
 
 pub exchange_rows-least-requires : goal.exchange_rows-least-requires
 unfolding refusal_of
 exchange_rows-least-requires c =
     let few = few-rows _ _ c.requires in
-    let all : min c.args.m 1024 ≡ c.args.m = omega (arith, few) in
-    let two = rw all at c.two_passes-tree.ensures in
+    let all : min c.args.table.m 1024 ≡ c.args.table.m = omega (arith, few) in
+    let two = rw all at c.two_passes-joined.ensures in
     let done = ap refusal_of (sym c.in-Ok.is) ∙ c.tree_paths-walked.ensures.0 in
     let loaded = loads _ _ c.requires _ _ c.rows_among-used.ensures c.claim_rows-marked.ensures _ refl _ two.marks _ refl _ done c.tree_paths-walked.ensures.1 in
     (few, two.few, loaded)
@@ -51,8 +51,8 @@ pub returns : goal.returns
 unfolding refusal_of answer_of
 returns c =
     let few = few-rows _ _ c.requires in
-    let all : min c.args.m 1024 ≡ c.args.m = omega (arith, few) in
-    let two = rw all at c.two_passes-tree.ensures in
+    let all : min c.args.table.m 1024 ≡ c.args.table.m = omega (arith, few) in
+    let two = rw all at c.two_passes-joined.ensures in
     let done = ap refusal_of (sym c.in-Ok.is) ∙ c.tree_paths-walked.ensures.0 in
     let (answer, marks, list) = mended _ _ c.requires _ _ c.rows_among-used.ensures c.claim_rows-marked.ensures _ refl _ two.marks _ refl _ done c.tree_paths-walked.ensures.1 _ _ two.count two.list _ c.exchange_rows-least.ensures.passed in
     (answer, c.write_marks.ensures ∙ marks, c.write_records.ensures ∙ list _ refl)

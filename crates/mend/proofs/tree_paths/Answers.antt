@@ -10,7 +10,8 @@ use mathlib.Core.Path.{◌≡◌, refl, sym, ◌∙◌, ap, subst}
 use native.Mathlib.Omega.{arith}
 use Rattle.refusal.specs.Outcomes.{refusal_of}
 use Rattle.slice.specs.Slices.{component}
-use Rattle.star_spec.specs.Call.{table_of, claim_from, claim_of}
+use Rattle.in_use.specs.Tables.{table_in}
+use Rattle.star_spec.specs.Call.{claim_from, claim_of}
 use Rattle.star_spec.specs.MatrixPath.{matrix_path, matrix_after}
 use Rattle.mend.proofs.tree_paths.Goals as goal
 
@@ -26,15 +27,15 @@ claim-part S m k h = let e : k ≡ m + (k - m) = omega arith in ap (λ (j : ℕ)
 pub slice_bounds-matrix_path-end : goal.slice_bounds-matrix_path-end
 slice_bounds-matrix_path-end c =
     let whole : length c.write_claim.new.mark ≡ 1024 = search rules in
-    sym (length-take-le c.args.m c.write_claim.new.mark (omega arith))
+    sym (length-take-le c.args.table.m c.write_claim.new.mark (omega arith))
 
 pub returns : goal.returns
 returns c =
     let a = c.args in
     let whole : c.write_claim.new.mark ≡ claim_of 1024 (component a.marks) = c.write_claim.ensures ∙ ap (λ (k : ℕ). claim_of k (component a.marks)) (search rules) in
-    let e : take a.m c.write_claim.new.mark ≡ claim_of a.m (component a.marks) = ap (take a.m) whole ∙ claim-part (component a.marks) a.m 1024 (omega arith) in
+    let e : take a.table.m c.write_claim.new.mark ≡ claim_of a.table.m (component a.marks) = ap (take a.table.m) whole ∙ claim-part (component a.marks) a.table.m 1024 (omega arith) in
     subst
     (λ (l : List ℕ).
-    (refusal_of c.matrix_path.result ≡ matrix_path (table_of a.n a.m a.whole (component a.rows) a.left.now a.right.now a.weight.now l) 1 a.own.now)
-    × (c.matrix_path.new.r ≡ matrix_after (table_of a.n a.m a.whole (component a.rows) a.left.now a.right.now a.weight.now l) 1 a.own.now))
+    (refusal_of c.matrix_path.result ≡ matrix_path (table_in a.n a.table a.left.now a.right.now a.weight.now l) 1 a.own.now)
+    × (c.matrix_path.new.r ≡ matrix_after (table_in a.n a.table a.left.now a.right.now a.weight.now l) 1 a.own.now))
     e c.matrix_path.ensures

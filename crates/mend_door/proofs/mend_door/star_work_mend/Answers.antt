@@ -4,7 +4,7 @@ use Rattle.mend_door.proofs.mend_door.star_work_mend.Goals as goal
 
 pub returns : goal.returns
 returns c =
-    let table = c.working-table.ensures in
+    let table = c.working-used.ensures in
     let told = rw (table.rows.0, table.rows.1, table.used) at c.mend_table.ensures in record {
       returned = told.0;
       written = (told.1, told.2, told.3);
