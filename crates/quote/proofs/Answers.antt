@@ -15,8 +15,6 @@ use Rattle.mst1.proofs.Answers.{loaded-weights, loaded-graph, tree-inside}
 use Rattle.mst1.specs.Steps.Growth.{loaded_graph, Grows}
 use Rattle.price_theory.specs.Quote.{priced}
 use Rattle.refusal.specs.Outcomes.{refusal_of}
-use Rattle.refusal.specs.declared.Outcome.{Outcome}
-use Rattle.refusal.specs.declared.Outcome.TheVariants.{Done, Refused}
 use Rattle.refusal.specs.declared.Refusal.{Refusal}
 use Rattle.rowset.proofs.Integers.{total-cut}
 use Rattle.rowset.specs.Bytes.{in_row}
@@ -27,13 +25,14 @@ use Rattle.star_spec.specs.Accepted.{Row}
 use Rattle.star_spec.specs.Call.{Call, rows_of, used, graph_of, weight_of}
 use Rattle.star_spec.specs.Mst1.{chosen_rows}
 use Rattle.star_spec.specs.Refusals.{Accepted, cause, is_none, no_tree, or_else, refusal}
+use Rattle.std.specs.Prelude.{Result, Ok, Err, ⊤}
 use Rattle.table.proofs.Loads.{load-taken, loaded-taken}
 use Rattle.table.specs.Loads.{loaded_row}
 use Rattle.price_spec.proofs.Causes.{causes-in-order, row-asked}
 use Rattle.price_spec.specs.Quote.{row_asked, quote_causes, built_total, new_prices, unquoted, quoted, quote_or, quote}
 
 -- a call that the checks accept: the table is accepted and the row in use, so that its bytes and the row fit a column of 1,024 prices
-module _ (c : Call) (k : ℕ) {o : Outcome} (checked : refusal_of o ≡ refusal (row_asked c k)) (done : o ≡ Done) where
+module _ (c : Call) (k : ℕ) {o : Result ⊤ Refusal} (checked : refusal_of o ≡ refusal (row_asked c k)) (done : o ≡ Ok tt) where
   accepted : Accepted c × Row c k
   unfolding refusal_of
   accepted = row-asked c k (sym checked ∙ ap refusal_of done)
@@ -46,14 +45,14 @@ module _ (c : Call) (k : ℕ) {o : Outcome} (checked : refusal_of o ≡ refusal 
 
 module _ (c : Call) (k x : ℕ) where
   -- a call that the checks refuse
-  pub call-refused : {o : Outcome} {r : Refusal} → refusal_of o ≡ refusal (row_asked c k) → o ≡ Refused r → unquoted r ≡ quote c k x
+  pub call-refused : {o : Result ⊤ Refusal} {r : Refusal} → refusal_of o ≡ refusal (row_asked c k) → o ≡ Err r → unquoted r ≡ quote c k x
   unfolding quote quote_or refusal_of or_else
   call-refused {r = r} e q =
       let h : refusal (row_asked c k) ≡ some r = sym e ∙ ap refusal_of q in
       rw (causes-in-order c k, h)
 
   -- a call that they accept
-  module _ {o : Outcome} (checked : refusal_of o ≡ refusal (row_asked c k)) (done : o ≡ Done) where
+  module _ {o : Result ⊤ Refusal} (checked : refusal_of o ≡ refusal (row_asked c k)) (done : o ≡ Ok tt) where
     t : Taken c
     t = taken c (accepted c k checked done).0
 

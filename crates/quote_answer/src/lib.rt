@@ -11,7 +11,8 @@ ghost use Rattle.rowset.specs.Integers.{from_bits, to_bits};
 ghost use Rattle.star_spec.specs.Door.{bytes_of, field_bytes};
 
 use answer::{Record, bytes_of, of_refusal};
-use quote::Quoted;
+use quote::Totals;
+use refusal::Refusal;
 
 // The length of a quote's answer.
 pub const LENGTH: usize = 24;
@@ -24,24 +25,24 @@ pub struct QuoteRecord {
 }
 
 // The fields of what was quoted.
-pub fn of_quoted(q: Quoted) -> QuoteRecord
-    ensures first { fields_of result.first ≡ quote_fields (answer_of q) }
-    ensures after { from_bits 64 result.after ≡ after_of (answer_of q) }
+pub fn of_quoted(quoted: Result<Totals, Refusal>) -> QuoteRecord
+    ensures first { fields_of result.first ≡ quote_fields (answer_of quoted) }
+    ensures after { from_bits 64 result.after ≡ after_of (answer_of quoted) }
 {
-    match q {
-        Quoted::Totals(t) => QuoteRecord {
+    match quoted {
+        Ok(totals) => QuoteRecord {
             first: Record {
                 kind: 1,
                 number: 0,
                 out: 0,
                 into: 0,
                 only: 0,
-                amount: t.before,
+                amount: totals.before,
             },
-            after: t.after,
+            after: totals.after,
         },
-        Quoted::Refused(r) => QuoteRecord {
-            first: of_refusal(r),
+        Err(refusal) => QuoteRecord {
+            first: of_refusal(refusal),
             after: 0,
         },
     }
@@ -75,8 +76,5 @@ pub fn write_quote(answer: &mut [u8], x: QuoteRecord)
     if answer.len() != LENGTH {
         return;
     }
-    let bytes = quote_bytes(x);
-    for i in 0..LENGTH {
-        answer[i] = bytes[i];
-    }
+    answer.copy_from_slice(&quote_bytes(x));
 }

@@ -1,14 +1,9 @@
--- `quote::replaced` meets its contract: four bytes are stored in the copy. Assumes nothing.
+-- `quote::replaced` meets its contract: the column and the price are copied. Assumes nothing.
+use mathlib.Core.Path.{◌∙◌}
 use native.Mathlib.Omega.{arith}
-use Rattle.quote.proofs.Stores.{replaced-rows, replaced-length}
+use Rattle.quote.proofs.Stores.{replaced-rows}
 use Rattle.quote.proofs.replaced.Goals as goal
 
-pub returns : goal.returns
-returns c =
-    let a = c.args in
-    let p = c.requires in
-    let same = c.copied-prices.ensures.by_index in
-    let sized = c.copied-prices.ensures.sized in record {
-      by_index = replaced-rows a.weight.now c.copied-prices.result.bytes sized same a.row a.price p.1 p.2 (omega arith);
-      sized = replaced-length a.weight.now c.copied-prices.result.bytes sized same a.row a.price p.1 p.2 (omega arith);
-    }
+pub returns-clause-by_index : goal.returns-clause-by_index
+returns-clause-by_index c =
+    replaced-rows c.args.weight.now _ _ c.args.row c.args.price c.requires (omega arith) c.copy_from_slice.ensures.after (c.copy_from_slice-2.ensures.after ∙ c.to_le_bytes.ensures)

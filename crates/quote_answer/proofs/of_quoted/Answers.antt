@@ -7,17 +7,17 @@ use Rattle.rowset.specs.Integers.{from_bits}
 use Rattle.star_spec.specs.Door.{fields}
 use Rattle.quote_answer.proofs.of_quoted.Goals as goal
 
-pub returns-in-Totals : goal.returns-in-Totals
+pub returns-in-Ok : goal.returns-in-Ok
 unfolding fields_of quote_fields after_of answer_of
-returns-in-Totals c = record {
-  first = rw c.in-Totals.is refl;
-  after = rw c.in-Totals.is refl;
+returns-in-Ok c = record {
+  first = rw c.in-Ok.is refl;
+  after = rw c.in-Ok.is refl;
 }
 
-pub returns-in-Refused : goal.returns-in-Refused
+pub returns-in-Err : goal.returns-in-Err
 unfolding quote_fields after_of answer_of from_bits fields
-returns-in-Refused c =
+returns-in-Err c =
     record {
-      first = rw c.in-Refused.is c.of_refusal.ensures;
-      after = rw c.in-Refused.is refl;
+      first = rw c.in-Err.is c.of_refusal.ensures;
+      after = rw c.in-Err.is refl;
     }

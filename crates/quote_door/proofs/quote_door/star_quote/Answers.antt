@@ -1,18 +1,6 @@
--- `quote_door::quote_door::star_quote` meets its contract: what the quote, `of_quoted` and `write_quote` promise, one after the other. Assumes nothing.
-use native.Mathlib.Omega.{arith}
-use Rattle.quote_door.proofs.Told.{quote-shut, quote-open}
-use Rattle.price_spec.proofs.Bytes.{quote-call}
+-- `quote_door::quote_door::star_quote` meets its contract: it is that of `answered` over a plain table. Assumes nothing.
 use Rattle.quote_door.proofs.quote_door.star_quote.Goals as goal
-
-pub returns-then-answer-ne-LENGTH : goal.returns-then-answer-ne-LENGTH
-returns-then-answer-ne-LENGTH c =
-    let told = quote-call (quote-shut _ _ _ _ c.if-answer-ne-LENGTH.true) in
-    record { returned = told.0; answered = told.1.0; means = told.1.1 }
 
 pub returns : goal.returns
 returns c =
-    let table = c.plain.ensures in
-    let told = quote-call
-    (quote-open _ _ _ _ (omega (arith, c.if-answer-ne-LENGTH.false)) c.write_quote.ensures (c.of_quoted-x.ensures.first, c.of_quoted-x.ensures.after)
-    (rw (table.rows.0, table.rows.1, table.used) at c.quote-q.ensures)) in
-    record { returned = told.0; answered = told.1.0; means = told.1.1 }
+    let t = c.plain-plain.ensures in rw (t.rows.0, t.rows.1, t.used) at c.answered.ensures
