@@ -6,10 +6,10 @@ ghost use Rattle.std.specs.Prelude.{◌≡◌, ℕ, ◌+◌, ◌*◌, ◌≤◌,
 ghost use Rattle.rowset.specs.Sets.{empty};
 ghost use Rattle.slice.specs.Slices.{component};
 ghost use Rattle.table.specs.Tables.{column, row};
-ghost use Rattle.table.specs.Loads.{load_refused, load_refusal, loaded_row};
+ghost use Rattle.table.specs.Loads.{load_refusal, loaded_row, refusal_in, table_in};
 ghost use Rattle.table.specs.Steps.Loading.{byte_in, upper_bytes};
 
-use refusal::Refusal;
+use refusal::{Cause, Refusal};
 use slice::Slice;
 use slice_planes::Planes;
 
@@ -22,13 +22,6 @@ const UPPER: usize = 24;
 #[derive(Clone, Copy)]
 pub struct Table {
     pub columns: [Slice; WIDTH],
-}
-
-// What a load gives: the refusal, with number 0 where the column is taken, and the table.
-#[derive(Clone, Copy)]
-pub struct Loaded {
-    pub refusal: Refusal,
-    pub table: Table,
 }
 
 impl Table {
@@ -49,10 +42,7 @@ impl Table {
 pub fn col(t: Table, j: usize) -> Slice
     ensures { component result ≡ column t j }
 {
-    if j < 1 {
-        return Slice::empty();
-    }
-    if WIDTH < j {
+    if j < 1 || WIDTH < j {
         return Slice::empty();
     }
     t.columns[j - 1]
@@ -63,8 +53,8 @@ pub fn row_of(t: Table, i: usize) -> u32
     ensures { result ≡ row t i }
 {
     let mut r: u32 = 0;
-    for j in 0..WIDTH {
-        r = r * 2 + slice::get(t.columns[j], i) as u32;
+    for column in &t.columns {
+        r = r * 2 + u32::from(slice::get(*column, i));
     }
     r
 }
@@ -76,12 +66,11 @@ fn append(t: Table, p: Planes) -> Table
 {
     let mut r = t;
     for j in 0..WIDTH {
-        let x = if j < UPPER {
+        r.columns[j] = if j < UPPER {
             t.columns[j + 8]
         } else {
             p.planes[WIDTH - 1 - j]
         };
-        r.columns[j] = x;
     }
     r
 }
@@ -92,63 +81,40 @@ fn filled(column: &[u8], count: u32) -> Table
     ensures { row result ≡ upper_bytes column.now count 0 }
 {
     let mut t = Table::zero();
-    let mut k = count;
-    while 0 < k {
-        k -= 1;
-        let p = slice_planes::split(column, count, k);
-        t = append(t, p);
+    for k in (0..count).rev() {
+        t = append(t, slice_planes::split(column, count, k));
     }
     t
 }
 
-// A load that is refused: the table of zeros.
-fn declined(number: u32) -> Loaded
-    ensures refusal { result.refusal ≡ load_refused number }
-    ensures rows { row result.table ≡ (λ i. 0) }
-{
-    Loaded {
-        refusal: Refusal {
-            number: number,
-            place: 0,
-        },
-        table: Table::zero(),
-    }
-}
-
 // A load of a column with `count` bytes a row.
-fn load(column: &[u8], count: u32) -> Loaded
+fn load(column: &[u8], count: u32) -> Result<Table, Refusal>
     requires { (1 ≤ count) × (count ≤ 4) }
-    ensures refusal { result.refusal ≡ load_refusal count column.now }
-    ensures rows { row result.table ≡ loaded_row count column.now }
+    ensures refusal { refusal_in result ≡ load_refusal count column.now }
+    ensures rows { row (table_in result) ≡ loaded_row count column.now }
 {
     let bytes = count as usize;
     if bytes * slice::SIZE < column.len() {
-        return declined(2);
+        return Err(Refusal::of(Cause::TooManyRows as u32));
     }
     if column.len() % bytes != 0 {
-        return declined(3);
+        return Err(Refusal::of(Cause::BadLengths as u32));
     }
-    Loaded {
-        refusal: Refusal {
-            number: 0,
-            place: 0,
-        },
-        table: filled(column, count),
-    }
+    Ok(filled(column, count))
 }
 
 // A load of a column with one byte a row.
-pub fn load_bytes(column: &[u8]) -> Loaded
-    ensures refusal { result.refusal ≡ load_refusal 1 column.now }
-    ensures rows { row result.table ≡ loaded_row 1 column.now }
+pub fn load_bytes(column: &[u8]) -> Result<Table, Refusal>
+    ensures refusal { refusal_in result ≡ load_refusal 1 column.now }
+    ensures rows { row (table_in result) ≡ loaded_row 1 column.now }
 {
     load(column, 1)
 }
 
 // A load of a column with four bytes a row, least significant first.
-pub fn load_quads(column: &[u8]) -> Loaded
-    ensures refusal { result.refusal ≡ load_refusal 4 column.now }
-    ensures rows { row result.table ≡ loaded_row 4 column.now }
+pub fn load_quads(column: &[u8]) -> Result<Table, Refusal>
+    ensures refusal { refusal_in result ≡ load_refusal 4 column.now }
+    ensures rows { row (table_in result) ≡ loaded_row 4 column.now }
 {
     load(column, 4)
 }

@@ -1,5 +1,5 @@
 -- `table::append` meets its contract. The loop's invariant: the columns before index j are right. -- Assumes nothing.
-use Prim.Native.Nat.{suc, ◌-◌}
+use Prim.Native.Nat.{suc}
 use mathlib.Core.Path.{◌≡◌}
 use Rattle.slice.specs.Slices.{component}
 use Rattle.slice.proofs.Stores.{Filled}

@@ -1,5 +1,6 @@
 -- `table::col` meets its contract: outside 1 to 32 a column is empty. Assumes nothing.
 use mathlib.Core.Path.{◌≡◌, sym, ap, ◌∙◌}
+use mathlib.Core.Logic.{⊎_elim}
 use Prim.Native.Nat.{suc, ◌-◌}
 use native.Mathlib.Omega.{arith}
 use lib.ListN.{length}
@@ -10,13 +11,11 @@ use Rattle.table.proofs.Laws.{column-below, column-above, column-at}
 use Rattle.table.proofs.col.Goals as goal
 
 pub returns-then-j-lt1 : goal.returns-then-j-lt1
-returns-then-j-lt1 c = c.empty.ensures ∙ sym (column-below _ _ c.if-j-lt1.true)
-
-pub returns-then-j-gt-WIDTH : goal.returns-then-j-gt-WIDTH
-returns-then-j-gt-WIDTH c =
+returns-then-j-lt1 c =
     let t = c.args.t in
     let h : length t.columns ≡ 32 = search (rules, length-unmap) in
-    c.empty-then-j-gt-WIDTH.ensures ∙ sym (column-above t _ (omega arith))
+    c.empty.ensures
+    ∙ ⊎_elim (λ l. sym (column-below _ _ l)) (λ l. sym (column-above t _ (omega arith))) c.then-j-lt1.either
 
 pub returns : goal.returns
 returns c =

