@@ -3,13 +3,14 @@
 use Prim.Native.Nat.{ℕ, zero, suc, ◌+◌, ◌*◌, ◌-◌, ◌/◌, ◌%◌, ◌^◌, ◌≤◌, ◌<◌}
 use mathlib.Core.List.{List}
 use mathlib.Core.Path.{◌≡◌, refl, sym, ap, ◌∙◌}
-use native.Mathlib.Nat.{add-zero, mul-zero, zero-add, mul-suc, mul-add, mul_comm, mul_assoc, mul-le-mul_left, zero-div, zero-mod}
+use native.Mathlib.Nat.{add-zero, mul-zero, mul-suc, mul-add, mul_comm, mul_assoc, mul-le-mul_left, zero-div, zero-mod}
 use native.Mathlib.Decide.{dec_lt}
 use native.Mathlib.Omega.{arith}
 use mathlib.Core.Logic.{by_cases}
 use lib.ListN.{length, get_or, get_or-eq_default}
-use Rattle.slice_planes.specs.Steps.Blocks.{from_digits, row_byte, block_of, lane_bit, word_of}
-use Rattle.slice_planes.proofs.Digits.{digits_append, digits-ext, digits-bit, digits-group}
+use Rattle.slice_planes.specs.Steps.Blocks.{from_digits, row_byte, block_of, word_of}
+use Rattle.slice_planes.proofs.Digits.{digits_append}
+use Rattle.slice_planes.proofs.Words.{word_rows as word-bits}
 use Rattle.table_loads.specs.Steps.Stores.{Rows, plane_word}
 
 -- the rows from row 64 q on, at most 64
@@ -58,42 +59,17 @@ module _ (column : List ℕ) (stride rows : ℕ) (size : Rows column stride rows
       full : (left < 64 → ⊥) → from_digits 256 f 0 count ≡ from_digits 256 f 0 8
       full l = ap (from_digits 256 f 0) (omega (arith, r.most, l))
 
-module _ (column : List ℕ) (stride offset : ℕ) (bytes : (i : ℕ) → get_or column i 0 < 256) (k : ℕ) (small : k < 8) where
-  -- bit k of a row's byte
-  abbrev row_bit : ℕ → ℕ
-  row_bit r = row_byte column stride offset r / 2 ^ k % 2
-
-  module _ (blocks : List ℕ) (q : ℕ) (right : (g : ℕ) → g < 8 → get_or blocks g 0 ≡ block_of column stride offset (64 * q + g)) where
-    -- a bit of a byte of a block is a row's
-    lane-bit-row : (l g : ℕ) → l < 8 → g < 8 → lane_bit blocks k (0 + l) (0 + g) ≡ row_bit (8 * (8 * q + l) + g)
-    unfolding lane_bit block_of row_byte
-    lane-bit-row l g hl hg =
-        let first : 64 * q + g + 8 * l ≡ 8 * (8 * q + l) + g = omega arith in
-        rw (zero-add g, zero-add l, right g hg)
-        (digits-bit (λ j. get_or column (offset + stride * (64 * q + g + 8 * j)) 0) (λ j. bytes (offset + stride * (64 * q + g + 8 * j))) 0 8 l k hl small
-        ∙ rw (zero-add l, first))
-
-    -- the bits k of the bytes of the blocks are those of the rows from 64 q on
-    pub word_rows : word_of blocks k 0 ≡ plane_word column stride offset q k
-    unfolding word_of plane_word
-    word_rows =
-        let start : 8 * (8 * q) ≡ 64 * q = omega arith in
-        digits-ext 256 _ (λ l. from_digits 2 row_bit (8 * l) 8) 0 (8 * q) 8 (λ l hl. digits-ext 2 _ row_bit 0 (8 * (8 * q + l)) 8 (λ g hg. lane-bit-row l g hl hg))
-        ∙ digits-group 2 8 row_bit (8 * q) 8
-        ∙ ap (λ s. from_digits 2 row_bit s 64) start
+-- the bits k of the bytes of the blocks are those of the rows from 64 q on
+pub word_rows : (column : List ℕ) (stride offset : ℕ) → ((i : ℕ) → get_or column i 0 < 256) → (k : ℕ) → k < 8 → (blocks : List ℕ) (q : ℕ)
+    → ((g : ℕ) → g < 8 → get_or blocks g 0 ≡ block_of column stride offset (64 * q + g)) → word_of blocks k 0 ≡ plane_word column stride offset q k
+unfolding plane_word
+word_rows column stride offset bytes k small blocks q right = word-bits column stride offset bytes k small blocks q right
 
 -- past the last row a word of a plane is 0
 pub plane-past : (column : List ℕ) (stride rows : ℕ) → Rows column stride rows → (offset : ℕ) → offset < stride → (q k : ℕ) → rows ≤ 64 * q → plane_word column stride offset q k ≡ 0
 unfolding plane_word
 plane-past column stride rows size offset o q k h =
     digits-zero 2 (λ r. row_byte column stride offset r / 2 ^ k % 2) (64 * q) 64 (λ r l. rw (past-column column stride rows size offset o r (omega arith), zero-div, zero-mod))
-
--- ── The index of a byte, which goes down by eight rows at a time ──
-
--- eight rows less
-pub step_less : (step l : ℕ) → 0 < l → step * l ≡ step * (l - 1) + step
-step_less step zero h = absurd (omega arith)
-step_less step (suc l) h = let e : suc l - 1 ≡ l = omega arith in rw (e, mul-suc)
 
 -- the index of the byte of row first + 8 l
 pub step_row : (stride first l : ℕ) → stride * first + 8 * stride * l ≡ stride * (first + 8 * l)

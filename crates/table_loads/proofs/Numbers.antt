@@ -1,7 +1,7 @@
 -- What the columns hold after a load: the numbers of the rows, in all columns and in as many of the last as the bytes need.
 -- Main statements: zeros, put_both. Assumes nothing.
 use Prim.Native.Nat.{ℕ, zero, suc, ◌+◌, ◌*◌, ◌-◌, ◌/◌, ◌%◌, ◌^◌, ◌≤◌, ◌<◌}
-use mathlib.Core.Bool.{Bool, true, false, cond, ◌&&◌, and-false}
+use mathlib.Core.Bool.{Bool, true, false, cond, and-false}
 use mathlib.Core.List.{List}
 use mathlib.Core.Logic.{by_cases}
 use mathlib.Core.Path.{◌≡◌, refl, sym, ap, ap₂, ◌∙◌, fun_ext}
@@ -16,12 +16,12 @@ use Rattle.rowset.specs.Columns.{width, in_columns}
 use Rattle.rowset.specs.Sets.{up_to}
 use Rattle.rowset.proofs.Laws.{clash}
 use Rattle.search_columns.proofs.Stores.{bit-outside, bit-inside}
-use Rattle.path_matrix.specs.Matrix.{has_column, matrix_column}
+use Rattle.path_matrix.specs.Matrix.{matrix_column}
 use Rattle.slice_planes.specs.Steps.Blocks.{from_digits, row_byte}
 use Rattle.slice_planes.proofs.Digits.{digits-at, digits-bit, pow-pow, bit-above}
 use Rattle.slice.specs.Slices.{size, bit}
 use Rattle.slice.proofs.Bits.{bit-of-zero}
-use Rattle.slice.proofs.Sets.{up_to-inside, up_to-below, up_to-above, up_to-bounds}
+use Rattle.slice.proofs.Sets.{up_to-inside, up_to-below, up_to-bounds}
 use Rattle.table.proofs.Columns.{number-bits}
 use Rattle.table.proofs.Loads.{little-below, in-row-past, load-long, load-uneven, load-taken, loaded-refused, loaded-taken}
 use Rattle.table.specs.Loads.{load_refusal, loaded_row}

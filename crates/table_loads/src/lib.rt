@@ -12,74 +12,56 @@ ghost use Rattle.slice.specs.Slices.{size};
 ghost use Rattle.table.specs.Loads.{loaded_row};
 ghost use Rattle.table_loads.specs.Steps.Stores.{Rows, with_planes, with_bytes, with_words, with_load, Zeros};
 
-// The number of columns of a table, the words of a column and of a table, and the bits of a word.
-const WIDTH: usize = 32;
+use slice::{BITS, WORDS};
+use slice_planes::word;
+use table::WIDTH;
 
-const COLUMN: usize = 16;
-
+// The words of a table's columns.
 pub const ALL: usize = 512;
-
-const BITS: usize = 64;
-
-// The lowest bit of each byte of a word.
-const LOWEST: u64 = 0x0101010101010101;
-
-// Byte l of the block at index g is that of row 64 q + 8 l + g, for some q, rows counted from 0.
-#[derive(Clone, Copy)]
-struct Blocks {
-    blocks: [u64; 8],
-}
 
 // The bytes of row `first` and of every eighth row after it, `count` in all.
 fn block(column: &[u8], stride: usize, offset: usize, first: usize, count: usize) -> u64
     requires { (count ≤ 8) × (first < 1024) × (stride ≤ 4) × (offset < 4) × ((l : ℕ) → l < count → offset + stride * (first + 8 * l) < length column.now) }
     ensures { result ≡ from_digits 256 (λ l. row_byte column.now stride offset (first + 8 * l)) 0 count }
 {
+    let start = offset + stride * first;
     let step = 8 * stride;
-    let mut at = offset + stride * first + step * count;
     let mut block: u64 = 0;
-    let mut l = count;
-    while 0 < l {
-        l -= 1;
-        at -= step;
-        let byte = column[at];
-        block = block * 256 + byte as u64;
+    for l in (0..count).rev() {
+        block = block * 256 + u64::from(column[start + step * l]);
     }
     block
 }
 
-// The blocks of 64 rows.
-fn whole(column: &[u8], stride: usize, offset: usize, q: usize, rows: usize) -> Blocks
+// The eight blocks of 64 rows: byte l of block g is that of row 64 q + 8 l + g, rows counted from 0.
+fn whole(column: &[u8], stride: usize, offset: usize, q: usize, rows: usize) -> [u64; 8]
     requires { Rows column.now stride rows × (offset < stride) × (64 * q + 64 ≤ rows) }
-    ensures by_index { (g : ℕ) → g < 8 → get_or result.blocks g 0 ≡ block_of column.now stride offset (64 * q + g) }
-    ensures size { length result.blocks ≡ 8 }
+    ensures { (g : ℕ) → g < 8 → get_or result g 0 ≡ block_of column.now stride offset (64 * q + g) }
 {
-    let mut blocks = Blocks { blocks: [0; 8] };
+    let mut blocks = [0u64; 8];
     for g in 0..8 {
-        blocks.blocks[g] = block(column, stride, offset, BITS * q + g, 8);
+        blocks[g] = block(column, stride, offset, BITS * q + g, 8);
     }
     blocks
 }
 
 // The blocks of the rows from row 64 q on, where there are less than 64.
-fn part(column: &[u8], stride: usize, offset: usize, q: usize, rows: usize) -> Blocks
+fn part(column: &[u8], stride: usize, offset: usize, q: usize, rows: usize) -> [u64; 8]
     requires { Rows column.now stride rows × (offset < stride) × (64 * q < rows) × (rows < 64 * q + 64) }
-    ensures by_index { (g : ℕ) → g < 8 → get_or result.blocks g 0 ≡ block_of column.now stride offset (64 * q + g) }
-    ensures size { length result.blocks ≡ 8 }
+    ensures { (g : ℕ) → g < 8 → get_or result g 0 ≡ block_of column.now stride offset (64 * q + g) }
 {
     let left = rows - BITS * q;
-    let mut blocks = Blocks { blocks: [0; 8] };
+    let mut blocks = [0u64; 8];
     for g in 0..8 {
-        blocks.blocks[g] = block(column, stride, offset, BITS * q + g, (left + 7 - g) / 8);
+        blocks[g] = block(column, stride, offset, BITS * q + g, (left + 7 - g) / 8);
     }
     blocks
 }
 
 // The blocks of the rows from row 64 q on, and of no row past the column's end.
-fn gather(column: &[u8], stride: usize, offset: usize, q: usize, rows: usize) -> Blocks
+fn gather(column: &[u8], stride: usize, offset: usize, q: usize, rows: usize) -> [u64; 8]
     requires { Rows column.now stride rows × (offset < stride) × (64 * q < rows) }
-    ensures by_index { (g : ℕ) → g < 8 → get_or result.blocks g 0 ≡ block_of column.now stride offset (64 * q + g) }
-    ensures size { length result.blocks ≡ 8 }
+    ensures { (g : ℕ) → g < 8 → get_or result g 0 ≡ block_of column.now stride offset (64 * q + g) }
 {
     if BITS * q + BITS <= rows {
         whole(column, stride, offset, q, rows)
@@ -88,27 +70,13 @@ fn gather(column: &[u8], stride: usize, offset: usize, q: usize, rows: usize) ->
     }
 }
 
-// The bits k of the bytes of eight blocks.
-fn word(blocks: &[u64], k: usize) -> u64
-    requires { (length blocks.now ≡ 8) × (k < 8) }
-    ensures { result ≡ word_of blocks.now k 0 }
-{
-    let mut word: u64 = 0;
-    let mut g: usize = 8;
-    while 0 < g {
-        g -= 1;
-        word = word * 2 + ((blocks[g] >> k) & LOWEST);
-    }
-    word
-}
-
 // The eight planes of a byte, the lowest at index `at` and each next one a column to the left.
-fn put_planes(columns: &mut [u64; ALL], blocks: &[u64], at: usize)
-    requires { (length blocks.now ≡ 8) × (112 ≤ at) × (at < 512) }
+fn put_planes(columns: &mut [u64; ALL], blocks: &[u64; 8], at: usize)
+    requires { (112 ≤ at) × (at < 512) }
     ensures { columns.new ≡ with_planes columns.old at (λ k. word_of blocks.now k 0) 8 }
 {
     for k in 0..8 {
-        columns[at - COLUMN * k] = word(blocks, k);
+        columns[at - WORDS * k] = word(blocks, k);
     }
 }
 
@@ -118,8 +86,8 @@ fn put_bytes(columns: &mut [u64; ALL], column: &[u8], stride: usize, q: usize, r
     ensures { columns.new ≡ with_bytes columns.old column.now stride q stride }
 {
     for offset in 0..stride {
-        let b = gather(column, stride, offset, q, rows);
-        put_planes(columns, &b.blocks, COLUMN * (WIDTH - 1 - 8 * offset) + q);
+        let blocks = gather(column, stride, offset, q, rows);
+        put_planes(columns, &blocks, WORDS * (WIDTH - 1 - 8 * offset) + q);
     }
 }
 
@@ -128,10 +96,8 @@ fn put_words(columns: &mut [u64; ALL], column: &[u8], stride: usize, rows: usize
     requires { Rows column.now stride rows }
     ensures { columns.new ≡ with_words columns.old column.now stride ((rows + 63) / 64) }
 {
-    let mut q = 0;
-    while BITS * q < rows {
+    for q in 0..rows.div_ceil(BITS) {
         put_bytes(columns, column, stride, q, rows);
-        q += 1;
     }
 }
 
@@ -172,14 +138,12 @@ pub fn sign_columns(columns: &[u64]) -> usize
     ensures { result ≡ repeated_columns size (matrix_column columns.now) 1 31 }
 {
     let sign = path_matrix::read_column(columns, 1);
-    let mut j = 1;
-    while j < WIDTH {
+    for j in 1..WIDTH {
         if slice::some(slice::xor(sign, path_matrix::read_column(columns, j + 1))) {
             return j - 1;
         }
-        j += 1;
     }
-    j - 1
+    WIDTH - 1
 }
 
 // The end that row i has after a load of a column of ends, read from its byte.
@@ -190,11 +154,8 @@ pub fn end_at(column: &[u8], i: usize) -> u32
     if slice::SIZE < column.len() {
         return 0;
     }
-    if i < 1 {
+    if i < 1 || column.len() < i {
         return 0;
     }
-    if column.len() < i {
-        return 0;
-    }
-    column[i - 1] as u32
+    u32::from(column[i - 1])
 }

@@ -1,5 +1,7 @@
 -- `table_loads::end_at` meets its contract. Assumes nothing.
 use Prim.Native.Nat.{◌-◌}
+use mathlib.Core.Logic.{⊎_elim}
+use mathlib.Core.Path.{◌∙◌}
 use native.Mathlib.Omega.{arith}
 use Rattle.table_loads.proofs.Ends.{end-unloaded, end_none, end-byte, end-past}
 use Rattle.table_loads.proofs.end_at.Goals as goal
@@ -14,23 +16,13 @@ returns-then-column-gt-SIZE c =
 pub returns-then-i-lt1 : goal.returns-then-i-lt1
 returns-then-i-lt1 c =
     record {
-      end = end_none _ _ (omega arith) (omega arith);
+      end = ⊎_elim (λ h. end_none _ _ (omega arith) (omega arith)) (λ h. end-past _ _ (omega arith) (omega arith)) c.then-i-lt1.either;
       small = omega arith;
     }
-
-pub returns-then-column-i : goal.returns-then-column-i
-returns-then-column-i c =
-    record {
-      end = end-past _ _ (omega arith) (omega arith);
-      small = omega arith;
-    }
-
-pub overflow_cast-result : goal.overflow_cast-result
-overflow_cast-result c = omega (arith, c.shared_slice_known-1.given (c.args.i - 1))
 
 pub returns : goal.returns
 returns c =
     record {
-      end = end-byte _ _ (omega arith) (omega arith);
-      small = omega (arith, c.shared_slice_known-1.given (c.args.i - 1));
+      end = c.from.ensures ∙ end-byte _ _ (omega arith) (omega arith);
+      small = omega (arith, c.from.ensures, c.shared_slice_known-1.given (c.args.i - 1));
     }

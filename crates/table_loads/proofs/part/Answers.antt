@@ -1,6 +1,5 @@
 -- `table_loads::part` meets its contract. The loop's invariant: the blocks before g are right. -- Assumes nothing.
 use mathlib.Core.Path.{refl, ◌∙◌}
-use Prim.Native.Nat.{◌-◌}
 use native.Mathlib.Omega.{arith}
 use Rattle.slice.proofs.Stores.{filled_none, filled_more, filled-all}
 use Rattle.table_loads.proofs.Gathering.{in-column, block-whole}
@@ -37,13 +36,9 @@ loop-g-preserved c =
     let p = c.requires in
     let i = c.loop-g.invariant in (
       i.0,
-      filled_more i.1 c.loop-g-test.true
-          (c.block.ensures ∙ block-whole _ _ _ p.0 _ p.1 _ _ _ i.0 c.loop-g-test.true),
+      filled_more i.1 (omega arith)
+          (c.block.ensures ∙ block-whole _ _ _ p.0 _ p.1 _ _ _ i.0 (omega arith)),
     )
 
 pub returns : goal.returns
-returns c =
-    record {
-      by_index = filled-all c.loop-g.invariant.1 c.loop-g-test.false;
-      size = c.loop-g.invariant.1.full;
-    }
+returns c = filled-all c.loop-g.invariant.1 (omega arith)

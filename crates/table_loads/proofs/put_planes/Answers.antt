@@ -11,9 +11,6 @@ pub loop-k-init : goal.loop-k-init
 unfolding with_planes
 loop-k-init c = (omega arith, refl)
 
-pub word-requires : goal.word-requires
-word-requires c = (c.requires.0, omega arith)
-
 pub loop-k-preserved : goal.loop-k-preserved
 unfolding with_planes
 loop-k-preserved c =

@@ -1,6 +1,5 @@
 -- `table_loads::whole` meets its contract. The loop's invariant: the blocks before g are right. -- Assumes nothing.
 use mathlib.Core.Path.{refl}
-use Prim.Native.Nat.{◌-◌}
 use native.Mathlib.Omega.{arith}
 use Rattle.slice_planes.specs.Steps.Blocks.{block_of}
 use Rattle.slice.proofs.Stores.{filled_none, filled_more, filled-all}
@@ -28,11 +27,7 @@ block-requires c =
 
 pub loop-g-preserved : goal.loop-g-preserved
 unfolding block_of
-loop-g-preserved c = filled_more c.loop-g.invariant c.loop-g-test.true c.block.ensures
+loop-g-preserved c = filled_more c.loop-g.invariant (omega arith) c.block.ensures
 
 pub returns : goal.returns
-returns c =
-    record {
-      by_index = filled-all c.loop-g.invariant c.loop-g-test.false;
-      size = c.loop-g.invariant.full;
-    }
+returns c = filled-all c.loop-g.invariant (omega arith)
