@@ -24,14 +24,12 @@ fn number(rt: &impl Print, x: usize) -> io::Result<()> {
 // The next line of standard input, without its end.
 fn label(rt: &(impl Input + Print)) -> io::Result<()> {
     let mut byte = [0u8; 1];
-    let mut left: usize = 100;
-    while 0 < left {
+    for _ in 0..100 {
         rt.reader().read(&mut byte)?;
         if byte[0] == b'\n' {
             return Ok(());
         }
         text(rt, &byte)?;
-        left -= 1;
     }
     Ok(())
 }
@@ -83,63 +81,69 @@ fn sample(i: usize) -> u8 {
 }
 
 fn fill(column: &mut [u8]) {
-    for i in 0..column.len() {
-        column[i] = sample(i);
+    for (i, byte) in column.iter_mut().enumerate() {
+        *byte = sample(i);
     }
 }
 
 // Byte i of a column of which the first `taken` bytes are in the table.
-fn byte_of(i: usize, taken: usize) -> u32 {
-    if i < taken { sample(i) as u32 } else { 0 }
+fn byte_of(i: usize, taken: usize) -> u8 {
+    if i < taken { sample(i) } else { 0 }
 }
 
-// The number that was handed in at row i + 1, with four bytes a row or with one.
-fn handed_in(i: usize, taken: usize, four: bool) -> u32 {
-    if four {
-        let at = 4 * (i % 1024);
-        let low = byte_of(at, taken) % 256 + byte_of(at + 1, taken) % 256 * 256;
-        let high = byte_of(at + 2, taken) % 256 + byte_of(at + 3, taken) % 256 * 256;
-        low + high * 65536
-    } else {
-        byte_of(i, taken)
+// How the rows of a column are stored.
+#[derive(Clone, Copy)]
+enum Rows {
+    Bytes,
+    Quads,
+}
+
+// The number that was handed in at row i + 1.
+fn handed_in(i: usize, taken: usize, rows: Rows) -> u32 {
+    match rows {
+        Rows::Bytes => u32::from(byte_of(i, taken)),
+        Rows::Quads => {
+            let at = 4 * (i % 1024);
+            u32::from_le_bytes([
+                byte_of(at, taken),
+                byte_of(at + 1, taken),
+                byte_of(at + 2, taken),
+                byte_of(at + 3, taken),
+            ])
+        }
     }
 }
 
 // How many rows are as they were handed in.
-fn rows_right(t: Table, taken: usize, four: bool) -> usize {
-    let mut right: usize = 0;
-    for i in 0usize..1024 {
-        if table::row_of(t, i + 1) == handed_in(i, taken, four) {
-            right += 1;
-        }
-    }
-    right
+fn rows_right(t: &Table, taken: usize, rows: Rows) -> usize {
+    (0..slice::SIZE)
+        .filter(|i| table::row_of(*t, i + 1) == handed_in(*i, taken, rows))
+        .count()
 }
 
-// Whether a load was taken: its refusal has number 0 then.
-fn taken_or_not(rt: &impl Print, refusal: Refusal) -> io::Result<()> {
-    if refusal.number == 0 {
-        text(rt, b" taken")
-    } else {
-        text(rt, b" refused")?;
-        number(rt, refusal.number as usize)?;
-        number(rt, refusal.place as usize)
+// Whether a load was taken, or why it was not.
+fn taken_or_refused(rt: &impl Print, loaded: &Result<Table, Refusal>) -> io::Result<()> {
+    match loaded {
+        Ok(_) => text(rt, b" taken"),
+        Err(refusal) => {
+            text(rt, b" refused")?;
+            number(rt, refusal.number as usize)?;
+            number(rt, refusal.place as usize)
+        }
     }
 }
 
 // A load of a column, of whose bytes the first `taken` are in the table afterwards: all, or none where the load is refused.
-fn report(rt: &(impl Input + Print), column: &[u8], taken: usize, four: bool) -> io::Result<()> {
-    let loaded = if four {
-        table::load_quads(column)
-    } else {
-        table::load_bytes(column)
+fn report(rt: &(impl Input + Print), column: &[u8], taken: usize, rows: Rows) -> io::Result<()> {
+    let loaded = match rows {
+        Rows::Bytes => table::load_bytes(column),
+        Rows::Quads => table::load_quads(column),
     };
-    let refusal = loaded.refusal;
-    let t = loaded.table;
     label(rt)?;
-    taken_or_not(rt, refusal)?;
+    taken_or_refused(rt, &loaded)?;
+    let t = loaded.unwrap_or(Table::ZERO);
     text(rt, b", rows read back")?;
-    number(rt, rows_right(t, taken, four))?;
+    number(rt, rows_right(&t, taken, rows))?;
     text(rt, b", row 1")?;
     number(rt, table::row_of(t, 1) as usize)?;
     text(rt, b", row 1024")?;
@@ -147,33 +151,30 @@ fn report(rt: &(impl Input + Print), column: &[u8], taken: usize, four: bool) ->
     text(rt, b"\n")
 }
 
-fn load_case(rt: &(impl Input + Print), len: usize, taken: usize, four: bool) -> io::Result<()> {
+fn load_case(rt: &(impl Input + Print), len: usize, taken: usize, rows: Rows) -> io::Result<()> {
     let mut column = [0u8; 4200];
     fill(&mut column);
     if len <= 4200 {
-        report(rt, &column[..len], taken, four)?;
+        report(rt, &column[..len], taken, rows)?;
     }
     Ok(())
 }
 
+// Columns of so many bytes, and how many of them are taken.
 fn loads(rt: &(impl Input + Print)) -> io::Result<()> {
     text(rt, b"one byte a row\n")?;
-    load_case(rt, 0, 0, false)?;
-    load_case(rt, 1, 1, false)?;
-    load_case(rt, 63, 63, false)?;
-    load_case(rt, 64, 64, false)?;
-    load_case(rt, 65, 65, false)?;
-    load_case(rt, 1023, 1023, false)?;
-    load_case(rt, 1024, 1024, false)?;
-    load_case(rt, 1025, 0, false)?;
+    for len in [0, 1, 63, 64, 65, 1023, 1024] {
+        load_case(rt, len, len, Rows::Bytes)?;
+    }
+    load_case(rt, 1025, 0, Rows::Bytes)?;
     text(rt, b"four bytes a row\n")?;
-    load_case(rt, 0, 0, true)?;
-    load_case(rt, 4, 4, true)?;
-    load_case(rt, 4092, 4092, true)?;
-    load_case(rt, 4096, 4096, true)?;
-    load_case(rt, 4097, 0, true)?;
-    load_case(rt, 4095, 0, true)?;
-    load_case(rt, 2, 0, true)
+    for len in [0, 4, 4092, 4096] {
+        load_case(rt, len, len, Rows::Quads)?;
+    }
+    for len in [4097, 4095, 2] {
+        load_case(rt, len, 0, Rows::Quads)?;
+    }
+    Ok(())
 }
 
 fn corners(rt: &(impl Input + Print), t: Table) -> io::Result<()> {
@@ -192,17 +193,13 @@ fn small() -> Table {
     let column = [
         5u8, 0, 0, 0, 3, 0, 0, 0, 5, 0, 0, 0, 4, 0, 0, 0, 255, 255, 255, 255, 3, 0, 0, 0,
     ];
-    let loaded = table::load_quads(&column);
-    loaded.table
+    table::load_quads(&column).unwrap_or(Table::ZERO)
 }
 
-// The rows 1 to 6.
-fn six() -> Slice {
-    let mut x = slice::clr();
-    for i in 1usize..=6 {
-        x = slice::put(x, i, true);
-    }
-    x
+// These rows.
+fn rows_at(rows: &[usize]) -> Slice {
+    rows.iter()
+        .fold(slice::clr(), |x, i| slice::put(x, *i, true))
 }
 
 // GREAT whole: the rows that it found greater, and those that it found equal.
@@ -239,20 +236,11 @@ fn counted(rt: &(impl Input + Print), m: Matched) -> io::Result<()> {
 fn counts(rt: &(impl Input + Print), t: Table, x: Slice) -> io::Result<()> {
     counted(rt, search::match_count(t, 5, slice::clr()))?;
     counted(rt, search::match_count(t, 5, x))?;
-    counted(
-        rt,
-        search::match_count(t, 3, slice::put(slice::clr(), 4, true)),
-    )?;
+    counted(rt, search::match_count(t, 3, rows_at(&[4])))?;
     counted(rt, search::match_count(t, 65541, x))?;
     counted(rt, search::match_count(t, 2147483653, x))?;
-    counted(
-        rt,
-        search::match_count(t, 0, slice::put(slice::clr(), 1000, true)),
-    )?;
-    counted(
-        rt,
-        search::match_count(t, 8, slice::put(slice::clr(), 1000, true)),
-    )
+    counted(rt, search::match_count(t, 0, rows_at(&[1000])))?;
+    counted(rt, search::match_count(t, 8, rows_at(&[1000])))
 }
 
 // All rows are selected, unloaded ones too.
@@ -272,19 +260,19 @@ fn operations(rt: &(impl Input + Print), x: Slice, y: Slice) -> io::Result<()> {
     summary(rt, slice::not(x))?;
     summary(rt, slice::set())?;
     show(rt, slice::clr())?;
-    value(rt, slice::some(x) as usize)?;
-    value(rt, slice::zero(x) as usize)?;
-    value(rt, slice::some(slice::clr()) as usize)?;
-    value(rt, slice::zero(slice::clr()) as usize)
+    value(rt, usize::from(slice::some(x)))?;
+    value(rt, usize::from(slice::zero(x)))?;
+    value(rt, usize::from(slice::some(slice::clr())))?;
+    value(rt, usize::from(slice::zero(slice::clr())))
 }
 
 fn places(rt: &(impl Input + Print), x: Slice) -> io::Result<()> {
-    value(rt, slice::get(slice::set(), 0) as usize)?;
-    value(rt, slice::get(slice::set(), 1025) as usize)?;
+    value(rt, usize::from(slice::get(slice::set(), 0)))?;
+    value(rt, usize::from(slice::get(slice::set(), 1025)))?;
     show(rt, slice::put(slice::put(x, 0, true), 1025, true))?;
     show(rt, slice::put(x, 2, false))?;
     value(rt, slice::fnd(slice::clr()))?;
-    value(rt, slice::fnd(slice::put(slice::clr(), 1024, true)))
+    value(rt, slice::fnd(rows_at(&[1024])))
 }
 
 // STEP: the position that it gives, and the components that are left in the slice.
@@ -299,7 +287,7 @@ fn stepped(rt: &(impl Input + Print), x: Slice) -> io::Result<()> {
 
 fn steps(rt: &(impl Input + Print), x: Slice) -> io::Result<()> {
     stepped(rt, x)?;
-    stepped(rt, slice::put(slice::clr(), 1024, true))?;
+    stepped(rt, rows_at(&[1024]))?;
     stepped(rt, slice::clr())
 }
 
@@ -307,16 +295,12 @@ fn main(rt: HostRuntime) -> io::Result<()> {
     let rt = &rt;
     loads(rt)?;
     let t = small();
-    let x = six();
+    let x = rows_at(&[1, 2, 3, 4, 5, 6]);
     corners(rt, t)?;
     text(rt, b"rows 1 to 6 selected\n")?;
     searches(rt, t, x)?;
     text(rt, b"rows 2 and 4 selected\n")?;
-    searches(
-        rt,
-        t,
-        slice::put(slice::put(slice::clr(), 2, true), 4, true),
-    )?;
+    searches(rt, t, rows_at(&[2, 4]))?;
     text(rt, b"no row selected\n")?;
     searches(rt, t, slice::clr())?;
     text(rt, b"every row selected\n")?;
@@ -324,11 +308,7 @@ fn main(rt: HostRuntime) -> io::Result<()> {
     text(rt, b"columns read by MATCH\n")?;
     counts(rt, t, x)?;
     text(rt, b"slices\n")?;
-    operations(
-        rt,
-        x,
-        slice::put(slice::put(slice::clr(), 3, true), 1024, true),
-    )?;
+    operations(rt, x, rows_at(&[3, 1024]))?;
     places(rt, x)?;
     steps(rt, x)
 }
