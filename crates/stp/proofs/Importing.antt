@@ -4,22 +4,19 @@ use Prim.Native.Nat.{ℕ, ◌*◌, ◌≤◌}
 use borrow.Author.Tests.{eq-eqb, ne_eqb, eqb-true, ltb-false}
 use lib.Dec.{eqb}
 use lib.ListN.{length, drop}
-use mathlib.Core.Bool.{Bool, true, false, not, cond, ◌||◌, false≢true}
+use mathlib.Core.Bool.{Bool, true, false, not, ◌||◌, false≢true}
 use mathlib.Core.List.{List, [], ◌∷◌, ◌++◌}
 use mathlib.Core.Logic.{◌≢◌}
 use mathlib.Core.Option.{Option, none, some}
 use mathlib.Core.Path.{◌≡◌, refl, sym, ◌∙◌}
-use native.Mathlib.Omega.{arith}
 use Rattle.refusal.specs.declared.Refusal.{Refusal}
 use Rattle.rowset.specs.Sets.{up_to, both}
 use Rattle.star_spec.specs.Call as call
 use Rattle.star_spec.specs.Call.{Call, call_of}
 use Rattle.star_spec.specs.Refusals.{max_rows, cause, bad_vertices, too_many_rows, bad_lengths, row_causes, table_causes, or_else, refusal}
 use Rattle.star_spec.proofs.Accepted.{none-head, none_tail, none-cons, none_both, none-nil, none-cause, cause-none, refusal-append}
-use Rattle.stp_spec.specs.Import.{table_of, bad_columns, bad_edges, import_causes, untaken, taken, sizes, answered, filled, columns_of}
+use Rattle.stp_spec.specs.Import.{table_of, bad_columns, bad_edges, import_causes, untaken, sizes, answered, filled}
 use Rattle.stp_spec.specs.Reader.{Read, Reading, broken, whole}
-use Rattle.stp_reader.specs.Readings.{finished}
-use Rattle.stp_reader.specs.declared.lines.Step.{Step}
 
 -- causes of which one applies decide before later ones
 refusal-first : (xs ys : List (Option Refusal)) (x : Refusal) → refusal xs ≡ some x → refusal (xs ++ ys) ≡ some x
@@ -94,68 +91,45 @@ module _ {R : Option Refusal} (column lent : List ℕ) where
   unfolding filled
   filled_none k h e = rw (← e, h)
 
-module _ (x : Step) (t : Read) (unbroken : x.broken ≡ false) where
-  pub whole-columns : columns_of (finished x t) ≡ t
-  unfolding finished columns_of
-  whole-columns = rw unbroken
-
-  pub whole-sizes : sizes (finished x t) ≡ taken t.nodes t.rows
-  unfolding finished sizes
-  whole-sizes = rw unbroken
-
 -- ── The causes in their order ──
 
-module _ (x : Step) (t : Read) (l r w : ℕ) where
-  pub broken-refused : x.broken ≡ true → some (record { number = 12; place = x.at }) ≡ refusal (import_causes (finished x t) l r w)
-  unfolding finished import_causes refusal or_else
-  broken-refused e = rw e
+-- 12 is the one cause of a text whose layout is broken
+pub broken-refused : (place l r w : ℕ) → some (record { number = 12; place = place }) ≡ refusal (import_causes (broken place) l r w)
+unfolding import_causes refusal or_else
+broken-refused place l r w = refl
 
-  module _ (unbroken : x.broken ≡ false) where
-    pub edges-refused : t.rows ≢ t.edges → some (record { number = 13; place = 0 }) ≡ refusal (import_causes (finished x t) l r w)
-    unfolding finished import_causes bad_edges cause refusal or_else
-    edges-refused d = rw (unbroken, ne_eqb _ _ d)
+module _ (t : Read) (l r w : ℕ) where
+  pub edges-refused : t.rows ≢ t.edges → some (record { number = 13; place = 0 }) ≡ refusal (import_causes (whole t) l r w)
+  unfolding import_causes bad_edges cause refusal or_else
+  edges-refused d = rw (ne_eqb _ _ d)
 
-    module _ (even : t.rows ≡ t.edges) where
-      -- causes 1 and 2, and then the others
-      causes : refusal (import_causes (finished x t) l r w) ≡ refusal ((bad_vertices t.nodes ∷ too_many_rows t.rows ∷ []) ++ (bad_columns l r w ∷ row_causes (table_of t)))
-      unfolding finished import_causes bad_edges
-      causes = rw unbroken (none-cons _ _ (none-cause _ 13 0 (rw (eq-eqb _ _ even))))
+  module _ (even : t.rows ≡ t.edges) where
+    -- causes 1 and 2, and then the others
+    causes : refusal (import_causes (whole t) l r w) ≡ refusal ((bad_vertices t.nodes ∷ too_many_rows t.rows ∷ []) ++ (bad_columns l r w ∷ row_causes (table_of t)))
+    unfolding import_causes bad_edges
+    causes = none-cons _ _ (none-cause _ 13 0 (rw (eq-eqb _ _ even)))
 
-      pub size-first : (y : Refusal) → some y ≡ refusal (bad_vertices t.nodes ∷ too_many_rows t.rows ∷ []) → some y ≡ refusal (import_causes (finished x t) l r w)
-      size-first y e = sym (causes ∙ refusal-first (bad_vertices t.nodes ∷ too_many_rows t.rows ∷ []) _ y (sym e))
+    pub size-first : (y : Refusal) → some y ≡ refusal (bad_vertices t.nodes ∷ too_many_rows t.rows ∷ []) → some y ≡ refusal (import_causes (whole t) l r w)
+    size-first y e = sym (causes ∙ refusal-first (bad_vertices t.nodes ∷ too_many_rows t.rows ∷ []) _ y (sym e))
 
-      pub size-taken : none ≡ refusal (bad_vertices t.nodes ∷ too_many_rows t.rows ∷ []) → refusal (bad_columns l r w ∷ row_causes (table_of t)) ≡ refusal (import_causes (finished x t) l r w)
-      size-taken e = sym (causes ∙ refusal-append (bad_vertices t.nodes ∷ too_many_rows t.rows ∷ []) _ (sym e))
+    pub size-taken : none ≡ refusal (bad_vertices t.nodes ∷ too_many_rows t.rows ∷ []) → refusal (bad_columns l r w ∷ row_causes (table_of t)) ≡ refusal (import_causes (whole t) l r w)
+    size-taken e = sym (causes ∙ refusal-append (bad_vertices t.nodes ∷ too_many_rows t.rows ∷ []) _ (sym e))
 
-  broken-clear : refusal (import_causes (broken x.at) l r w) ≡ none → ⊥
-  unfolding import_causes refusal or_else
-  broken-clear e = let z : ◌≡◌ {A = ℕ} 0 1 = cc in omega arith
-
-  -- a text that nothing refuses
+  -- a table that nothing refuses
   pub record Clear : Type 0 where
-    pub unbroken : x.broken ≡ false
     pub few : t.rows ≤ 1024
     pub left-length : l ≡ 1024
     pub right-length : r ≡ 1024
     pub weight-length : w ≡ 4096
 
-  clear_whole : x.broken ≡ false → refusal (import_causes (whole t) l r w) ≡ none → Clear
+  pub clear : none ≡ refusal (import_causes (whole t) l r w) → Clear
   unfolding import_causes too_many_rows
-  clear_whole q e =
-      let e₂ = none_tail (bad_vertices t.nodes) _ (none_tail (bad_edges t) _ e) in
+  clear e =
+      let e₂ = none_tail (bad_vertices t.nodes) _ (none_tail (bad_edges t) _ (sym e)) in
       let d = columns_of_lem l r w (none-head _ _ (none_tail _ _ e₂)) in
       record {
-        unbroken = q;
         few = ltb-false max_rows t.rows (cause-none _ 2 0 (none-head _ _ e₂));
         left-length = d.0;
         right-length = d.1;
         weight-length = d.2;
       }
-
-  pub clear : none ≡ refusal (import_causes (finished x t) l r w) → Clear
-  unfolding finished
-  clear e = go x.broken refl (sym e)
-    where
-      go : (b : Bool) → x.broken ≡ b → refusal (import_causes (cond b (broken x.at) (whole t)) l r w) ≡ none → Clear
-      go true q e = absurd (broken-clear e)
-      go false q e = clear_whole q e

@@ -1,9 +1,3 @@
-pub mod Reading
-pub mod Counts
 pub mod Rows
-pub mod Skips
-pub mod Graphs
-pub mod Loops
-pub mod Sections
-pub mod Texts
+pub mod Words
 pub mod Trials

@@ -1,4 +1,3 @@
 pub mod Readings
 pub mod Texts
 pub mod Trials
-pub mod Steps

@@ -1,301 +1,261 @@
-// The reader of a SteinLib STP text: its words become the columns of a table, or the place where the layout is broken. The section reader and the line reader
-// call each other, once a section, so that what they hand on is what a text of many sections costs in stack.
+// The reader of a SteinLib STP text: its words, one after the other, become the columns of a table, or the place where the layout is broken.
 
-#![tactic(auto)]
+#![tactic(auto, unfolding(crate::specs::Readings::read_of, crate::specs::Readings::stand_of, crate::specs::Readings::next_of, stp_spec::specs::Reader::next, stp_spec::specs::Reader::next_section, stp_spec::specs::Reader::named, stp_spec::specs::Reader::skip_line, stp_spec::specs::Reader::graph_line, stp_spec::specs::Reader::end_of, stp_spec::specs::Reader::when, stp_spec::specs::Reader::nothing_read, stp_spec::specs::Reader::with_graph, stp_spec::specs::Reader::with_nodes, stp_spec::specs::Reader::with_edges, stp_spec::specs::Reader::price_then, stp_words::specs::Answers::number_in, stp_words::specs::Answers::price_in, stp_spec::specs::Reader::number_then, stp_spec::specs::Reader::counted, stp_words::specs::Names::is, stp_words::specs::Bytes::bytes,))]
 
-ghost use Rattle.std.specs.Prelude.{true, false, cond, ◌&&◌, ◌||◌, [], ◌++◌, ◌≡◌, ◌-◌, ◌≤◌, ◌<◌, eqb, length, take, drop, replicate};
-ghost use Rattle.stp_spec.specs.Import.{max_text, read_text, columns_of};
-ghost use Rattle.stp_spec.specs.Reader.{Read, opening, sections, naming, closed, read_from};
-ghost use Rattle.stp_words.specs.Names.{same};
-ghost use Rattle.stp_words.specs.Text.{words, words_at};
-ghost use Rattle.stp_reader.specs.Readings.{Sized, read_of, rows_of, finished};
-ghost use Rattle.stp_reader.specs.Texts.{numbers_of, text_of};
-ghost use Rattle.stp_reader.specs.Steps.Sections.{headed};
-ghost use Rattle.stp_reader.specs.Steps.Reading.{resumed, line_stand, line_read};
+ghost use Rattle.std.specs.Prelude.{◌≡◌, ◌+◌, ◌*◌, ◌≤◌, ◌<◌, true, false, cond, ◌&&◌, ◌∷◌, [], ◌++◌, length, take, drop, IfOk, IfErr};
+ghost use Rattle.rowset.specs.Integers.{to_bits};
+ghost use Rattle.star_spec.specs.Door.{bytes_of};
+ghost use Rattle.stp_spec.specs.Import.{max_text, read_text};
+ghost use Rattle.stp_spec.specs.Reader.{Read, nothing_read, end_of, with_row, next, next_section, named, skip_line, graph_line};
+ghost use Rattle.stp_words.specs.Text.{Word};
+ghost use Rattle.stp_reader.specs.Readings.{Sized, Clean, read_of, stand_of, next_of, reading_of};
+ghost use Rattle.stp_reader.specs.Texts.{text_of};
 
-use lines::{FOUND, GRAPH, LINES, ROWS, Step, WEIGHT_BYTES};
-use stp_words::{Span, next_word, same};
-
-pub mod lines; // lines.rt: the lines of a section
+use stp_words::{next_word, number_of, price_of, same};
 
 // The longest text that is taken.
 const MAX_TEXT: usize = 65536;
 
-// A text that was read: how reading ended, the numbers found, and the columns, of which the rows found are the text's.
+// The rows that a column has, and the bytes of a column of weights.
+pub const ROWS: usize = 1024;
+
+pub const WEIGHT_BYTES: usize = 4096;
+
+// What is read so far: whether a Graph has begun, what Nodes and Edges say, the number of E lines, and the columns of their rows. Past the rows the columns are 0;
+// rows past the last one of the columns are counted only.
 #[derive(Clone, Copy)]
-pub struct Text {
-    pub step: Step,
-    pub found: [u32; FOUND],
+pub struct Table {
+    pub graph: bool,
+    pub nodes: u32,
+    pub edges: u32,
+    pub rows: u32,
     pub left: [u8; ROWS],
     pub right: [u8; ROWS],
     pub weight: [u8; WEIGHT_BYTES],
 }
 
-// A line between sections: where it opens a section, the step is at the end of the section's name, and `graph` says that the name is Graph;
-// where it does not, the step says how reading ends.
+// Where the reader stands after the first word of a text, as in the definition of the layout: a number or a price that comes next, for one, or the first word of a line of Graph.
 #[derive(Clone, Copy)]
-struct Heading {
-    begun: bool,
-    graph: bool,
-    step: Step,
+enum Stand {
+    Heading,
+    Sections,
+    Naming,
+    Skipping,
+    Skipped,
+    Ending,
+    Nodes,
+    NodeCount,
+    Edges,
+    EdgeCount,
+    Lines,
+    LeftEnd,
+    RightEnd(u32),
+    Price(u32, u32),
+    Closed,
 }
 
-// A line that opens no section.
-fn unopened(step: Step) -> Heading
-    ensures { result ≡ record { begun = false; graph = false; step = step } }
+// An end as it is stored: 0 where it is above 255.
+fn end_of(v: u32) -> u8
+    ensures { result ≡ end_of v }
 {
-    Heading {
-        begun: false,
-        graph: false,
-        step: step,
-    }
+    if v <= 255 { v as u8 } else { 0 }
 }
 
-// Whether the word is the first of its line and is the name.
-fn opens_line(text: &[u8], w: Span, name: &[u8]) -> bool
-    requires { (w.from ≤ w.to) × (w.to ≤ length text.now) }
-    ensures { result ≡ (w.first && same (take (w.to - w.from) (drop w.from text.now)) name.now) }
+// The bytes of a row are stored from an index of a column on; past the last row nothing is.
+fn store(column: &mut [u8], at: usize, bytes: &[u8])
+    requires { (at < 1048576) × (length bytes.now < 1048576) }
+    ensures stored { at + length bytes.now ≤ length column.old → column.new ≡ take at column.old ++ (bytes.now ++ drop (at + length bytes.now) column.old) }
+    ensures kept { length column.old < at + length bytes.now → column.new ≡ column.old }
 {
-    let from = w.from;
-    let to = w.to;
-    w.first && same(&text[from..to], name)
+    let end = at + bytes.len();
+    if end <= column.len() {
+        column[at..end].copy_from_slice(bytes);
+    }
 }
 
-// After EOF: no word may follow.
-fn close(text: &[u8], at: usize) -> Step
-    requires { at ≤ length text.now }
-    ensures false_value { (r : Read) → read_from (length text.now) closed r (words_at text.now at false) ≡ finished result r }
-    ensures further { (at ≤ result.at) × (result.at ≤ length text.now) }
+// The first word of a line in a section that is skipped.
+fn skip_line(word: &[u8]) -> Stand
+    ensures { (w : Word) → w.letters ≡ word.now → stand_of result ≡ skip_line w }
 {
-    let w = next_word(text, at, false);
-    Step {
-        broken: w.from < w.to,
-        at: w.from,
+    if same(word, b"END") {
+        Stand::Ending
+    } else {
+        Stand::Skipped
     }
 }
 
-// Whether no name stands on the line: no word is left, or the next is the first of a line.
-fn unnamed(w: Span) -> bool
-    ensures { result ≡ (w.first || eqb w.from w.to) }
+// The first word of a line of Graph after Nodes and Edges.
+fn graph_line(word: &[u8]) -> Option<Stand>
+    ensures { (w : Word) (r : Read) → w.letters ≡ word.now → next_of result r ≡ graph_line r w }
 {
-    w.first || w.from == w.to
+    if same(word, b"E") {
+        return Some(Stand::LeftEnd);
+    }
+    if same(word, b"END") {
+        return Some(Stand::Sections);
+    }
+    None
 }
 
-// Whether a Graph is named once more.
-fn again(graph: bool, seen: bool) -> bool
-    ensures { result ≡ (graph && seen) }
-{
-    graph && seen
-}
+impl Table {
+    // Nothing is read.
+    fn new() -> Table
+        ensures reads { (read_of result ≡ nothing_read) × (result.rows ≡ 0) }
+        ensures clean { Clean result }
+    {
+        Table {
+            graph: false,
+            nodes: 0,
+            edges: 0,
+            rows: 0,
+            left: [0; ROWS],
+            right: [0; ROWS],
+            weight: [0; WEIGHT_BYTES],
+        }
+    }
 
-// After SECTION: the section's name.
-fn section_name(text: &[u8], at: usize, seen: bool) -> Heading
-    requires { at ≤ length text.now }
-    ensures false_value { (r : Read) → r.graph ≡ seen → read_from (length text.now) naming r (words_at text.now at false) ≡ headed text.now result r }
-    ensures further { (at ≤ result.step.at) × (result.step.at ≤ length text.now) }
-{
-    let w = next_word(text, at, false);
-    let from = w.from;
-    let to = w.to;
-    let no = unopened(lines::broken(from));
-    if unnamed(w) {
-        return no;
+    // One row more.
+    fn add_row(&mut self, left: u32, right: u32, price: i32)
+        requires few { self.old.rows < 65536 }
+        requires clean { Clean self.old }
+        ensures row { read_of self.new ≡ with_row (read_of self.old) left right (to_bits 32 price) }
+        ensures count { self.new.rows ≡ self.old.rows + 1 }
+        ensures clean { Clean self.new }
+    {
+        let row = self.rows as usize;
+        store(&mut self.left, row, &[end_of(left)]);
+        store(&mut self.right, row, &[end_of(right)]);
+        store(
+            &mut self.weight,
+            4 * row,
+            &price.cast_unsigned().to_le_bytes(),
+        );
+        self.rows += 1;
     }
-    let graph = same(&text[from..to], b"Graph");
-    if again(graph, seen) {
-        return no;
-    }
-    Heading {
-        begun: true,
-        graph: graph,
-        step: Step {
-            broken: false,
-            at: to,
-        },
-    }
-}
 
-// A line between sections: SECTION and a name, or EOF once a Graph has been read.
-fn open_section(text: &[u8], at: usize, seen: bool) -> Heading
-    requires { at ≤ length text.now }
-    ensures false_value { (r : Read) → r.graph ≡ seen → read_from (length text.now) sections r (words_at text.now at false) ≡ headed text.now result r }
-    ensures further { (at ≤ result.step.at) × (result.step.at ≤ length text.now) × (result.begun ≡ true → at < result.step.at) }
-{
-    let w = next_word(text, at, false);
-    if opens_line(text, w, b"SECTION") {
-        return section_name(text, w.to, seen);
+    // The first word of a line between sections: SECTION, or EOF once a Graph has been read.
+    fn next_section(&self, word: &[u8]) -> Option<Stand>
+        ensures { (w : Word) → w.letters ≡ word.now → next_of result (read_of self.now) ≡ next_section (read_of self.now) w }
+    {
+        if same(word, b"SECTION") {
+            return Some(Stand::Naming);
+        }
+        if self.graph && same(word, b"EOF") {
+            return Some(Stand::Closed);
+        }
+        None
     }
-    if seen && opens_line(text, w, b"EOF") {
-        return unopened(close(text, w.to));
-    }
-    unopened(lines::broken(w.from))
-}
 
-// The section reader: where a line opens a section, it hands on to the line reader.
-#[cycle(read_lines_read_sections)]
-fn read_sections(
-    text: &[u8],
-    at: usize,
-    found: &mut [u32; FOUND],
-    left: &mut [u8; ROWS],
-    right: &mut [u8; ROWS],
-    weight: &mut [u8; WEIGHT_BYTES],
-) -> Step
-    requires at_in_bounds { (at ≤ length text.now) × (length text.now ≤ max_text) × (rows_of found.old ≤ at) }
-    requires sized { Sized found.old left.old right.old weight.old }
-    ensures false_value { read_from (length text.now) sections (read_of found.old left.old right.old weight.old) (words_at text.now at false) ≡ finished result (read_of found.new left.new right.new weight.new) }
-    ensures further { result.at ≤ length text.now }
-    ensures sized { Sized found.new left.new right.new weight.new }
-{
-    let seen = found[GRAPH] == 1;
-    let heading = open_section(text, at, seen);
-    let step = heading.step;
-    if !heading.begun {
-        return step;
+    // The name of a section, of which one alone is Graph.
+    fn named(&mut self, word: &[u8]) -> Option<Stand>
+        requires clean { Clean self.old }
+        ensures leads { (w : Word) → w.letters ≡ word.now → next_of result (read_of self.new) ≡ named (read_of self.old) w }
+        ensures count { self.new.rows ≡ self.old.rows }
+        ensures clean { Clean self.new }
+    {
+        if !same(word, b"Graph") {
+            return Some(Stand::Skipping);
+        }
+        if self.graph {
+            return None;
+        }
+        self.graph = true;
+        Some(Stand::Nodes)
     }
-    read_lines(text, step.at, heading.graph, found, left, right, weight)
-}
 
-// The lines of a section: of Graph, or of one that is skipped.
-fn section_lines(
-    text: &[u8],
-    at: usize,
-    graph: bool,
-    found: &mut [u32; FOUND],
-    left: &mut [u8; ROWS],
-    right: &mut [u8; ROWS],
-    weight: &mut [u8; WEIGHT_BYTES],
-) -> Step
-    requires at_in_bounds { (at ≤ length text.now) × (length text.now ≤ max_text) × (rows_of found.old ≤ at) }
-    requires sized { Sized found.old left.old right.old weight.old }
-    ensures false_value { read_from (length text.now) (line_stand graph) (line_read graph (read_of found.old left.old right.old weight.old)) (words_at text.now at false) ≡ resumed text.now sections result (read_of found.new left.new right.new weight.new) }
-    ensures further { (at ≤ result.at) × (result.at ≤ length text.now) × (rows_of found.new ≤ result.at) }
-    ensures sized { Sized found.new left.new right.new weight.new }
-{
-    if graph {
-        return lines::graph_lines(text, at, found, left, right, weight);
+    // Where the reader stands after the first word of a line, if the word can stand.
+    fn next_line(&self, stand: Stand, word: &[u8]) -> Option<Stand>
+        ensures { (w : Word) → w.first ≡ true → w.letters ≡ word.now → next_of result (read_of self.now) ≡ next (stand_of stand) (read_of self.now) w }
+    {
+        match stand {
+            Stand::Heading | Stand::Sections | Stand::Ending => self.next_section(word),
+            Stand::Skipping | Stand::Skipped => Some(skip_line(word)),
+            Stand::Nodes => same(word, b"Nodes").then_some(Stand::NodeCount),
+            Stand::Edges => same(word, b"Edges").then_some(Stand::EdgeCount),
+            Stand::Lines => graph_line(word),
+            _ => None,
+        }
     }
-    lines::skip_lines(text, at)
-}
 
-// The line reader: the lines of a section up to its END, which hands back to the section reader.
-#[cycle(read_lines_read_sections)]
-fn read_lines(
-    text: &[u8],
-    at: usize,
-    graph: bool,
-    found: &mut [u32; FOUND],
-    left: &mut [u8; ROWS],
-    right: &mut [u8; ROWS],
-    weight: &mut [u8; WEIGHT_BYTES],
-) -> Step
-    requires at_in_bounds { (at ≤ length text.now) × (length text.now ≤ max_text) × (rows_of found.old ≤ at) }
-    requires sized { Sized found.old left.old right.old weight.old }
-    ensures false_value { read_from (length text.now) (line_stand graph) (line_read graph (read_of found.old left.old right.old weight.old)) (words_at text.now at false) ≡ finished result (read_of found.new left.new right.new weight.new) }
-    ensures further { result.at ≤ length text.now }
-    ensures sized { Sized found.new left.new right.new weight.new }
-{
-    let step = section_lines(text, at, graph, found, left, right, weight);
-    if step.broken {
-        return step;
+    // Where the reader stands after a later word of a line, if the word can stand; the table then has what the word says.
+    fn next_in_line(&mut self, stand: Stand, word: &[u8]) -> Option<Stand>
+        requires few { self.old.rows < 65536 }
+        requires clean { Clean self.old }
+        ensures leads { (w : Word) → w.first ≡ false → w.letters ≡ word.now → next_of result (read_of self.new) ≡ next (stand_of stand) (read_of self.old) w }
+        ensures count { self.new.rows ≤ self.old.rows + 1 }
+        ensures clean { Clean self.new }
+    {
+        match stand {
+            Stand::Heading => Some(Stand::Heading),
+            Stand::Naming => self.named(word),
+            Stand::Skipped | Stand::Ending => Some(Stand::Skipped),
+            Stand::NodeCount => {
+                self.nodes = number_of(word)?;
+                Some(Stand::Edges)
+            }
+            Stand::EdgeCount => {
+                self.edges = number_of(word)?;
+                Some(Stand::Lines)
+            }
+            Stand::LeftEnd => {
+                let left = number_of(word)?;
+                Some(Stand::RightEnd(left))
+            }
+            Stand::RightEnd(left) => {
+                let right = number_of(word)?;
+                Some(Stand::Price(left, right))
+            }
+            Stand::Price(left, right) => {
+                let price = price_of(word)?;
+                self.add_row(left, right, price);
+                Some(Stand::Lines)
+            }
+            _ => None,
+        }
     }
-    read_sections(text, step.at, found, left, right, weight)
-}
 
-// The first line, which opens with the word 33D32945.
-fn read_heading(text: &[u8]) -> Step
-    ensures text_value { (r : Read) → read_from (length text.now) opening r (words text.now) ≡ resumed text.now sections result r }
-    ensures further { result.at ≤ length text.now }
-{
-    let w = next_word(text, 0, true);
-    let from = w.from;
-    let to = w.to;
-    if !same(&text[from..to], b"33D32945") {
-        return lines::broken(from);
-    }
-    Step {
-        broken: false,
-        at: lines::skip_heading(text, to),
+    // Where the reader stands after a word, if the word can stand.
+    fn next(&mut self, stand: Stand, first: bool, word: &[u8]) -> Option<Stand>
+        requires few { self.old.rows < 65536 }
+        requires clean { Clean self.old }
+        ensures leads { (w : Word) → w.first ≡ first → w.letters ≡ word.now → next_of result (read_of self.new) ≡ next (stand_of stand) (read_of self.old) w }
+        ensures count { self.new.rows ≤ self.old.rows + 1 }
+        ensures clean { Clean self.new }
+    {
+        if first {
+            self.next_line(stand, word)
+        } else {
+            self.next_in_line(stand, word)
+        }
     }
 }
 
-// The text into columns of zeros.
-fn read_text(
-    text: &[u8],
-    found: &mut [u32; FOUND],
-    left: &mut [u8; ROWS],
-    right: &mut [u8; ROWS],
-    weight: &mut [u8; WEIGHT_BYTES],
-) -> Step
-    requires { (found.old ≡ replicate 4 0) × Sized found.old left.old right.old weight.old }
-    ensures text_value { read_text text.now ≡ finished result (read_of found.new left.new right.new weight.new) }
-    ensures further { result.at ≤ max_text }
-    ensures sized { Sized found.new left.new right.new weight.new }
+// The whole text: the table that it holds, or the place where its layout is broken.
+pub fn read(text: &[u8]) -> Result<Table, usize>
+    ensures value { result ≡ text_of (read_text text.now) }
+    ensures kept { read_text text.now ≡ reading_of result }
+    ensures place { IfErr result (λ p. p ≤ max_text) }
+    ensures sized { IfOk result (λ t. Sized t.left t.right t.weight) }
 {
     if MAX_TEXT < text.len() {
-        return lines::broken(MAX_TEXT);
+        return Err(MAX_TEXT);
     }
-    let step = read_heading(text);
-    if step.broken {
-        return step;
+    let opening = next_word(text, 0, true);
+    if !same(&text[opening.from..opening.to], b"33D32945") {
+        return Err(opening.from);
     }
-    read_sections(text, step.at, found, left, right, weight)
-}
-
-// The numbers of a text: the first is 1 or 0, and all are 0 where the text is broken.
-fn numbers(step: Step, found: [u32; FOUND]) -> [u32; FOUND]
-    requires { length found ≡ 4 }
-    ensures { result ≡ numbers_of (columns_of (finished step (read_of found [] [] []))) }
-{
-    if step.broken {
-        return [0u32; FOUND];
+    let mut table = Table::new();
+    let mut stand = Stand::Heading;
+    let mut word = next_word(text, opening.to, false);
+    while word.from < word.to {
+        let Some(after) = table.next(stand, word.first, &text[word.from..word.to]) else {
+            return Err(word.from);
+        };
+        stand = after;
+        word = next_word(text, word.to, false);
     }
-    let mut own = found;
-    own[GRAPH] = (found[GRAPH] == 1) as u32;
-    own
-}
-
-// The place where a text is broken, and 0 where it is not.
-fn place(step: Step) -> usize
-    ensures { result ≡ cond step.broken step.at 0 }
-{
-    if step.broken { step.at } else { 0 }
-}
-
-// The bytes of a column from an index on become 0.
-fn clear_from(column: &mut [u8], from: usize)
-    ensures { column.new ≡ take from column.old ++ replicate (length column.old - from) 0 }
-{
-    for k in from..column.len() {
-        column[k] = 0;
-    }
-}
-
-// The whole text: how reading ends, and the numbers and rows that were read, with zeros past them; a broken text has zeros alone.
-pub fn read(text: &[u8]) -> Text
-    ensures value { result ≡ text_of (read_text text.now) }
-    ensures kept { read_text text.now ≡ finished result.step (read_of result.found result.left result.right result.weight) }
-    ensures further { result.step.at ≤ max_text }
-    ensures sized { Sized result.found result.left result.right result.weight }
-{
-    let mut found = [0u32; FOUND];
-    let mut left = [0u8; ROWS];
-    let mut right = [0u8; ROWS];
-    let mut weight = [0u8; WEIGHT_BYTES];
-    let step = read_text(text, &mut found, &mut left, &mut right, &mut weight);
-    let own = numbers(step, found);
-    let rows = own[LINES] as usize;
-    clear_from(&mut left, rows);
-    clear_from(&mut right, rows);
-    clear_from(&mut weight, 4 * rows);
-    Text {
-        step: Step {
-            broken: step.broken,
-            at: place(step),
-        },
-        found: own,
-        left: left,
-        right: right,
-        weight: weight,
+    match stand {
+        Stand::Closed => Ok(table),
+        _ => Err(text.len()),
     }
 }

@@ -9,13 +9,13 @@ use native.Mathlib.Omega.{arith}
 use Rattle.refusal.specs.Outcomes.{refusal_of}
 use Rattle.star_spec.proofs.Accepted.{none-cons}
 use Rattle.stp_spec.specs.Import.{table_of}
-use Rattle.stp_reader.specs.Readings.{read_of, rows_of}
+use Rattle.stp_reader.specs.Readings.{read_of}
 use Rattle.stp.proofs.Importing.{few-rows, table-rows, columns-right, columns-first}
 use Rattle.stp.proofs.rows_check.Goals as goal
 use Rattle.stp.proofs.rows_check.Goals.{Start}
 
 -- there are at most 1,024 rows, so each part is inside its column
-rows : (c : Start) → rows_of c.args.found ≤ 1024
+rows : (c : Start) → c.args.table.now.rows ≤ 1024
 rows c =
     few-rows _ _ c.requires.0
 
@@ -28,21 +28,8 @@ returns-then-l-ne-ROWS c =
 pub overflow_mul-end : goal.overflow_mul-end
 overflow_mul-end c = let few = rows (goal.at.overflow_mul-end c).Start in record { fits = omega arith }
 
-pub slice_bounds-table_check-end : goal.slice_bounds-table_check-end
-slice_bounds-table_check-end c =
-    let few = rows (goal.at.slice_bounds-table_check-end c).Start in let p = c.requires.1 in sym (length-take-le _ _ (omega arith))
-
-pub slice_bounds-table_check-end-2 : goal.slice_bounds-table_check-end-2
-slice_bounds-table_check-end-2 c =
-    let few = rows (goal.at.slice_bounds-table_check-end-2 c).Start in let p = c.requires.1 in sym (length-take-le _ _ (omega arith))
-
-pub slice_bounds-table_check-end-3 : goal.slice_bounds-table_check-end-3
-slice_bounds-table_check-end-3 c =
-    let few = rows (goal.at.slice_bounds-table_check-end-3 c).Start in let p = c.requires.1 in sym (length-take-le _ _ (omega arith))
-
-pub slice_bounds-table_check-end-4 : goal.slice_bounds-table_check-end-4
-slice_bounds-table_check-end-4 c =
-    let few = rows (goal.at.slice_bounds-table_check-end-4 c).Start in let p = c.requires.1 in sym (length-take-le _ _ (omega arith))
+pub shared_ref_as_front-table_check : goal.shared_ref_as_front-table_check
+shared_ref_as_front-table_check c = rows (goal.at.shared_ref_as_front-table_check c).Start
 
 pub returns : goal.returns
 unfolding table_of read_of
@@ -50,5 +37,5 @@ returns c =
     let p = c.requires in
     let few = few-rows _ _ p.0 in
     c.table_check.ensures
-    ∙ table-rows _ _ p.0 _ _ _ (length-take-le _ _ (omega arith)) (length-take-le _ _ (omega arith)) (length-take-le _ _ (omega arith)) _ c.rows_to-rows.ensures
+    ∙ table-rows _ _ p.0 _ _ _ (length-take-le _ _ (omega arith)) (length-take-le _ _ (omega arith)) (length-take-le _ _ (omega arith)) _ c.rows_to.ensures
     ∙ sym (none-cons _ _ (columns-right _ _ _ c.if-l-ne-ROWS.false c.if-r-ne-ROWS.false c.if-w-ne-WEIGHT_BYTES.false))
