@@ -5,20 +5,8 @@ use Rattle.slice.proofs.Stores.{filled_none, filled_more, filled-all}
 use Rattle.table_loads.proofs.Gathering.{in-column, block-whole}
 use Rattle.table_loads.proofs.part.Goals as goal
 
-pub overflow_mul-left : goal.overflow_mul-left
-overflow_mul-left c = omega (arith, c.requires.0.most)
-
 pub loop-g-init : goal.loop-g-init
 loop-g-init c = (record { most = omega arith; inside = omega arith; ended = λ l. omega arith }, filled_none refl)
-
-pub overflow_mul-q : goal.overflow_mul-q
-overflow_mul-q c = omega (arith, c.requires.0.most)
-
-pub overflow_add-q : goal.overflow_add-q
-overflow_add-q c = omega (arith, c.requires.0.most)
-
-pub overflow_add-left : goal.overflow_add-left
-overflow_add-left c = omega (arith, c.loop-g.invariant.0.most)
 
 pub block-requires : goal.block-requires
 block-requires c =

@@ -9,12 +9,6 @@ use Rattle.table_loads.proofs.whole.Goals as goal
 pub loop-g-init : goal.loop-g-init
 loop-g-init c = filled_none refl
 
-pub overflow_mul-q : goal.overflow_mul-q
-overflow_mul-q c = omega (arith, c.requires.0.most)
-
-pub overflow_add-q : goal.overflow_add-q
-overflow_add-q c = omega (arith, c.requires.0.most)
-
 pub block-requires : goal.block-requires
 block-requires c =
     let p = c.requires in (
