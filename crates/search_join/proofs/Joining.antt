@@ -1,18 +1,18 @@
--- MATCH joined to a slice in place: words copied into words of 0 have the rows of those words (copied_all); words joined with or tell whether there is a row (Joined);
+-- MATCH joined to a slice in place: words copied over words of 0 have the rows of those words (copied); words joined with or tell whether there is a row (Joined);
 -- and the rows that come are those that equal w (found), none where w is too large for the columns (found_none). Assumes nothing.
 use Prim.Native.Nat.{ℕ, zero, suc, ◌+◌, ◌-◌, ◌*◌, ◌/◌, ◌%◌, ◌^◌, ◌≤◌, ◌<◌}
-use native.Mathlib.Decide.{ℕ_discrete, dec_le, dec_lt}
+use native.Mathlib.Decide.{dec_le, dec_lt}
 use native.Mathlib.Nat.{eq-or-lt_of_le}
 use native.Mathlib.Omega.{arith}
 use mathlib.Core.Bool.{Bool, true, false, cond, ◌&&◌, or-false, and-false, and-eq-true_iff}
-use mathlib.Core.List.{List}
+use mathlib.Core.List.{List, ◌++◌}
 use mathlib.Core.Logic.{⊎_elim, by_cases}
 use mathlib.Core.Path.{◌≡◌, refl, sym, ap, ap₂, ◌∙◌, fun_ext}
 use lib.Bits.{bit_or, or_zero_l, or_add_and, and_le_l, and_le_r}
 use lib.Count.{count_trailing_zeros}
 use lib.Dec.{eqb, ltb}
-use lib.ListN.{length, get_or, set, length-set}
-use lib.Seq.{get_or-set_same, get_or-set_other}
+use lib.ListN.{length, get_or, take, drop, replicate, length-take}
+use Rattle.std.proofs.lemmas.List.{get_or_append_left, get_or-append_right, get_or-take, get_or-drop, get_or-replicate}
 use borrow.Author.Tests.{eqb-true, eqb-false, le-leb, lt-leb, le-ltb, lt-ltb}
 use Rattle.rowset.specs.Columns.{in_columns}
 use Rattle.rowset.specs.Counts.{equal_right, read_within}
@@ -33,37 +33,22 @@ use Rattle.search_columns.specs.Steps.Rows.{rows_of, NonePast}
 use Rattle.search_join.specs.Steps.Ends.{ends_in, first_words, words_taken, words_for, EachEnd}
 use Rattle.search_match.proofs.Counts.{Right, right-more, right-from}
 
--- the words of l from index k on and before `used` stand in r, and those from `used` on are the words of z
-pub record Copied (z l r : List ℕ) (used k : ℕ) : Type 0 where
-  pub most : k ≤ used
-  pub full : length r ≡ 16
-  pub done : (p : ℕ) → k ≤ p → p < used → get_or r p 0 ≡ get_or l p 0
-  pub rest : (p : ℕ) → used ≤ p → get_or r p 0 ≡ get_or z p 0
-
-module _ (z l : List ℕ) (used : ℕ) where
-  pub copied_none : length z ≡ 16 → Copied z l z used used
-  copied_none h = record { most = omega arith; full = h; done = λ p a b. absurd (omega arith); rest = λ p a. refl }
-
-  pub copied_more : (r : List ℕ) (k : ℕ) → 0 < k → used ≤ 16 → Copied z l r used k → Copied z l (set r (k - 1) (get_or l (k - 1) 0)) used (k - 1)
-  copied_more r k some few m =
-      record {
-        most = omega (arith, m.most);
-        full = length-set r (k - 1) _ ∙ m.full;
-        done = λ p a b. by_cases (ℕ_discrete p (k - 1)) (λ e. rw e (get_or-set_same r (k - 1) _ 0 (omega (arith, m.full, m.most)))) (λ o. get_or-set_other r (k - 1) p _ 0 o ∙ m.done p (omega (arith, o)) b);
-        rest = λ p a. get_or-set_other r (k - 1) p _ 0 (λ e. omega (arith, m.most)) ∙ m.rest p a;
-      }
-
-  -- copied over words of 0: the rows of the first words
-  pub copied_all : (r : List ℕ) (k : ℕ) → k ≤ 0 → used ≤ 16 → rows_of z ≡ empty → Copied z l r used k → rows_of r ≡ first_words used (rows_of l)
-  unfolding both empty
-  copied_all r k h few none m =
-      component-ext (record { words = r }) (first_words used (rows_of l)) (λ i e. rw (component-outside (record { words = l }) i e, and-false))
-      (λ n j hn hj.
-      by_cases (dec_lt n used)
-      (λ q. ap (λ (w : ℕ). bit w j) (m.done n (omega arith) q) ∙ sym (rw (up_to-inside (64 * used) (64 * n + j + 1) (omega arith) (omega arith)) (component-at (record { words = l }) n j hn hj)))
-      (λ o.
-      ap (λ (w : ℕ). bit w j) (m.rest n (omega arith)) ∙ sym (component-at (record { words = z }) n j hn hj) ∙ ap (λ (Z : ℕ → Bool). Z (64 * n + j + 1)) none
-      ∙ sym (rw (up_to-above (64 * used) (64 * n + j + 1) (omega arith)))))
+-- the first n words of r, copied over words of 0, have the rows of those words
+pub copied : (n : ℕ) (s r : List ℕ) → n ≤ 16 → length r ≡ 16 → s ≡ take n r → rows_of (s ++ drop n (replicate 16 0)) ≡ first_words n (rows_of r)
+unfolding both
+copied n s r few full e =
+    component-ext (record { words = s ++ drop n (replicate 16 0) }) (first_words n (rows_of r)) (λ i o. rw (component-outside (record { words = r }) i o, and-false))
+    (λ p j hp hj.
+    by_cases (dec_lt p n)
+    (λ q.
+    ap (λ (w : ℕ). bit w j) (get_or_append_left s _ 0 p (omega (arith, long)) ∙ ap (λ (l : List ℕ). get_or l p 0) e ∙ get_or-take n r p 0 q)
+    ∙ sym (rw (up_to-inside (64 * n) (64 * p + j + 1) (omega arith) (omega arith)) (component-at (record { words = r }) p j hp hj)))
+    (λ o.
+    ap (λ (w : ℕ). bit w j) (get_or-append_right s _ n p 0 long (omega arith) ∙ get_or-drop n (replicate 16 0) (p - n) 0 ∙ get_or-replicate 16 (n + (p - n)) 0 0 (omega arith))
+    ∙ bit-of-zero j ∙ sym (rw (up_to-above (64 * n) (64 * p + j + 1) (omega arith)))))
+  where
+    long : length s ≡ n
+    long = ap length e ∙ simp length-take (omega arith)
 
 -- what the first k words, joined with or, say of the rows l
 pub record Joined (l : List ℕ) (w k : ℕ) : Type 0 where

@@ -54,17 +54,6 @@ fn none_in<const N: usize>(z: &[u64; COLUMN]) -> bool
     joined == 0
 }
 
-// Words of 0 get the rows of the first N words. The last comes first, so that the copies of one, four and sixteen words begin with different ones: where they begin with the same the compiler joins them, and no longer works on two words at once.
-fn copy_words<const N: usize>(z: &mut [u64; COLUMN], rows: &[u64; COLUMN])
-    requires { (rows_of z.old ≡ empty) × (N ≤ 16) }
-    ensures rows { rows_of z.new ≡ first_words N (rows_of rows.now) }
-    ensures size { length z.new ≡ 16 }
-{
-    for k in (0..N).rev() {
-        z[k] = rows[k];
-    }
-}
-
 // The rows of z, which has none past its first N words, come to those of x.
 fn put_words<const N: usize>(x: &mut [u64; COLUMN], z: &[u64; COLUMN])
     requires { (N ≤ 16) × NonePast N (rows_of z.now) }
@@ -121,7 +110,7 @@ fn join<const N: usize>(
     ensures read { result ≡ read_within (width - first) size (matrix_column columns.now) w (first_words N (rows_of rows.now)) }
 {
     let mut z = [0u64; COLUMN];
-    copy_words::<N>(&mut z, rows);
+    z[..N].copy_from_slice(&rows[..N]);
     let read = narrow::<N>(&mut z, columns, first, w);
     put_words::<N>(x, &z);
     read
