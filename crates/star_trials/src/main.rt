@@ -4,273 +4,240 @@
 
 #![tactic(auto)]
 
-ghost use Rattle.std.specs.Prelude.{◌≤◌, length};
+ghost use Rattle.std.specs.Prelude.{◌≤◌, ◌+◌, length};
 
-use cst::{Checked, Pass, Verdict};
+use cst::{Checked, Exchange, Pass, Verdict};
 use in_use::InUse;
-use mst1::Built;
-use refusal::{Outcome, Refusal};
+use refusal::Refusal;
 use slice::Slice;
 use std::io;
 
-// A number that was read, and where reading goes on.
+// The procedure that a trial asks for.
 #[derive(Clone, Copy)]
-struct Parsed {
-    value: u32,
-    next: usize,
+enum Procedure {
+    Cst,
+    Mst1,
+    MatrixPath,
+    Other,
 }
 
-fn text(rt: &impl Print, s: &[u8]) -> io::Result<()> {
-    rt.write_all(s)
-}
-
-fn number(rt: &impl Print, x: u64) -> io::Result<()> {
-    print!(rt; "{x}")
-}
-
-// The integer that 64 bits stand for.
-fn integer(rt: &impl Print, x: u64) -> io::Result<()> {
-    if 9223372036854775808 <= x {
-        text(rt, b"-")?;
-        return number(rt, 18446744073709551615 - x + 1);
+impl Procedure {
+    // By its number in a trial; any other number is CST.
+    fn numbered(number: u32) -> Procedure {
+        match number {
+            2 => Procedure::Mst1,
+            3 => Procedure::MatrixPath,
+            4 => Procedure::Other,
+            _ => Procedure::Cst,
+        }
     }
-    number(rt, x)
+}
+
+// A trial's text, and the place from which on it is read.
+#[derive(Clone, Copy)]
+struct Trials<'a> {
+    text: &'a [u8],
+    at: usize,
 }
 
 fn refused(rt: &impl Print, r: Refusal) -> io::Result<()> {
-    text(rt, b"refused ")?;
-    number(rt, r.number as u64)?;
-    text(rt, b", place ")?;
-    number(rt, r.place as u64)?;
-    text(rt, b"\n")
+    println!(rt; "refused {}, place {}", r.number, r.place)
 }
 
-fn lighter(rt: &impl Print, x: cst::Exchange) -> io::Result<()> {
-    text(rt, b"lighter, out ")?;
-    number(rt, x.out as u64)?;
-    text(rt, b", in ")?;
-    number(rt, x.into as u64)?;
-    text(rt, b", saving ")?;
-    number(rt, x.saving as u64)?;
-    text(rt, b"\n")
+fn lighter(rt: &impl Print, x: Exchange) -> io::Result<()> {
+    println!(rt;
+        "lighter, out {}, in {}, saving {}",
+        x.out, x.into, x.saving
+    )
 }
 
 fn passed(rt: &impl Print, x: Pass) -> io::Result<()> {
-    text(rt, b"passed, ")?;
-    integer(rt, x.weight)?;
-    if x.only {
-        text(rt, b", yes\n")
-    } else {
-        text(rt, b", no\n")
-    }
+    let only = if x.only { "yes" } else { "no" };
+    println!(rt; "passed, {}, {only}", x.weight.cast_signed())
 }
 
 fn verdict(rt: &impl Print, v: Verdict) -> io::Result<()> {
     match v {
         Verdict::Passed(x) => passed(rt, x),
         Verdict::Lighter(x) => lighter(rt, x),
-        Verdict::Refused(r) => refused(rt, r),
     }
 }
 
-// A verdict, and the rows of the exchange beside it.
-fn checked(rt: &impl Print, x: Checked) -> io::Result<()> {
-    let v = x.verdict;
-    verdict(rt, v)?;
-    text(rt, b"    another tree: out ")?;
-    number(rt, x.out as u64)?;
-    text(rt, b", in ")?;
-    number(rt, x.into as u64)?;
-    text(rt, b"\n")
+// CST's answer, and where it is asked for the rows of the exchange beside it.
+fn checked(rt: &impl Print, answer: Result<Checked, Refusal>, other: bool) -> io::Result<()> {
+    let (out, into) = match answer {
+        Ok(x) => {
+            verdict(rt, x.verdict)?;
+            (x.out, x.into)
+        }
+        Err(r) => {
+            refused(rt, r)?;
+            (0, 0)
+        }
+    };
+    if other {
+        println!(rt; "    another tree: out {out}, in {into}")?;
+    }
+    Ok(())
 }
 
 // The marked rows of a claim, each after a blank.
 fn rows(rt: &impl Print, mark: &[u8]) -> io::Result<()> {
-    for i in 0usize..mark.len() {
-        if mark[i] == 1 {
-            text(rt, b" ")?;
-            number(rt, (i + 1) as u64)?;
+    for (i, &byte) in mark.iter().enumerate() {
+        if byte == 1 {
+            print!(rt; " {}", i + 1)?;
         }
     }
     Ok(())
 }
 
 // The weight of a tree that was built, and its rows where the table has at most 16.
-fn tree(rt: &impl Print, weight: u64, mark: &[u8]) -> io::Result<()> {
-    text(rt, b"tree of weight ")?;
-    integer(rt, weight)?;
+fn built(rt: &impl Print, answer: Result<u64, Refusal>, mark: &[u8]) -> io::Result<()> {
+    let weight = match answer {
+        Ok(weight) => weight,
+        Err(r) => return refused(rt, r),
+    };
+    print!(rt; "tree of weight {}", weight.cast_signed())?;
     if mark.len() <= 16 {
-        text(rt, b", rows")?;
+        print!(rt; ", rows")?;
         rows(rt, mark)?;
     }
-    text(rt, b"\n")
-}
-
-fn built(rt: &impl Print, b: Built, mark: &[u8]) -> io::Result<()> {
-    match b {
-        Built::Tree(weight) => tree(rt, weight, mark),
-        Built::Refused(r) => refused(rt, r),
-    }
+    println!(rt; "")
 }
 
 // The positions of a slice, each after a blank.
 fn positions(rt: &impl Print, x: Slice) -> io::Result<()> {
     let mut rest = x;
-    let mut left: usize = 1024;
-    while 0 < left {
-        let s = slice::step_value(rest);
-        let at = s.at;
+    for _ in 0..slice::SIZE {
+        let at = slice::step(&mut rest);
         if at == 0 {
             return Ok(());
         }
-        text(rt, b" ")?;
-        number(rt, at as u64)?;
-        rest = s.slice;
-        left -= 1;
+        print!(rt; " {at}")?;
     }
     Ok(())
 }
 
 // The columns of a path matrix.
 fn columns(rt: &impl Print, matrix: &[u64], n: usize) -> io::Result<()> {
-    for j in 0usize..n {
-        text(rt, b" {")?;
+    for j in 0..n {
+        print!(rt; " {{")?;
         positions(rt, path_matrix::read_column(matrix, j + 1))?;
-        text(rt, b" }")?;
+        print!(rt; " }}")?;
     }
-    text(rt, b"\n")
+    println!(rt; "")
 }
 
-// How many words of R are 7, as they were beforehand.
-fn sevens(matrix: &[u64]) -> usize {
-    let mut k: usize = 0;
-    for i in 0usize..matrix.len() {
-        if matrix[i] == 7 {
-            k += 1;
-        }
-    }
-    k
-}
-
-fn filled(rt: &impl Print, answer: Outcome, matrix: &[u64], n: u32) -> io::Result<()> {
+// MatrixPath's answer, its columns, and how many words of R are 7, as they were beforehand.
+fn filled(rt: &impl Print, answer: Result<(), Refusal>, matrix: &[u64], n: u32) -> io::Result<()> {
     match answer {
-        Outcome::Done => {
-            text(rt, b"columns")?;
+        Ok(()) => {
+            print!(rt; "columns")?;
             columns(rt, matrix, (n % 256) as usize)?;
         }
-        Outcome::Refused(r) => refused(rt, r)?,
+        Err(r) => refused(rt, r)?,
     }
-    text(rt, b"    words as they were: ")?;
-    number(rt, sevens(matrix) as u64)?;
-    text(rt, b"\n")
+    let sevens = matrix.iter().filter(|&&word| word == 7).count();
+    println!(rt; "    words as they were: {sevens}")
 }
 
-// The place of the next digit.
-fn digit_from(s: &[u8], from: usize) -> usize {
-    let mut at = from;
-    while at < s.len() {
-        let b = s[at];
-        if b'0' <= b {
-            if b <= b'9' {
-                return at;
-            }
-        }
-        at += 1;
-    }
-    at
-}
-
-// The value of a digit, 10 for any other byte.
-fn digit(b: u8) -> u64
-    ensures { result ≤ 10 }
-{
-    if b < b'0' {
-        return 10;
-    }
-    if b'9' < b {
-        return 10;
-    }
-    (b - b'0') as u64
-}
-
-// The number whose first digit is at a place.
-fn number_from(s: &[u8], from: usize) -> Parsed {
-    let mut value: u64 = 0;
-    let mut at = from;
-    while at < s.len() {
-        let d = digit(s[at]);
-        if d == 10 {
-            break;
-        }
-        value = (value * 10 + d) % 4294967296;
-        at += 1;
-    }
-    Parsed {
-        value: (value % 4294967296) as u32,
-        next: at,
+// The value of a digit, none for any other byte.
+fn digit(b: u8) -> Option<u32> {
+    if b.is_ascii_digit() {
+        Some((b - b'0') as u32)
+    } else {
+        None
     }
 }
 
-fn read(s: &[u8], from: usize) -> Parsed {
-    number_from(s, digit_from(s, from))
-}
-
-fn least(a: usize, b: usize) -> usize
-    ensures { (result ≤ a) × (result ≤ b) }
-{
-    if a < b { a } else { b }
-}
-
-// A column that was read: the number of its entries, and where reading goes on.
-#[derive(Clone, Copy)]
-struct Column {
-    count: usize,
-    next: usize,
-}
-
-// Reads a column of bytes into the room lent for it.
-fn bytes(s: &[u8], from: usize, room: &mut [u8]) -> Column
-    ensures { result.count ≤ length room.new }
-{
-    let head = read(s, from);
-    let count = least(head.value as usize, room.len());
-    let mut at = head.next;
-    for i in 0usize..count {
-        let r = read(s, at);
-        room[i] = (r.value % 256) as u8;
-        at = r.next;
-    }
-    Column { count, next: at }
-}
-
-// Stores the four bytes of a price, where there is room.
-fn store(room: &mut [u8], row: usize, p: u32) {
-    if row < 100000 {
-        let at = 4 * row;
-        if at + 3 < room.len() {
-            room[at] = (p % 256) as u8;
-            room[at + 1] = (p / 256 % 256) as u8;
-            room[at + 2] = (p / 65536 % 256) as u8;
-            room[at + 3] = (p / 16777216 % 256) as u8;
+// The place of the first digit from a place on, the end where there is none.
+fn digit_from(text: &[u8], from: usize) -> usize {
+    for at in from..text.len() {
+        if digit(text[at]).is_some() {
+            return at;
         }
     }
+    from.max(text.len())
 }
 
-// Reads a column of prices, and answers the number of bytes that they take.
-fn prices(s: &[u8], from: usize, room: &mut [u8]) -> Column
-    ensures { result.count ≤ length room.new }
-{
-    let head = read(s, from);
-    let count = least(head.value as usize, room.len() / 4);
-    let mut at = head.next;
-    for i in 0usize..count {
-        let r = read(s, at);
-        store(room, i, r.value);
-        at = r.next;
+// The number whose first digit is at a place, and where it ends.
+fn number_from(text: &[u8], from: usize) -> (u32, usize) {
+    let mut value: u32 = 0;
+    for at in from..text.len() {
+        let Some(d) = digit(text[at]) else {
+            return (value, at);
+        };
+        value = value.wrapping_mul(10).wrapping_add(d);
     }
-    Column {
-        count: 4 * count,
-        next: at,
+    (value, from.max(text.len()))
+}
+
+// The place of the first colon from a place on, the end where there is none.
+fn colon_from(text: &[u8], from: usize) -> usize {
+    for at in from..text.len() {
+        if text[at] == b':' {
+            return at;
+        }
+    }
+    from.max(text.len())
+}
+
+// The place of the first byte above a blank from a place on, the end where there is none.
+fn word_from(text: &[u8], from: usize) -> usize {
+    for at in from..text.len() {
+        if b' ' < text[at] {
+            return at;
+        }
+    }
+    from.max(text.len())
+}
+
+impl<'a> Trials<'a> {
+    // The next number.
+    fn number(&mut self) -> u32 {
+        let (value, at) = number_from(self.text, digit_from(self.text, self.at));
+        self.at = at;
+        value
+    }
+
+    // Reads a column of bytes into the room lent for it: the number of its entries.
+    fn bytes(&mut self, room: &mut [u8]) -> usize
+        ensures { result ≤ length room.new }
+    {
+        let count = room.len().min(self.number() as usize);
+        for i in 0..count {
+            room[i] = (self.number() % 256) as u8;
+        }
+        count
+    }
+
+    // Reads a column of prices: the number of bytes that they take.
+    fn prices(&mut self, room: &mut [u8]) -> usize
+        ensures { result ≤ length room.new }
+    {
+        let count = (room.len() / 4).min(self.number() as usize);
+        for i in 0..count {
+            room[4 * i..4 * i + 4].copy_from_slice(&self.number().to_le_bytes());
+        }
+        4 * count
+    }
+
+    // Prints the bytes up to a colon, and the colon.
+    fn name(&mut self, rt: &impl Print) -> io::Result<()> {
+        let from = self.at;
+        let at = colon_from(self.text, from);
+        self.at = at;
+        if let Some(bytes) = self.text.get(from..at) {
+            rt.write_all(bytes)?;
+        }
+        print!(rt; ": ")
+    }
+
+    // Whether a byte above a blank is left, where reading goes on.
+    fn more(&mut self) -> bool {
+        let at = word_from(self.text, self.at);
+        self.at = at;
+        at < self.text.len()
     }
 }
 
@@ -300,13 +267,8 @@ fn check(
     mark: &[u8],
     other: bool,
 ) -> io::Result<()> {
-    let x = cst::cst(n, InUse::plain(left.len()), left, right, weight, mark);
-    if other {
-        checked(rt, x)
-    } else {
-        let v = x.verdict;
-        verdict(rt, v)
-    }
+    let answer = cst::cst(n, InUse::plain(left.len()), left, right, weight, mark);
+    checked(rt, answer, other)
 }
 
 fn build(
@@ -317,106 +279,43 @@ fn build(
     weight: &[u8],
     mark: &mut [u8],
 ) -> io::Result<()> {
-    let b = mst1::mst1(n, InUse::plain(left.len()), left, right, weight, mark);
-    built(rt, b, mark)
+    let answer = mst1::mst1(n, InUse::plain(left.len()), left, right, weight, mark);
+    built(rt, answer, mark)
 }
 
-// Reads the columns of a trial and runs it; answers where the next begins.
-fn trial(
-    rt: &impl Print,
-    s: &[u8],
-    from: usize,
-    kind: u32,
-    n: u32,
-    source: u32,
-) -> io::Result<usize> {
+// Reads the numbers and the columns of a trial and runs it.
+fn trial(rt: &impl Print, trials: &mut Trials<'_>) -> io::Result<()> {
+    let procedure = Procedure::numbered(trials.number());
+    let n = trials.number();
+    let source = trials.number();
     let mut left = [0u8; 1100];
     let mut right = [0u8; 1100];
     let mut weight = [0u8; 4400];
     let mut mark = [0u8; 1100];
-    let a = bytes(s, from, &mut left);
-    let b = bytes(s, a.next, &mut right);
-    let w = prices(s, b.next, &mut weight);
-    let m = bytes(s, w.next, &mut mark);
-    let i = a.count;
-    let j = b.count;
-    let k = w.count;
-    let l = m.count;
-    if kind == 2 {
-        build(rt, n, &left[..i], &right[..j], &weight[..k], &mut mark[..l])?;
-    } else if kind == 3 {
-        walk(
-            rt,
-            n,
-            &left[..i],
-            &right[..j],
-            &weight[..k],
-            &mark[..l],
-            source,
-        )?;
-    } else {
-        check(
-            rt,
-            n,
-            &left[..i],
-            &right[..j],
-            &weight[..k],
-            &mark[..l],
-            kind == 4,
-        )?;
+    let i = trials.bytes(&mut left);
+    let j = trials.bytes(&mut right);
+    let k = trials.prices(&mut weight);
+    let l = trials.bytes(&mut mark);
+    let (left, right, weight, mark) = (&left[..i], &right[..j], &weight[..k], &mut mark[..l]);
+    match procedure {
+        Procedure::Mst1 => build(rt, n, left, right, weight, mark),
+        Procedure::MatrixPath => walk(rt, n, left, right, weight, mark, source),
+        Procedure::Cst => check(rt, n, left, right, weight, mark, false),
+        Procedure::Other => check(rt, n, left, right, weight, mark, true),
     }
-    Ok(m.next)
 }
 
-// The procedure, n and s, and then the columns.
-fn numbers(rt: &impl Print, s: &[u8], from: usize) -> io::Result<usize> {
-    let kind = read(s, from);
-    let n = read(s, kind.next);
-    let source = read(s, n.next);
-    trial(rt, s, source.next, kind.value, n.value, source.value)
-}
-
-// Prints the bytes from a place up to a colon, and the colon; answers the place of the colon.
-fn name(rt: &impl Print, s: &[u8], from: usize) -> io::Result<usize> {
-    let mut at = from;
-    while at < s.len() {
-        if s[at] == b':' {
-            break;
-        }
-        at += 1;
-    }
-    if from <= at {
-        if at <= s.len() {
-            text(rt, &s[from..at])?;
-        }
-    }
-    text(rt, b": ")?;
-    Ok(at)
-}
-
-fn trials(rt: &impl Print, s: &[u8]) -> io::Result<()> {
-    let mut at: usize = 0;
-    for k in 0usize..1000 {
-        let next = digit_or_letter(s, at);
-        if s.len() <= next {
+// All trials of a text, a thousand at most.
+fn run(rt: &impl Print, text: &[u8]) -> io::Result<()> {
+    let mut trials = Trials { text, at: 0 };
+    for _ in 0..1000 {
+        if !trials.more() {
             return Ok(());
         }
-        let colon = name(rt, s, next)?;
-        at = numbers(rt, s, colon)?;
+        trials.name(rt)?;
+        trial(rt, &mut trials)?;
     }
     Ok(())
-}
-
-// The place of the next byte above a blank.
-fn digit_or_letter(s: &[u8], from: usize) -> usize {
-    let mut at = from;
-    while at < s.len() {
-        if b' ' < s[at] {
-            return at;
-        }
-        at += 1;
-    }
-    at
 }
 
 fn main(rt: HostRuntime) -> io::Result<()> {
@@ -426,5 +325,5 @@ fn main(rt: HostRuntime) -> io::Result<()> {
         return Err(error);
     }
     let n = got.size;
-    trials(&rt, &buffer[..n])
+    run(&rt, &buffer[..n])
 }
