@@ -14,17 +14,12 @@ use decimal::{put_byte, put_integer, put_natural, put_price, put_text};
 use refusal::Refusal;
 use slice::Slice;
 
-// The bytes LF and space.
-const LINE_END: u8 = 10;
-
-const SPACE: u8 = 32;
-
 // A number and the space after it.
 fn put_spaced(out: &mut [u8], at: usize, x: u64) -> usize
     ensures { Puts out.old at (spaced x) out.new result }
 {
     let next = put_natural(out, at, x);
-    put_byte(out, next, SPACE)
+    put_byte(out, next, b' ')
 }
 
 // The line of row i: position, left, right, weight.
@@ -38,7 +33,7 @@ fn put_row(out: &mut [u8], at: usize, left: &[u8], right: &[u8], weight: &[u8], 
     let second = put_spaced(out, first, l);
     let third = put_spaced(out, second, r);
     let last = put_price(out, third, w);
-    put_byte(out, last, LINE_END)
+    put_byte(out, last, b'\n')
 }
 
 // The line of row i where a slice has it, and nothing where it has not.
@@ -72,10 +67,8 @@ fn put_rows(
     ensures { Puts out.old 0 (row_lines (row_line left.now right.now weight.now) m (component rows)) out.new result }
 {
     let mut next = 0;
-    let mut i = 0;
-    while i < m {
-        i += 1;
-        next = put_chosen(out, next, left, right, weight, rows, i);
+    for i in 0..m {
+        next = put_chosen(out, next, left, right, weight, rows, i + 1);
     }
     next
 }
@@ -86,7 +79,7 @@ fn put_total(out: &mut [u8], at: usize, bits: u64) -> usize
 {
     let word = put_text(out, at, b"Total ");
     let number = put_integer(out, word, bits);
-    put_byte(out, number, LINE_END)
+    put_byte(out, number, b'\n')
 }
 
 // The list of a slice of rows, of those among the first m: their lines, and the line of their total.
@@ -112,5 +105,5 @@ pub fn put_refused(out: &mut [u8], r: Refusal) -> usize
     let word = put_text(out, 0, b"Refused ");
     let number = put_spaced(out, word, r.number as u64);
     let place = put_natural(out, number, r.place as u64);
-    put_byte(out, place, LINE_END)
+    put_byte(out, place, b'\n')
 }
