@@ -18,11 +18,7 @@ use Rattle.mst1.proofs.Answers.{loaded-weights, loaded-graph, tree-inside}
 use Rattle.mst1.proofs.Answers as answers
 use Rattle.mst1.specs.Steps.Growth.{loaded_graph, Grows}
 use Rattle.digs.specs.Lists.{Lists}
-use Rattle.digs.specs.declared.Listed.{Listed}
-use Rattle.digs.specs.declared.Listed.TheVariants as lists
 use Rattle.refusal.specs.Outcomes.{refusal_of}
-use Rattle.refusal.specs.declared.Outcome.{Outcome}
-use Rattle.refusal.specs.declared.Outcome.TheVariants.{Done, Refused}
 use Rattle.refusal.specs.declared.Refusal.{Refusal}
 use Rattle.rowset.proofs.Integers.{total-cut}
 use Rattle.rowset.proofs.Laws.{both-subset}
@@ -39,9 +35,8 @@ use Rattle.stp_spec.proofs.Accepted.{import-holds}
 use Rattle.stp_spec.specs.Accepted.{ImportTaken}
 use Rattle.stp_spec.specs.Import.{ImportAnswer, untaken, taken as imports, imported, left_after, right_after, weight_after}
 use Rattle.stp.specs.Answers.{answer_of}
-use Rattle.stp.specs.declared.Imported.{Imported}
-use Rattle.stp.specs.declared.Imported.TheVariants as stp
 use Rattle.stp.specs.declared.Sizes.{Sizes}
+use Rattle.std.specs.Prelude.{Result, Ok, Err, ⊤}
 use Rattle.table.specs.Loads.{loaded_row}
 
 listing-text : {a b : List ℕ} → listing a ≡ listing b → a ≡ b
@@ -51,12 +46,12 @@ listing-text q = cc
 
 module _ (c : Call) where
   -- a table that the checks refuse
-  pub table-refused : {o : Outcome} {r : Refusal} → refusal_of o ≡ refusal (table_causes c) → o ≡ Refused r → table_list c ≡ unlisted r
+  pub table-refused : {o : Result ⊤ Refusal} {r : Refusal} → refusal_of o ≡ refusal (table_causes c) → o ≡ Err r → table_list c ≡ unlisted r
   unfolding table_list built_list
   table-refused e q = rw (← (answers.table-refused c e q).0) refl
 
   -- a table that they accept
-  module _ {o : Outcome} (checked : refusal_of o ≡ refusal (table_causes c)) (done : o ≡ Done) where
+  module _ {o : Result ⊤ Refusal} (checked : refusal_of o ≡ refusal (table_causes c)) (done : o ≡ Ok tt) where
     accepted : Accepted c
     unfolding refusal_of
     accepted = sym checked ∙ ap refusal_of done
@@ -135,11 +130,11 @@ module _ (c : Call) where
 -- ── Texts ──
 
 -- the import's answer by its cases
-pub taken-answer : (a : Imported) (s : Sizes) (x : ImportAnswer) → a ≡ stp.Taken s → answer_of a ≡ x → imports s.n s.m ≡ x
+pub taken-answer : (a : Result Sizes Refusal) (s : Sizes) (x : ImportAnswer) → a ≡ Ok s → answer_of a ≡ x → imports s.n s.m ≡ x
 unfolding answer_of
 taken-answer a s x h e = rw h at e
 
-pub untaken-answer : (a : Imported) (r : Refusal) (x : ImportAnswer) → a ≡ stp.Refused r → answer_of a ≡ x → untaken r ≡ x
+pub untaken-answer : (a : Result Sizes Refusal) (r : Refusal) (x : ImportAnswer) → a ≡ Err r → answer_of a ≡ x → untaken r ≡ x
 unfolding answer_of
 untaken-answer a r x h e = rw h at e
 
@@ -170,20 +165,20 @@ refused-text text r e = rw (← e) refl
 
 -- ── What is printed ──
 
-module _ (a : ListAnswer) {out after : List ℕ} (l : Listed) (h : Lists a out after l) where
-  pub listed-printed : (k : ℕ) → l ≡ lists.Text k → Prints out after k (printed a)
+module _ (a : ListAnswer) {out after : List ℕ} (l : Result ℕ Refusal) (h : Lists a out after l) where
+  pub listed-printed : (k : ℕ) → l ≡ Ok k → Prints out after k (printed a)
   unfolding Lists printed
   listed-printed k e = let (text, q, p) = rw e at h in rw q p
 
-  pub refusal-printed : (r : Refusal) → l ≡ lists.Refused r → {later : List ℕ} {k : ℕ} → Prints after later k (refused_line r) → Prints out later k (printed a)
+  pub refusal-printed : (r : Refusal) → l ≡ Err r → {later : List ℕ} {k : ℕ} → Prints after later k (refused_line r) → Prints out later k (printed a)
   unfolding Lists printed
   refusal-printed r e p = let (q, same) = rw e at h in rw q (rw same at p)
 
 -- the exit status that goes with it
-pub listed-status : (a : ListAnswer) (out after : List ℕ) (l : Listed) → Lists a out after l → (k : ℕ) → l ≡ lists.Text k → 0 ≡ exit_status a
+pub listed-status : (a : ListAnswer) (out after : List ℕ) (l : Result ℕ Refusal) → Lists a out after l → (k : ℕ) → l ≡ Ok k → 0 ≡ exit_status a
 unfolding Lists exit_status
 listed-status a out after l h k e = let (text, q, p) = rw e at h in rw q refl
 
-pub refusal-status : (a : ListAnswer) (out after : List ℕ) (l : Listed) → Lists a out after l → (r : Refusal) → l ≡ lists.Refused r → 1 ≡ exit_status a
+pub refusal-status : (a : ListAnswer) (out after : List ℕ) (l : Result ℕ Refusal) → Lists a out after l → (r : Refusal) → l ≡ Err r → 1 ≡ exit_status a
 unfolding Lists exit_status
 refusal-status a out after l h r e = let (q, same) = rw e at h in rw q refl

@@ -11,8 +11,8 @@ ghost use Rattle.in_use.specs.Tables.{table_in};
 ghost use Rattle.star_spec.specs.Call.{call_of};
 
 use in_use::InUse;
-use refusal::{Outcome, Refusal};
-use stp::{Imported, Sizes};
+use refusal::{Cause, Refusal};
+use stp::Sizes;
 
 // The bytes that the longest list takes: 254 lines of 25 bytes, and 20 for the total.
 pub const LIST_BYTES: usize = 6370;
@@ -22,14 +22,7 @@ const ROWS: usize = 1024;
 
 const WEIGHT_BYTES: usize = 4096;
 
-// What is listed: the length of the text, or the refusal.
-#[derive(Clone, Copy)]
-pub enum Listed {
-    Text(usize),
-    Refused(Refusal),
-}
-
-// The list over a table of either kind. No mark column is taken; the left column stands in its place.
+// The list over a table of either kind, its length or the refusal. No mark column is taken; the left column stands in its place.
 pub fn table_list(
     n: u32,
     table: InUse,
@@ -37,11 +30,11 @@ pub fn table_list(
     right: &[u8],
     weight: &[u8],
     out: &mut [u8],
-) -> Listed
+) -> Result<usize, Refusal>
     ensures { let c = table_in n table left.now right.now weight.now left.now in
         Lists (table_list c) out.old out.new result }
 {
-    if let Outcome::Refused(refusal) = table_checks::table_check(
+    table_checks::table_check(
         n,
         table.m,
         table.whole,
@@ -50,22 +43,21 @@ pub fn table_list(
         right,
         weight,
         left,
-    ) {
-        return Listed::Refused(refusal);
-    }
-    let tree = mst1::tree_of(n, table.m, table.rows, left, right, weight);
-    if !tree.whole {
-        return Listed::Refused(Refusal {
-            number: 11,
-            place: 0,
-        });
-    }
-    let size = digs_lines::put_list(out, table.m, left, right, weight, tree.chosen);
-    Listed::Text(size)
+    )?;
+    let Some(tree) = mst1::tree_of(n, table.m, table.rows, left, right, weight) else {
+        return Err(Refusal::of(Cause::NoNetwork as u32));
+    };
+    Ok(digs_lines::put_list(out, table.m, left, right, weight, tree))
 }
 
 // The list of the table that an import wrote into columns of 1,024 rows.
-fn imported_list(s: Sizes, left: &[u8], right: &[u8], weight: &[u8], out: &mut [u8]) -> Listed
+fn imported_list(
+    s: Sizes,
+    left: &[u8],
+    right: &[u8],
+    weight: &[u8],
+    out: &mut [u8],
+) -> Result<usize, Refusal>
     requires { (s.m ≤ 1024) × (length left.now ≡ 1024) × (length right.now ≡ 1024) × (length weight.now ≡ 4096) }
     ensures { let c = call_of s.n (take s.m left.now) (take s.m right.now) (take (4 * s.m) weight.now) (take s.m left.now) in
         Lists (table_list c) out.old out.new result }
@@ -83,17 +75,14 @@ fn imported_list(s: Sizes, left: &[u8], right: &[u8], weight: &[u8], out: &mut [
 }
 
 // The list of an STP text's table, or the refusal of the import or of MST1.
-pub fn text_list(text: &[u8], out: &mut [u8]) -> Listed
+pub fn text_list(text: &[u8], out: &mut [u8]) -> Result<usize, Refusal>
     ensures { Lists (text_list text.now) out.old out.new result }
 {
     let mut left = [0u8; ROWS];
     let mut right = [0u8; ROWS];
     let mut weight = [0u8; WEIGHT_BYTES];
-    let answer = stp::import(text, &mut left, &mut right, &mut weight);
-    match answer {
-        Imported::Taken(s) => imported_list(s, &left, &right, &weight, out),
-        Imported::Refused(r) => Listed::Refused(r),
-    }
+    let sizes = stp::import(text, &mut left, &mut right, &mut weight)?;
+    imported_list(sizes, &left, &right, &weight, out)
 }
 
 // A page to print: the number of its bytes, and the exit status of a program that prints it, 0 for a list and 1 for a refusal.
@@ -108,14 +97,10 @@ pub fn print_text(text: &[u8], out: &mut [u8]) -> Page
     ensures printed { Prints out.old out.new result.size (printed (text_list text.now)) }
     ensures status { (result.status ≡ exit_status (text_list text.now)) × (result.status ≤ 1) }
 {
-    let list = text_list(text, out);
-    match list {
-        Listed::Text(size) => Page {
-            size: size,
-            status: 0,
-        },
-        Listed::Refused(r) => Page {
-            size: digs_lines::put_refused(out, r),
+    match text_list(text, out) {
+        Ok(size) => Page { size, status: 0 },
+        Err(refusal) => Page {
+            size: digs_lines::put_refused(out, refusal),
             status: 1,
         },
     }

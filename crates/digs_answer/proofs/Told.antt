@@ -13,8 +13,8 @@ use Rattle.digs_lines.specs.Prints.{Prints}
 use Rattle.digs_spec.specs.DigList.{ListAnswer, unlisted, listing}
 use Rattle.digs_spec.specs.Door.{list_fields, text_fields, lent_both, list_returns, list_answered, with_list, list_text}
 use Rattle.digs.specs.Lists.{Lists}
-use Rattle.digs.specs.declared.Listed.{Listed}
-use Rattle.digs.specs.declared.Listed.TheVariants.{Text, Refused}
+use Rattle.refusal.specs.declared.Refusal.{Refusal}
+use Rattle.std.specs.Prelude.{Result, Ok, Err}
 use Rattle.rowset.proofs.Signed.{natural-bits}
 use Rattle.rowset.specs.Integers.{from_bits}
 use Rattle.star_spec.specs.Door.{Fields, well_lent, field_bytes, answer_after}
@@ -46,30 +46,30 @@ module _ (text answer : List ℕ) where
     length-bits : {size : ℕ} {list : List ℕ} → Prints text after size list → from_bits 64 size ≡ pos (length list)
     length-bits p = ap (from_bits 64) (p.size_of room) ∙ natural-bits 63 _ (omega (arith, p.short))
 
-    as-listed : (l : Listed) → Lists a text after l → after ≡ with_list a text
+    as-listed : (l : Result ℕ Refusal) → Lists a text after l → after ≡ with_list a text
     unfolding Lists with_list
-    as-listed (Text size) (list, e, p) = rw e (p.behind room)
-    as-listed (Refused r) (e, same) = rw e same
+    as-listed (Ok size) (list, e, p) = rw e (p.behind room)
+    as-listed (Err r) (e, same) = rw e same
 
-    table-fields : (l : Listed) → Lists a text after l → table_fields l ≡ list_fields a
+    table-fields : (l : Result ℕ Refusal) → Lists a text after l → table_fields l ≡ list_fields a
     unfolding Lists table_fields list_fields
-    table-fields (Text size) (list, e, p) = rw (e, length-bits p) refl
-    table-fields (Refused r) (e, same) = rw e refl
+    table-fields (Ok size) (list, e, p) = rw (e, length-bits p) refl
+    table-fields (Err r) (e, same) = rw e refl
 
-    stp-fields : (l : Listed) → Lists a text after l → stp_fields l ≡ text_fields a
+    stp-fields : (l : Result ℕ Refusal) → Lists a text after l → stp_fields l ≡ text_fields a
     unfolding Lists stp_fields text_fields
-    stp-fields (Text size) (list, e, p) = rw (e, length-bits p) refl
-    stp-fields (Refused r) (e, same) = rw e refl
+    stp-fields (Ok size) (list, e, p) = rw (e, length-bits p) refl
+    stp-fields (Err r) (e, same) = rw e refl
 
-    told : {written : List ℕ} (f g : Fields) (l : Listed) → Lists a text after l → written ≡ answer_after answer f → f ≡ g
+    told : {written : List ℕ} (f g : Fields) (l : Result ℕ Refusal) → Lists a text after l → written ≡ answer_after answer f → f ≡ g
         → (1 ≡ list_returns text answer) × ((written ≡ list_answered text answer g) × (after ≡ list_text a text answer))
     unfolding list_returns list_answered list_text answer_after
     told f g l p w e = rw lent (refl, ((rw (h, e) at w), as-listed l p))
 
-    pub table-told : {written : List ℕ} {f : Fields} (l : Listed) → Lists a text after l → written ≡ answer_after answer f → f ≡ table_fields l
+    pub table-told : {written : List ℕ} {f : Fields} (l : Result ℕ Refusal) → Lists a text after l → written ≡ answer_after answer f → f ≡ table_fields l
         → (1 ≡ list_returns text answer) × ((written ≡ list_answered text answer (list_fields a)) × (after ≡ list_text a text answer))
     table-told l p w e = told _ _ l p w (e ∙ table-fields l p)
 
-    pub stp-told : {written : List ℕ} {f : Fields} (l : Listed) → Lists a text after l → written ≡ answer_after answer f → f ≡ stp_fields l
+    pub stp-told : {written : List ℕ} {f : Fields} (l : Result ℕ Refusal) → Lists a text after l → written ≡ answer_after answer f → f ≡ stp_fields l
         → (1 ≡ list_returns text answer) × ((written ≡ list_answered text answer (text_fields a)) × (after ≡ list_text a text answer))
     stp-told l p w e = told _ _ l p w (e ∙ stp-fields l p)

@@ -7,14 +7,14 @@ ghost use Rattle.answer.specs.Records.{fields_of};
 ghost use Rattle.digs_answer.specs.Steps.Fields.{table_fields, stp_fields};
 
 use answer::{Record, of_refusal};
-use digs::Listed;
+use refusal::Refusal;
 
 // The fields of a table's list: its length stands where a verdict has its weight.
-pub fn of_list(l: Listed) -> Record
-    ensures { fields_of result ≡ table_fields l }
+pub fn of_list(list: Result<usize, Refusal>) -> Record
+    ensures { fields_of result ≡ table_fields list }
 {
-    match l {
-        Listed::Text(size) => Record {
+    match list {
+        Ok(size) => Record {
             kind: 1,
             number: 0,
             out: 0,
@@ -22,16 +22,16 @@ pub fn of_list(l: Listed) -> Record
             only: 0,
             amount: size as u64,
         },
-        Listed::Refused(r) => of_refusal(r),
+        Err(refusal) => of_refusal(refusal),
     }
 }
 
 // The fields of a text's list: a refusal's place stands there too.
-pub fn of_text_list(l: Listed) -> Record
-    ensures { fields_of result ≡ stp_fields l }
+pub fn of_text_list(list: Result<usize, Refusal>) -> Record
+    ensures { fields_of result ≡ stp_fields list }
 {
-    match l {
-        Listed::Text(size) => Record {
+    match list {
+        Ok(size) => Record {
             kind: 1,
             number: 0,
             out: 0,
@@ -39,13 +39,13 @@ pub fn of_text_list(l: Listed) -> Record
             only: 0,
             amount: size as u64,
         },
-        Listed::Refused(r) => Record {
+        Err(refusal) => Record {
             kind: 0,
-            number: r.number,
+            number: refusal.number,
             out: 0,
             into: 0,
             only: 0,
-            amount: r.place as u64,
+            amount: refusal.place as u64,
         },
     }
 }

@@ -1,14 +1,45 @@
-// The dig list of a plain table for C.
+// The dig list for C, of a plain table and of a working table.
 ghost use Rattle.std.specs.Prelude.{◌≡◌};
+ghost use Rattle.in_use.specs.Tables.{table_in};
 ghost use Rattle.digs_spec.specs.Bytes.{DigsCall};
 ghost use Rattle.digs_spec.specs.DigList.{table_list};
 ghost use Rattle.digs_spec.specs.Door.{list_fields, list_returns, list_answered, list_text};
-ghost use Rattle.star_spec.specs.Call.{call_of};
+ghost use Rattle.star_spec.specs.Call.{call_of, work_of};
 
 use answer::{well_lent, write_answer};
 use digs::LIST_BYTES;
 use digs_answer::of_list;
 use in_use::InUse;
+
+// The list over a table of either kind, in the lent text and the lent answer.
+fn answered(
+    n: u32,
+    table: InUse,
+    left: &[u8],
+    right: &[u8],
+    weight: &[u8],
+    text: &mut [u8],
+    answer: &mut [u8],
+) -> u32
+    ensures returned { result ≡ list_returns text.old answer.old }
+    ensures answered { let a = table_list (table_in n table left.now right.now weight.now left.now) in
+        answer.new ≡ list_answered text.old answer.old (list_fields a) }
+    ensures listed { let a = table_list (table_in n table left.now right.now weight.now left.now) in
+        text.new ≡ list_text a text.old answer.old }
+    ensures means { let c = table_in n table left.now right.now weight.now left.now in
+        DigsCall c text.old answer.old text.new answer.new result }
+{
+    if !well_lent(answer) {
+        return 0;
+    }
+    if text.len() < LIST_BYTES {
+        return 0;
+    }
+    let list = digs::table_list(n, table, left, right, weight, text);
+    let x = of_list(list);
+    write_answer(answer, x);
+    1
+}
 
 // The list of a plain table, through the door. No mark column is taken; the left column stands in its place.
 // `means` says what the bytes and the text are worth.
@@ -29,14 +60,29 @@ pub extern "C" fn star_digs(
     ensures means { let c = call_of n left.now right.now weight.now left.now in
         DigsCall c text.old answer.old text.new answer.new result }
 {
-    if !well_lent(answer) {
-        return 0;
-    }
-    if text.len() < LIST_BYTES {
-        return 0;
-    }
-    let list = digs::table_list(n, InUse::plain(left.len()), left, right, weight, text);
-    let x = of_list(list);
-    write_answer(answer, x);
-    1
+    let plain = InUse::plain(left.len());
+    answered(n, plain, left, right, weight, text, answer)
+}
+
+// The list of a working table, whose rows in use are lent as sixteen words, through the door. `means` says what the bytes and the text are worth.
+#[unsafe(no_mangle)]
+pub extern "C" fn star_work_digs(
+    n: u32,
+    words: &[u64],
+    left: &[u8],
+    right: &[u8],
+    weight: &[u8],
+    text: &mut [u8],
+    answer: &mut [u8],
+) -> u32
+    ensures returned { result ≡ list_returns text.old answer.old }
+    ensures answered { let a = table_list (work_of n words.now left.now right.now weight.now left.now) in
+        answer.new ≡ list_answered text.old answer.old (list_fields a) }
+    ensures listed { let a = table_list (work_of n words.now left.now right.now weight.now left.now) in
+        text.new ≡ list_text a text.old answer.old }
+    ensures means { let c = work_of n words.now left.now right.now weight.now left.now in
+        DigsCall c text.old answer.old text.new answer.new result }
+{
+    let working = InUse::working(words);
+    answered(n, working, left, right, weight, text, answer)
 }

@@ -3,6 +3,5 @@
 
 #![tactic(auto)]
 
-pub mod digs_door; // digs_door.rt: a plain table's list
+pub mod digs_door; // digs_door.rt: the list of a plain and of a working table
 pub mod digs_text_door; // digs_text_door.rt: a text's list
-pub mod work_digs_door; // work_digs_door.rt: a working table's list

@@ -17,8 +17,6 @@ use Rattle.digs_spec.specs.DigList.{row_line, row_lines, total_line, dig_list, u
 use Rattle.plan_digs_spec.proofs.Refused.{unrefused-table, unrefused-tree}
 use Rattle.plan_digs_spec.specs.PlanList.{plan_list_or, plan_list}
 use Rattle.refusal.specs.Outcomes.{refusal_of}
-use Rattle.refusal.specs.declared.Outcome.{Outcome}
-use Rattle.refusal.specs.declared.Outcome.TheVariants.{Done, Refused}
 use Rattle.refusal.specs.declared.Refusal.{Refusal}
 use Rattle.rowset.proofs.Integers.{total-cut}
 use Rattle.rowset.proofs.Laws.{refuted}
@@ -29,16 +27,17 @@ use Rattle.rowset.specs.Sets.{up_to, both}
 use Rattle.slice.specs.Slices.{size}
 use Rattle.star_spec.proofs.Accepted.{Taken, taken, used-row}
 use Rattle.star_spec.specs.Call.{Call, rows_of, used, weight_of, marked, claimed, claim_weight}
+use Rattle.std.specs.Prelude.{Result, Ok, Err, ⊤}
 use Rattle.star_spec.specs.Refusals.{cst_causes, refusal}
 
-module _ (c : Call) {o : Outcome} (checked : refusal_of o ≡ refusal (cst_causes c)) where
+module _ (c : Call) {o : Result ⊤ Refusal} (checked : refusal_of o ≡ refusal (cst_causes c)) where
   -- a plan that is refused
-  pub plan-refused : {r : Refusal} → o ≡ Refused r → plan_list c ≡ unlisted r
+  pub plan-refused : {r : Refusal} → o ≡ Err r → plan_list c ≡ unlisted r
   unfolding plan_list plan_list_or refusal_of
   plan-refused h = ap (plan_list_or c) (sym checked ∙ ap refusal_of h)
 
   -- a plan that is not
-  module _ (done : o ≡ Done) where
+  module _ (done : o ≡ Ok tt) where
     unrefused : refusal (cst_causes c) ≡ none
     unfolding refusal_of
     unrefused = sym checked ∙ ap refusal_of done

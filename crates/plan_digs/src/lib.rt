@@ -9,9 +9,8 @@ ghost use Rattle.plan_digs_spec.specs.PlanList.{plan_list};
 ghost use Rattle.refusal.specs.Outcomes.{refusal_of};
 ghost use Rattle.star_spec.specs.Refusals.{cst_causes, refusal};
 
-use digs::Listed;
 use in_use::InUse;
-use refusal::Outcome;
+use refusal::Refusal;
 use slice::rows::rows_among;
 
 // CST's refusals of a plan: MatrixPath from vertex 1 has them on a matrix of its own.
@@ -22,7 +21,7 @@ fn plan_check(
     right: &[u8],
     weight: &[u8],
     mark: &[u8],
-) -> Outcome
+) -> Result<(), Refusal>
     ensures { let c = table_in n table left.now right.now weight.now mark.now in
         refusal_of result ≡ refusal (cst_causes c) }
 {
@@ -40,14 +39,11 @@ pub fn plan_list(
     weight: &[u8],
     mark: &[u8],
     out: &mut [u8],
-) -> Listed
+) -> Result<usize, Refusal>
     ensures { let c = table_in n table left.now right.now weight.now mark.now in
         Lists (plan_list c) out.old out.new result }
 {
-    if let Outcome::Refused(refusal) = plan_check(n, table, left, right, weight, mark) {
-        return Listed::Refused(refusal);
-    }
+    plan_check(n, table, left, right, weight, mark)?;
     let rows = claim::claim_rows(mark, rows_among(table.m, table.rows));
-    let size = digs_lines::put_list(out, table.m, left, right, weight, rows);
-    Listed::Text(size)
+    Ok(digs_lines::put_list(out, table.m, left, right, weight, rows))
 }

@@ -3,5 +3,4 @@
 
 #![tactic(auto)]
 
-pub mod plan_digs_door; // plan_digs_door.rt: a plan over a plain table
-pub mod work_plan_digs_door; // work_plan_digs_door.rt: a plan over a working table
+pub mod plan_digs_door; // plan_digs_door.rt: a plan over a plain and over a working table

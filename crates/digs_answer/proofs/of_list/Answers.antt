@@ -5,10 +5,10 @@ use Rattle.digs_answer.specs.Steps.Fields.{table_fields}
 use Rattle.star_spec.specs.Door.{fields}
 use Rattle.digs_answer.proofs.of_list.Goals as goal
 
-pub returns-in-Text : goal.returns-in-Text
+pub returns-in-Ok : goal.returns-in-Ok
 unfolding fields_of table_fields
-returns-in-Text c = rw c.in-Text.is refl
+returns-in-Ok c = rw c.in-Ok.is refl
 
-pub returns-in-Refused : goal.returns-in-Refused
+pub returns-in-Err : goal.returns-in-Err
 unfolding table_fields fields
-returns-in-Refused c = rw c.in-Refused.is c.of_refusal.ensures
+returns-in-Err c = rw c.in-Err.is c.of_refusal.ensures

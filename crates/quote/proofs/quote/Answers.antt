@@ -1,10 +1,11 @@
 -- `quote::quote` meets its contract in each of its three cases: the call is refused, there is no tree, or both trees are built.
 -- Assumes nothing.
-use mathlib.Core.Path.{◌≡◌, refl}
+use mathlib.Core.Path.{◌≡◌, refl, ap, ◌∙◌}
 use Rattle.std.specs.Prelude.{Option, Some, None}
 use Rattle.std.specs.Option.{unwrap_or}
 use Rattle.rowset.specs.Sets.{empty}
-use Rattle.slice.specs.Slices.{component}
+use Rattle.rowset.specs.Integers.{total}
+use Rattle.slice.specs.Slices.{size, component}
 use Rattle.slice.specs.declared.Slice.{Slice}
 use Rattle.mst1.specs.Steps.Growth.{chosen_in}
 use Rattle.refusal.proofs.Passed.{handed-on}
@@ -34,4 +35,4 @@ unfolding answer_of chosen_in
 returns c =
     both-built _ _ _ c.row_check.ensures c.in_ok-row_check.was c.in-Some.ensures refl
     _ c.replaced-prices.ensures.sized c.replaced-prices.ensures.by_index c.tree_of-2.ensures _ _ c.weigh.ensures
-    (rw (c.unwrap_or-new.ensures, or-empty _ _ c.empty.ensures) at c.weigh-2.ensures)
+    (c.weigh-2.ensures ∙ ap (total size _) (ap component c.unwrap_or-new.ensures ∙ or-empty _ _ c.empty.ensures))
