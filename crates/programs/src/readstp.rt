@@ -10,7 +10,7 @@ use decimal::{put_byte, put_natural, put_price};
 use digs::Page;
 use digs_lines::put_refused;
 use std::io::{Eprint, Read, Write};
-use stp::{Imported, Sizes};
+use stp::Sizes;
 use streams::{first, tell, write_text};
 
 // One byte more than the longest text that is taken, so that a longer one is noticed.
@@ -61,10 +61,8 @@ fn put_table(out: &mut [u8], s: Sizes, left: &[u8], right: &[u8], weight: &[u8])
 {
     let m = s.m as usize;
     let mut next = put_sizes(out, s.n, s.m);
-    let mut i = 0;
-    while i < m {
-        i += 1;
-        next = put_row(out, next, left, right, weight, i);
+    for i in 0..m {
+        next = put_row(out, next, left, right, weight, i + 1);
     }
     next
 }
@@ -89,13 +87,12 @@ fn import(text: &[u8], out: &mut [u8]) -> Page
     let mut left = [0u8; ROWS];
     let mut right = [0u8; ROWS];
     let mut weight = [0u8; WEIGHT_BYTES];
-    let answer = stp::import(text, &mut left, &mut right, &mut weight);
-    match answer {
-        Imported::Taken(s) => Page {
+    match stp::import(text, &mut left, &mut right, &mut weight) {
+        Ok(s) => Page {
             size: put_imported(out, s, &left, &right, &weight),
             status: 0,
         },
-        Imported::Refused(r) => Page {
+        Err(r) => Page {
             size: put_refused(out, r),
             status: 1,
         },

@@ -57,10 +57,7 @@ pub fn read_text<R: Read>(reader: &mut R, buffer: &mut [u8]) -> Input
 pub fn first(buffer: &[u8], size: usize) -> &[u8]
     ensures { result.now ≡ take size buffer.now }
 {
-    if size < buffer.len() {
-        return &buffer[..size];
-    }
-    buffer
+    &buffer[..size.min(buffer.len())]
 }
 
 // Writes all the bytes, or answers an error, after which some of them may have been written.
