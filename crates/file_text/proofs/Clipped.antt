@@ -10,6 +10,7 @@ use mathlib.Core.Path.{◌≡◌, refl, sym, ap, ◌∙◌, subst}
 use native.Mathlib.Omega.{arith}
 use Rattle.file_spec.specs.Pieces.{fields, fields_by, content, trimmed, before, back_trimmed, front_trimmed, separator, holds, parted, pieces, field, unquoted, opens_quote, full, unless, is_empty, end_trimmed}
 use Rattle.file_text.specs.Steps.Spans.{part, piece_at, FieldsRead}
+use Rattle.file_text.specs.declared.Part.{Part}
 use Rattle.file_text.proofs.Parts.{part-empty}
 
 -- the part up to the text's end is the part
@@ -37,20 +38,19 @@ fields-none : (text : List ℕ) (from to : ℕ) → min to (length text) < from 
 unfolding piece_at
 fields-none text from to h = ap (λ l. fields (record { at = from; letters = l })) (nothing-there text from to h) ∙ no_fields from
 
-pub none_read : (text : List ℕ) (from to count : ℕ) (f t : List ℕ) → min to (length text) < from → count ≡ 0 → length f ≡ 5 → length t ≡ 5
-    → FieldsRead text (fields (piece_at text from to)) count f t
-none_read text from to count f t h z lf lt =
+pub none_read : (text : List ℕ) (from to count : ℕ) (parts : List Part) → min to (length text) < from → count ≡ 0 → length parts ≡ 5
+    → FieldsRead text (fields (piece_at text from to)) count parts
+none_read text from to count parts h z l =
     record {
       all = z ∙ sym (ap length (fields-none text from to h));
-      starts = lf;
-      ends = lt;
+      sized = l;
       each = λ i g k. absurd (omega arith);
       order = λ i g k. absurd (omega arith);
       high = λ i g k. absurd (omega arith);
     }
 
-pub clipped-read : (text : List ℕ) (from to high count : ℕ) (f t : List ℕ) → high ≡ min to (length text) → FieldsRead text (fields (piece_at text from high)) count f t
-    → FieldsRead text (fields (piece_at text from to)) count f t
+pub clipped-read : (text : List ℕ) (from to high count : ℕ) (parts : List Part) → high ≡ min to (length text) → FieldsRead text (fields (piece_at text from high)) count parts
+    → FieldsRead text (fields (piece_at text from to)) count parts
 unfolding piece_at
-clipped-read text from to high count f t e r =
-    subst (λ l. FieldsRead text (fields (record { at = from; letters = l })) count f t) (ap (part text from) e ∙ clipped text from to) r
+clipped-read text from to high count parts e r =
+    subst (λ l. FieldsRead text (fields (record { at = from; letters = l })) count parts) (ap (part text from) e ∙ clipped text from to) r

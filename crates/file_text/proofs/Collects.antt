@@ -10,8 +10,9 @@ use mathlib.Core.Path.{◌≡◌, refl, sym, ap, ◌∙◌}
 use native.Mathlib.Omega.{arith}
 use Rattle.file_text.specs.Steps.Collected.{Collected, added, nowhere}
 use Rattle.file_spec.specs.Pieces.{Piece, is_empty, unless, keep_field, end_trimmed}
-use Rattle.file_text.specs.Steps.Spans.{part, piece_at}
+use Rattle.file_text.specs.Steps.Spans.{part, piece_at, field_at}
 use Rattle.file_text.specs.declared.Fields.{Fields}
+use Rattle.file_text.specs.declared.Part.{Part}
 use Rattle.file_text.proofs.Parts.{part-empty, part-cons}
 
 -- an empty field at the end does not count, and any other one stays
@@ -74,14 +75,6 @@ pub put-none : (text : List ℕ) (fs : List Piece) (x : Fields) (from to : ℕ) 
 unfolding added piece_at unless
 put-none text fs x from to skip h k e s c = rw (s, empty-part text from to h k, e, append-nil fs) c
 
--- the numbers stored
-module _ (l : List ℕ) (k v : ℕ) (n : length l ≡ 5) where
-  pub here : k < 5 → get_or (set l k v) k 0 ≡ v
-  here h = get_or-set_same l k v 0 (omega arith)
-
-  pub before : (i : ℕ) → i < k → get_or (set l k v) i 0 ≡ get_or l i 0
-  before i h = get_or-set_other l k i v 0 (λ e. omega arith)
-
 added-one : (text : List ℕ) (fs : List Piece) (from to : ℕ) (skip : Bool) → from ≤ to → to ≤ length text → (skip && eqb from to) ≡ false
     → added skip (piece_at text from to) fs ≡ fs ++ (piece_at text from to ∷ [])
 unfolding added piece_at unless
@@ -96,37 +89,34 @@ module _ (text : List ℕ) (fs : List Piece) (x : Fields) (from to : ℕ) (h : f
       go true e = ap length (end_empty fs (piece_at text from to) e) ∙ sym c.last
       go false e = ap length (end-full fs (piece_at text from to) e) ∙ omega (arith, c.all, length-append fs (piece_at text from to ∷ []))
 
-  each-one : (v : List ℕ) (w : List ℕ) → v ≡ set x.from x.seen from → w ≡ set x.to x.seen to → (i : ℕ) → i < x.seen + 1 → i < 5 →
-      (piece_at text (get_or v i 0) (get_or w i 0) ≡ get_or (fs ++ (piece_at text from to ∷ [])) i nowhere) × (get_or v i 0 ≤ get_or w i 0) × (get_or w i 0 ≤ length text)
-  each-one v w ev ew i g f = go (ltb i x.seen) refl
+  each-one : (v : List Part) → v ≡ set x.parts x.seen (record { from = from; to = to }) → (i : ℕ) → i < x.seen + 1 → i < 5 →
+      (piece_at text (field_at v i).from (field_at v i).to ≡ get_or (fs ++ (piece_at text from to ∷ [])) i nowhere) × ((field_at v i).from ≤ (field_at v i).to) × ((field_at v i).to ≤ length text)
+  each-one v ev i g f = go (ltb i x.seen) refl
     where
       go : (t : Bool) → ltb i x.seen ≡ t →
-          (piece_at text (get_or v i 0) (get_or w i 0) ≡ get_or (fs ++ (piece_at text from to ∷ [])) i nowhere) × (get_or v i 0 ≤ get_or w i 0) × (get_or w i 0 ≤ length text)
+          (piece_at text (field_at v i).from (field_at v i).to ≡ get_or (fs ++ (piece_at text from to ∷ [])) i nowhere) × ((field_at v i).from ≤ (field_at v i).to) × ((field_at v i).to ≤ length text)
       go true e =
           let l : i < x.seen = ltb-true i x.seen e in
-          let a : get_or v i 0 ≡ get_or x.from i 0 = ap (λ (z : List ℕ). get_or z i 0) ev ∙ before x.from x.seen from c.starts i l in
-          let b : get_or w i 0 ≡ get_or x.to i 0 = ap (λ (z : List ℕ). get_or z i 0) ew ∙ before x.to x.seen to c.ends i l in
-          (rw (a, b) (c.each i l f ∙ sym (get_or-append fs (piece_at text from to ∷ []) nowhere i (omega (arith, c.all)))), rw (a, b) (c.order i l f), rw b (c.high i l f))
+          let a : field_at v i ≡ field_at x.parts i = ap (λ (z : List Part). field_at z i) ev ∙ get_or-set_other x.parts x.seen i (record { from = from; to = to }) (record { from = 0; to = 0 }) (λ e. omega arith) in
+          (rw a (c.each i l f ∙ sym (get_or-append fs (piece_at text from to ∷ []) nowhere i (omega (arith, c.all)))), rw a (c.order i l f), rw a (c.high i l f))
       go false e =
           let l : i ≡ x.seen = omega (arith, ltb-false i x.seen e) in
-          let a : get_or v i 0 ≡ from = (rw l (ap (λ (z : List ℕ). get_or z x.seen 0) ev)) ∙ here x.from x.seen from c.starts (omega arith) in
-          let b : get_or w i 0 ≡ to = (rw l (ap (λ (z : List ℕ). get_or z x.seen 0) ew)) ∙ here x.to x.seen to c.ends (omega arith) in
+          let a : field_at v i ≡ record { from = from; to = to } = (rw l (ap (λ (z : List Part). field_at z x.seen) ev)) ∙ get_or-set_same x.parts x.seen (record { from = from; to = to }) (record { from = 0; to = 0 }) (omega (arith, c.sized)) in
           let n : i ≡ length fs = omega (arith, c.all) in
-          (rw (a, b) (sym (get_or_at fs (piece_at text from to) [] nowhere i (sym n))), rw (a, b) h, rw b k)
+          (rw a (sym (get_or_at fs (piece_at text from to) [] nowhere i (sym n))), rw a h, rw a k)
 
-  pub put_one : (skip : Bool) (a b : List ℕ) (last : ℕ) → (skip && eqb from to) ≡ false → a ≡ set x.from x.seen from → b ≡ set x.to x.seen to
+  pub put_one : (skip : Bool) (parts : List Part) (last : ℕ) → (skip && eqb from to) ≡ false → parts ≡ set x.parts x.seen (record { from = from; to = to })
       → last ≡ cond (eqb from to) x.count (x.seen + 1)
-      → Collected text (added skip (piece_at text from to) fs) (record { seen = x.seen + 1; count = last; from = a; to = b })
-  put_one skip a b last e ea eb el =
+      → Collected text (added skip (piece_at text from to) fs) (record { seen = x.seen + 1; count = last; parts = parts })
+  put_one skip parts last e ep el =
       rw (added-one text fs from to skip h k e)
       (record {
         all = omega (arith, c.all, length-append fs (piece_at text from to ∷ []));
         last = el ∙ sym last_one;
-        starts = ap length ea ∙ length-set x.from x.seen from ∙ c.starts;
-        ends = ap length eb ∙ length-set x.to x.seen to ∙ c.ends;
-        each = λ i g f. (each-one a b ea eb i g f).0;
-        order = λ i g f. (each-one a b ea eb i g f).1;
-        high = λ i g f. (each-one a b ea eb i g f).2;
+        sized = ap length ep ∙ length-set x.parts x.seen (record { from = from; to = to }) ∙ c.sized;
+        each = λ i g f. (each-one parts ep i g f).0;
+        order = λ i g f. (each-one parts ep i g f).1;
+        high = λ i g f. (each-one parts ep i g f).2;
       })
 
 pub not-skipped : (skip t : Bool) → (t ≡ true) × (skip ≡ false) → (skip && t) ≡ false

@@ -11,28 +11,6 @@ ghost use Rattle.file_text.specs.Steps.Collected.{Collected, added};
 // The names that a table can have.
 pub const NAMES: usize = 255;
 
-// A number as a place.
-fn wide(x: u32) -> usize
-    ensures { result ≡ x }
-{
-    x as usize
-}
-
-// Whether two parts have the same bytes.
-pub fn equal(a: &[u8], b: &[u8]) -> bool
-    ensures { result ≡ equal a.now b.now }
-{
-    if a.len() != b.len() {
-        return false;
-    }
-    for i in 0..a.len() {
-        if a[i] != b[i] {
-            return false;
-        }
-    }
-    true
-}
-
 // The position of a name among the first `count` of the names met so far, which are kept by their places in the text; `count` where it is new.
 fn find_name(
     text: &[u8],
@@ -48,16 +26,12 @@ fn find_name(
     ensures value { result ≡ position (part text.now from to) (names_of text.now starts.now ends.now count) }
     ensures bounded { result ≤ count }
 {
-    let mut k = 0;
-    while k < count {
-        let s = wide(starts[k]);
-        let e = wide(ends[k]);
-        if equal(&text[from..to], &text[s..e]) {
+    for k in 0..count {
+        if text[from..to] == text[starts[k] as usize..ends[k] as usize] {
             return k;
         }
-        k += 1;
     }
-    k
+    count
 }
 
 // A part of a text: the place of its first byte, and the place after its last.
@@ -67,15 +41,15 @@ pub struct Part {
     pub to: usize,
 }
 
-// The fields of a line: how many were seen, how many of them there are without the empty ones at the end, and where the first five begin and end.
+// The fields of a line that are kept.
 pub const FIELDS: usize = 5;
 
+// The fields of a line: how many were seen, how many of them there are without the empty ones at the end, and where the first five stand.
 #[derive(Clone, Copy)]
 pub struct Fields {
     pub seen: usize,
     pub count: usize,
-    pub from: [usize; FIELDS],
-    pub to: [usize; FIELDS],
+    pub parts: [Part; FIELDS],
 }
 
 fn is_blank(b: u8) -> bool
@@ -95,14 +69,12 @@ pub fn line_end(text: &[u8], at: usize) -> usize
     ensures value { result ≡ first_at ends_line at (part text.now at (length text.now)) }
     ensures bounds { (at ≤ result) × (result ≤ max at (length text.now)) }
 {
-    let mut i = at;
-    while i < text.len() {
+    for i in at..text.len() {
         if ends_line(text[i]) {
             return i;
         }
-        i += 1;
     }
-    i
+    at.max(text.len())
 }
 
 // The first place of a byte in a part of the text; the part's end where it is not there.
@@ -111,14 +83,12 @@ fn find_byte(text: &[u8], from: usize, to: usize, b: u8) -> usize
     ensures value { result ≡ first_at (is_byte b) from (part text.now from to) }
     ensures bounds { (from ≤ result) × (result ≤ to) }
 {
-    let mut i = from;
-    while i < to {
+    for i in from..to {
         if text[i] == b {
             return i;
         }
-        i += 1;
     }
-    i
+    to
 }
 
 // The end of a part without the blanks behind.
@@ -127,14 +97,12 @@ fn back(text: &[u8], from: usize, to: usize) -> usize
     ensures result_value { part text.now from result ≡ back_trimmed (part text.now from to) }
     ensures bounds { (from ≤ result) × (result ≤ to) }
 {
-    let mut e = to;
-    while from < e {
-        if !is_blank(text[e - 1]) {
-            return e;
+    for i in (from..to).rev() {
+        if !is_blank(text[i]) {
+            return i + 1;
         }
-        e -= 1;
     }
-    e
+    from
 }
 
 // The start of a part without the blanks in front.
@@ -143,14 +111,12 @@ fn front(text: &[u8], from: usize, to: usize) -> usize
     ensures to_value { piece_at text.now result to ≡ front_trimmed from (part text.now from to) }
     ensures bounds { (from ≤ result) × (result ≤ to) }
 {
-    let mut i = from;
-    while i < to {
+    for i in from..to {
         if !is_blank(text[i]) {
             return i;
         }
-        i += 1;
     }
-    i
+    to
 }
 
 // A part without the blanks around.
@@ -212,77 +178,58 @@ fn field_of(text: &[u8], from: usize, to: usize) -> Part
     trim(text, f + 1, e - 1)
 }
 
-// Place k of five is stored; past the last one nothing is.
-fn store(a: [usize; FIELDS], k: usize, v: usize) -> [usize; FIELDS]
-    requires { length a ≡ 5 }
-    ensures { result ≡ set a k v }
+// Part k of five is stored; past the last one nothing is.
+fn store(parts: [Part; FIELDS], k: usize, part: Part) -> [Part; FIELDS]
+    requires { length parts ≡ 5 }
+    ensures { result ≡ set parts k part }
 {
-    let mut b = a;
+    let mut stored = parts;
     if k < FIELDS {
-        b[k] = v;
+        stored[k] = part;
     }
-    b
-}
-
-// One number or another.
-fn choose(first: bool, a: usize, b: usize) -> usize
-    ensures { result ≡ cond first a b }
-{
-    if first { a } else { b }
+    stored
 }
 
 // One field more; where `skip` is true, an empty one does not count.
-fn put(x: Fields, from: usize, to: usize, skip: bool) -> Fields
-    requires seen_bound { (x.seen < 18446744073709551615) × (from ≤ to) }
-    requires sized { (length x.from ≡ 5) × (length x.to ≡ 5) }
-    ensures by_index { (text : List ℕ) (fs : List Piece) → to ≤ length text → Collected text fs x → Collected text (added skip (piece_at text from to) fs) result }
+fn put(x: Fields, part: Part, skip: bool) -> Fields
+    requires seen_bound { (x.seen < 18446744073709551615) × (part.from ≤ part.to) }
+    requires sized { length x.parts ≡ 5 }
+    ensures by_index { (text : List ℕ) (fs : List Piece) → part.to ≤ length text → Collected text fs x → Collected text (added skip (piece_at text part.from part.to) fs) result }
     ensures counted { result.seen ≤ x.seen + 1 }
 {
-    let empty = from == to;
+    let empty = part.from == part.to;
     if empty && skip {
         return x;
     }
-    let k = x.seen;
-    let f = x.from;
-    let t = x.to;
-    let a = store(f, k, from);
-    let b = store(t, k, to);
-    let last = choose(empty, x.count, k + 1);
+    let seen = x.seen + 1;
     Fields {
-        seen: k + 1,
-        count: last,
-        from: a,
-        to: b,
+        seen,
+        count: if empty { x.count } else { seen },
+        parts: store(x.parts, x.seen, part),
     }
 }
 
 // The fields of a line's content, parted by a byte.
 fn collect(text: &[u8], from: usize, to: usize, sep: u8) -> Fields
     requires { (from ≤ to) × (to ≤ length text.now) }
-    ensures { FieldsRead text.now (fields_by sep (piece_at text.now from to)) result.count result.from result.to }
+    ensures { FieldsRead text.now (fields_by sep (piece_at text.now from to)) result.count result.parts }
 {
-    let mut x = Fields {
-        seen: 0,
-        count: 0,
-        from: [0usize; FIELDS],
-        to: [0usize; FIELDS],
-    };
+    let mut x = no_fields();
     let mut at = from;
-    let mut more = true;
-    while more {
+    loop {
         let e = find_byte(text, at, to, sep);
-        let f = field_of(text, at, e);
-        x = put(x, f.from, f.to, sep == 32);
-        more = e < to;
+        x = put(x, field_of(text, at, e), sep == 32);
+        if e == to {
+            return x;
+        }
         at = e + 1;
     }
-    x
 }
 
 // The fields of a line that lies in the text.
 fn fields_in(text: &[u8], from: usize, to: usize) -> Fields
     requires { (from ≤ to) × (to ≤ length text.now) }
-    ensures { FieldsRead text.now (fields (piece_at text.now from to)) result.count result.from result.to }
+    ensures { FieldsRead text.now (fields (piece_at text.now from to)) result.count result.parts }
 {
     let p = content_of(text, from, to);
     let sep = separator_of(text, p.from, p.to);
@@ -291,28 +238,20 @@ fn fields_in(text: &[u8], from: usize, to: usize) -> Fields
 
 // The fields of nothing.
 fn no_fields() -> Fields
-    ensures { (result.count ≡ 0) × (length result.from ≡ 5) × (length result.to ≡ 5) }
+    ensures { (result.seen ≡ 0) × (result.count ≡ 0) × (length result.parts ≡ 5) }
 {
     Fields {
         seen: 0,
         count: 0,
-        from: [0usize; FIELDS],
-        to: [0usize; FIELDS],
+        parts: [Part { from: 0, to: 0 }; FIELDS],
     }
-}
-
-// The lesser of two places.
-fn lesser(a: usize, b: usize) -> usize
-    ensures { result ≡ min a b }
-{
-    if a < b { a } else { b }
 }
 
 // The fields of a line, of which what is past the text's end is not there.
 pub fn fields_of(text: &[u8], from: usize, to: usize) -> Fields
-    ensures { FieldsRead text.now (fields (piece_at text.now from to)) result.count result.from result.to }
+    ensures { FieldsRead text.now (fields (piece_at text.now from to)) result.count result.parts }
 {
-    let high = lesser(to, text.len());
+    let high = to.min(text.len());
     if high < from {
         return no_fields();
     }

@@ -1,26 +1,22 @@
 -- `file_text::back` meets its contract. Assumes nothing.
-use mathlib.Core.Path.{refl, sym, ◌∙◌}
+use Prim.Native.Nat.{◌+◌, ◌-◌}
+use mathlib.Core.Path.{◌≡◌, refl, sym, ◌∙◌}
 use native.Mathlib.Omega.{arith}
 use Rattle.file_text.proofs.Trims.{back_more, back-stop, back_last}
 use Rattle.file_text.proofs.back.Goals as goal
 
-pub loop-e-init : goal.loop-e-init
-loop-e-init c = (omega arith, omega arith, refl)
+pub loop-i-init : goal.loop-i-init
+loop-i-init c = (omega arith, omega arith, refl)
 
-pub returns-then-not-is_blank : goal.returns-then-not-is_blank
-returns-then-not-is_blank c =
-    record {
-      result_value = sym (back-stop _ _ c.loop-e.e (omega arith) (omega arith) (sym c.is_blank.ensures ∙ c.if-not-is_blank.true)) ∙ c.loop-e.invariant.2;
-      bounds = (omega arith, omega arith);
-    }
+pub returns-then-not-is_blank-clause-result_value : goal.returns-then-not-is_blank-clause-result_value
+returns-then-not-is_blank-clause-result_value c =
+    let e : c.loop-i.i - 1 + 1 ≡ c.loop-i.i = omega arith in
+    rw e (sym (back-stop _ _ c.loop-i.i (omega arith) (omega arith) (sym c.is_blank.ensures ∙ c.if-not-is_blank.true)) ∙ c.loop-i.invariant.2)
 
-pub loop-e-preserved : goal.loop-e-preserved
-loop-e-preserved c =
-    (omega arith, omega arith, sym (back_more _ _ c.loop-e.e (omega arith) (omega arith) (sym c.is_blank.ensures ∙ c.if-not-is_blank.false)) ∙ c.loop-e.invariant.2)
+pub loop-i-preserved : goal.loop-i-preserved
+loop-i-preserved c =
+    (omega arith, omega arith, sym (back_more _ _ c.loop-i.i (omega arith) (omega arith) (sym c.is_blank.ensures ∙ c.if-not-is_blank.false)) ∙ c.loop-i.invariant.2)
 
-pub returns : goal.returns
-returns c =
-    record {
-      result_value = sym (back_last _ _ c.loop-e.e (omega arith)) ∙ c.loop-e.invariant.2;
-      bounds = (omega arith, omega arith);
-    }
+pub returns-clause-result_value : goal.returns-clause-result_value
+returns-clause-result_value c =
+    let e : c.loop-i.i ≡ c.args.from = omega arith in rw e at (sym (back_last _ _ c.loop-i.i (omega arith)) ∙ c.loop-i.invariant.2)

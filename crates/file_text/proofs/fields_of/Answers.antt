@@ -5,10 +5,10 @@ use Rattle.file_text.proofs.fields_of.Goals as goal
 
 pub returns-then-high-from : goal.returns-then-high-from
 returns-then-high-from c =
-    none_read _ _ _ _ _ _ (omega (arith, c.lesser-high.ensures, c.if-high-from.true)) c.no_fields.ensures.0 c.no_fields.ensures.1 c.no_fields.ensures.2
+    none_read _ _ _ _ _ (omega (arith, c.min-high.ensures, c.if-high-from.true)) c.no_fields.ensures.1 c.no_fields.ensures.2
 
 pub fields_in-requires : goal.fields_in-requires
-fields_in-requires c = omega (arith, c.lesser-high.ensures, c.if-high-from.false)
+fields_in-requires c = omega (arith, c.min-high.ensures, c.if-high-from.false)
 
 pub returns : goal.returns
-returns c = clipped-read _ _ _ _ _ _ _ c.lesser-high.ensures c.fields_in.ensures
+returns c = clipped-read _ _ _ _ _ _ c.min-high.ensures c.fields_in.ensures

@@ -1,5 +1,5 @@
 -- `file_text::find_name` meets its contract. The loop's invariant: the names before k are others, so that the position is k and what is found from k on. Assumes nothing.
-use Prim.Native.Nat.{◌+◌, ◌-◌, ◌≤◌}
+use Prim.Native.Nat.{◌+◌, ◌-◌}
 use mathlib.Core.Path.{◌≡◌}
 use Rattle.file_spec.specs.Names.{position}
 use Rattle.file_text.specs.Steps.Spans.{part, names_from, names_of}
@@ -7,8 +7,4 @@ use Rattle.file_text.proofs.find_name.Given as goal
 
 abbrev pub invariant-loop-k : goal.invariant-loop-k
 invariant-loop-k l =
-    (l.k ≤ l.count)
-    × (position (part l.text l.from l.to) (names_of l.text l.starts l.ends l.count) ≡ l.k + position (part l.text l.from l.to) (names_from l.text l.starts l.ends l.k (l.count - l.k)))
-
-abbrev pub decreases-loop-k : goal.decreases-loop-k
-decreases-loop-k l = l.count - l.k
+    position (part l.text l.from l.to) (names_of l.text l.starts l.ends l.count) ≡ l.k + position (part l.text l.from l.to) (names_from l.text l.starts l.ends l.k (l.count - l.k))

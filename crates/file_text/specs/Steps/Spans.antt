@@ -2,6 +2,7 @@
 -- Assumes nothing.
 use Rattle.std.specs.Prelude.{ℕ, zero, suc, ◌-◌, ◌≤◌, ◌<◌, List, [], ◌∷◌, ◌≡◌, length, take, drop, get_or}
 use Rattle.file_spec.specs.Pieces.{Piece}
+use Rattle.file_text.specs.declared.Part.{Part}
 
 -- the bytes of a text from one place up to another
 unfoldable pub part : List ℕ → ℕ → ℕ → List ℕ
@@ -23,11 +24,14 @@ pub record Within (text starts ends : List ℕ) (count : ℕ) : Type 0 where
   pub order : (k : ℕ) → k < count → get_or starts k 0 ≤ get_or ends k 0
   pub high : (k : ℕ) → k < count → get_or ends k 0 ≤ length text
 
+-- the part at a position, counted from 0
+abbrev pub field_at : List Part → ℕ → Part
+field_at parts i = get_or parts i (record { from = 0; to = 0 })
+
 -- what is known of the fields of a line that were read: how many there are, and where the first five begin and end
-pub record FieldsRead (text : List ℕ) (fs : List Piece) (count : ℕ) (from to : List ℕ) : Type 0 where
+pub record FieldsRead (text : List ℕ) (fs : List Piece) (count : ℕ) (parts : List Part) : Type 0 where
   pub all : count ≡ length fs
-  pub starts : length from ≡ 5
-  pub ends : length to ≡ 5
-  pub each : (i : ℕ) → i < count → i < 5 → piece_at text (get_or from i 0) (get_or to i 0) ≡ get_or fs i (record { at = 0; letters = [] })
-  pub order : (i : ℕ) → i < count → i < 5 → get_or from i 0 ≤ get_or to i 0
-  pub high : (i : ℕ) → i < count → i < 5 → get_or to i 0 ≤ length text
+  pub sized : length parts ≡ 5
+  pub each : (i : ℕ) → i < count → i < 5 → piece_at text (field_at parts i).from (field_at parts i).to ≡ get_or fs i (record { at = 0; letters = [] })
+  pub order : (i : ℕ) → i < count → i < 5 → (field_at parts i).from ≤ (field_at parts i).to
+  pub high : (i : ℕ) → i < count → i < 5 → (field_at parts i).to ≤ length text
