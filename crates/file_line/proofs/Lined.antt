@@ -1,6 +1,6 @@
 -- Laws of the fields of a line. Assumes nothing.
 use Prim.Native.Nat.{ℕ, zero, suc, ◌+◌, ◌≤◌, ◌<◌}
-use lib.ListN.{length, get_or, drop, length-drop, drop_of_length-le}
+use lib.ListN.{length, drop, length-drop, drop_of_length-le}
 use lib.Seq.{drop-cons}
 use mathlib.Core.Bool.{Bool, true, false}
 use mathlib.Core.List.{List, [], ◌∷◌}
@@ -12,12 +12,13 @@ use Rattle.stp_words.specs.Bytes.{bytes}
 use Rattle.stp_words.specs.Names.{same}
 use Rattle.stp_words.specs.Numbers.{number_of}
 use Rattle.file_spec.specs.Pieces.{Piece}
-use Rattle.file_text.specs.Steps.Spans.{part, piece_at, FieldsRead}
+use Rattle.file_text.specs.Steps.Spans.{part, piece_at, field_at, FieldsRead}
+use Rattle.file_text.specs.declared.Part.{Part}
 use Rattle.file_spec.specs.Line.{nothing, wrong, not_trench, not_count, says, row, fielded, counted, count, said, mark_of}
 use Rattle.file_line.specs.Steps.Seen.{Lies}
 
-pub lies : (text : List ℕ) (fs : List Piece) (n : ℕ) (from to : List ℕ) → FieldsRead text fs n from to → Lies text n from to
-lies text fs n from to r = record { starts = r.starts; ends = r.ends; order = r.order; high = r.high }
+pub lies : (text : List ℕ) (fs : List Piece) (n : ℕ) (parts : List Part) → FieldsRead text fs n parts → Lies text n parts
+lies text fs n parts r = record { sized = r.sized; order = r.order; high = r.high }
 
 few : (s : Bool) (at : ℕ) (l : List Piece) → length l < 3 → wrong not_trench at ≡ fielded s at l
 unfolding fielded
@@ -45,9 +46,9 @@ uncounted at [] h = refl
 uncounted at (a ∷ []) h = absurd (h refl)
 uncounted at (a ∷ b ∷ l) h = refl
 
-module _ (text : List ℕ) (fs : List Piece) (n : ℕ) (from to : List ℕ) (r : FieldsRead text fs n from to) where
+module _ (text : List ℕ) (fs : List Piece) (n : ℕ) (parts : List Part) (r : FieldsRead text fs n parts) where
   -- one field more of those from i on
-  one : (i : ℕ) → i < n → i < 5 → drop i fs ≡ piece_at text (get_or from i 0) (get_or to i 0) ∷ drop (i + 1) fs
+  one : (i : ℕ) → i < n → i < 5 → drop i fs ≡ piece_at text (field_at parts i).from (field_at parts i).to ∷ drop (i + 1) fs
   one i h f = drop-cons fs i (record { at = 0; letters = [] }) (omega (arith, r.all)) ∙ (rw (add-one i, r.each i h f))
 
   over : (i : ℕ) → n ≤ i → drop i fs ≡ []
@@ -61,10 +62,10 @@ module _ (text : List ℕ) (fs : List Piece) (n : ℕ) (from to : List ℕ) (r :
     too_many g = many s at (drop k fs) (omega (arith, r.all, length-drop k fs))
 
     pub three : n ≡ k + 3 →
-        row s at (piece_at text (get_or from k 0) (get_or to k 0)) (piece_at text (get_or from (k + 1) 0) (get_or to (k + 1) 0))
-        (piece_at text (get_or from (k + 2) 0) (get_or to (k + 2) 0))
+        row s at (piece_at text (field_at parts k).from (field_at parts k).to) (piece_at text (field_at parts (k + 1)).from (field_at parts (k + 1)).to)
+        (piece_at text (field_at parts (k + 2)).from (field_at parts (k + 2)).to)
         (some 0)
-        (get_or from (k + 2) 0)
+        (field_at parts (k + 2)).from
         ≡ fielded s at (drop k fs)
     unfolding fielded piece_at
     three g =
@@ -72,11 +73,11 @@ module _ (text : List ℕ) (fs : List Piece) (n : ℕ) (from to : List ℕ) (r :
         let d : (k + 2) + 1 ≡ k + 3 = omega arith in
         rw (one k (omega arith) (omega arith), one (k + 1) (omega arith) (omega arith), e, one (k + 2) (omega arith) (omega arith), d, over (k + 3) (omega arith))
 
-    pub four : n ≡ k + 4 → (m : Option ℕ) → m ≡ mark_of (piece_at text (get_or from (k + 3) 0) (get_or to (k + 3) 0)) →
-        row s at (piece_at text (get_or from k 0) (get_or to k 0)) (piece_at text (get_or from (k + 1) 0) (get_or to (k + 1) 0))
-        (piece_at text (get_or from (k + 2) 0) (get_or to (k + 2) 0))
+    pub four : n ≡ k + 4 → (m : Option ℕ) → m ≡ mark_of (piece_at text (field_at parts (k + 3)).from (field_at parts (k + 3)).to) →
+        row s at (piece_at text (field_at parts k).from (field_at parts k).to) (piece_at text (field_at parts (k + 1)).from (field_at parts (k + 1)).to)
+        (piece_at text (field_at parts (k + 2)).from (field_at parts (k + 2)).to)
         m
-        (get_or from (k + 3) 0)
+        (field_at parts (k + 3)).from
         ≡ fielded s at (drop k fs)
     unfolding fielded piece_at
     four g m q =
@@ -88,7 +89,7 @@ module _ (text : List ℕ) (fs : List Piece) (n : ℕ) (from to : List ℕ) (r :
   pub count-other : (at : ℕ) → (n ≡ 2 → ⊥) → wrong not_count at ≡ count at (drop 1 fs)
   count-other at h = uncounted at (drop 1 fs) (λ e. h (omega (arith, r.all, length-drop 1 fs)))
 
-  pub count-one : (at : ℕ) → n ≡ 2 → (o : Option ℕ) → o ≡ number_of (part text (get_or from 1 0) (get_or to 1 0)) → counted at o ≡ count at (drop 1 fs)
+  pub count-one : (at : ℕ) → n ≡ 2 → (o : Option ℕ) → o ≡ number_of (part text (field_at parts 1).from (field_at parts 1).to) → counted at o ≡ count at (drop 1 fs)
   unfolding count piece_at
   count-one at h o e = rw (one 1 (omega arith) (omega arith), over 2 (omega arith), e)
 
@@ -97,19 +98,19 @@ module _ (text : List ℕ) (fs : List Piece) (n : ℕ) (from to : List ℕ) (r :
   said-none h = let e : fs ≡ [] = over 0 (omega arith) in rw e
 
   module _ (h : n ≡ 0 → ⊥) where
-    first : fs ≡ piece_at text (get_or from 0 0) (get_or to 0 0) ∷ drop 1 fs
+    first : fs ≡ piece_at text (field_at parts 0).from (field_at parts 0).to ∷ drop 1 fs
     first = one 0 (positive n h) (omega arith)
 
-    pub said-struck : same (part text (get_or from 0 0) (get_or to 0 0)) (bytes "struck") ≡ true → fielded true (get_or from 0 0) (drop 1 fs) ≡ said fs
+    pub said-struck : same (part text (field_at parts 0).from (field_at parts 0).to) (bytes "struck") ≡ true → fielded true (field_at parts 0).from (drop 1 fs) ≡ said fs
     unfolding said says piece_at
     said-struck e = sym (ap said first ∙ (rw e))
 
-    pub said-count : same (part text (get_or from 0 0) (get_or to 0 0)) (bytes "struck") ≡ false → same (part text (get_or from 0 0) (get_or to 0 0)) (bytes "junctions") ≡ true
-        → count (get_or from 0 0) (drop 1 fs) ≡ said fs
+    pub said-count : same (part text (field_at parts 0).from (field_at parts 0).to) (bytes "struck") ≡ false → same (part text (field_at parts 0).from (field_at parts 0).to) (bytes "junctions") ≡ true
+        → count (field_at parts 0).from (drop 1 fs) ≡ said fs
     unfolding said says piece_at
     said-count e g = sym (ap said first ∙ (rw (e, g)))
 
-    pub said_plain : same (part text (get_or from 0 0) (get_or to 0 0)) (bytes "struck") ≡ false → same (part text (get_or from 0 0) (get_or to 0 0)) (bytes "junctions") ≡ false
-        → fielded false (get_or from 0 0) (drop 0 fs) ≡ said fs
+    pub said_plain : same (part text (field_at parts 0).from (field_at parts 0).to) (bytes "struck") ≡ false → same (part text (field_at parts 0).from (field_at parts 0).to) (bytes "junctions") ≡ false
+        → fielded false (field_at parts 0).from (drop 0 fs) ≡ said fs
     unfolding said says piece_at
     said_plain e g = sym (ap said first ∙ (rw (e, g, ← first)))

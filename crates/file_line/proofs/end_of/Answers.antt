@@ -1,15 +1,35 @@
 -- `file_line::end_of` meets its contract. Assumes nothing.
-use mathlib.Core.Path.{sym, ap, ◌∙◌}
+use borrow.Author.Tests.{le-leb, lt-leb}
+use mathlib.Core.Logic.{⊎_elim}
+use native.Mathlib.Omega.{arith}
 use Rattle.stp_words.specs.Answers.{number_in}
+use Rattle.file_text.specs.Steps.Spans.{part}
 use Rattle.file_spec.specs.Line.{numbered, end_of}
+use Rattle.file_line.specs.Steps.Seen.{end_in, Lying}
 use Rattle.file_line.proofs.end_of.Goals as goal
 
-pub returns-in-Some : goal.returns-in-Some
-unfolding end_of number_in
-returns-in-Some c =
-    let w = c.args.w.now in c.end_number.ensures w ∙ ap (numbered w) (sym (ap number_in c.in-Some.is) ∙ c.number_of-n.ensures)
+pub returns-then-v-lt1-clause-value : goal.returns-then-v-lt1-clause-value
+unfolding end_of numbered number_in part
+returns-then-v-lt1-clause-value c =
+    rw (← c.in-Value.ensures)
+    (⊎_elim (λ w. rw (lt-leb 1 c.in-Value.v w)) (λ w. rw (le-leb 1 c.in-Value.v w.0, lt-leb c.in-Value.v 255 w.1)) c.then-v-lt1.either)
 
-pub returns-in-None : goal.returns-in-None
-unfolding end_of number_in
-returns-in-None c =
-    let w = c.args.w.now in c.end_name.ensures w (sym c.is_name-name.ensures) ∙ ap (numbered w) (sym (ap number_in c.in-None.is) ∙ c.number_of-n.ensures)
+pub returns-else-v-gt255-clause-value : goal.returns-else-v-gt255-clause-value
+unfolding end_of numbered number_in part end_in
+returns-else-v-gt255-clause-value c = rw (← c.in-Value.ensures, le-leb 1 c.in-Value.v (omega arith), le-leb c.in-Value.v 255 (omega arith))
+
+pub returns-else-v-gt255-clause-good : goal.returns-else-v-gt255-clause-good
+unfolding Lying
+returns-else-v-gt255-clause-good c = omega arith
+
+pub returns-then-is_name-clause-value : goal.returns-then-is_name-clause-value
+unfolding end_of numbered number_in part end_in
+returns-then-is_name-clause-value c = rw (← c.in-Missing.ensures, ← c.is_name.ensures, c.if-is_name.true)
+
+pub returns-then-is_name-clause-good : goal.returns-then-is_name-clause-good
+unfolding Lying
+returns-then-is_name-clause-good c = c.requires
+
+pub returns-else-is_name-clause-value : goal.returns-else-is_name-clause-value
+unfolding end_of numbered number_in part
+returns-else-is_name-clause-value c = rw (← c.in-Missing.ensures, ← c.is_name.ensures, c.if-is_name.false)

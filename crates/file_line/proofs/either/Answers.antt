@@ -1,7 +1,0 @@
-use Rattle.file_line.proofs.either.Goals as goal
-
-pub returns-then-a : goal.returns-then-a
-returns-then-a c = rw c.if-a.true
-
-pub returns-else-a : goal.returns-else-a
-returns-else-a c = rw c.if-a.false
