@@ -9,13 +9,12 @@ ghost use Rattle.file_spec.specs.Pieces.{Piece};
 ghost use Rattle.file_text.specs.Steps.Spans.{part, piece_at, FieldsRead};
 ghost use Rattle.file_spec.specs.Line.{end_of, mark_of, marked, row, fielded, count, line_of};
 ghost use Rattle.stp_words.specs.Names.{same};
-ghost use Rattle.stp_words.specs.Numbers.{price_of};
 ghost use Rattle.stp_words.specs.Bytes.{bytes};
-ghost use Rattle.file_line.specs.Steps.Seen.{end_seen, mark_seen, money_seen, line_in, Lies, GoodEnd, Good};
+ghost use Rattle.file_line.specs.Steps.Seen.{end_seen, mark_seen, line_in, Lies, GoodEnd, Good};
 
 use file_text::{Fields, Part, fields_of};
 use refusal::Cause;
-use stp_words::{Number, Price, number_of, price_of, same};
+use stp_words::{number_of, price_of, same};
 
 // Why a text cannot be read as a table: the cause's number, and the place of a byte, counted from 0.
 #[derive(Clone, Copy)]
@@ -30,13 +29,6 @@ impl ReadError {
     {
         ReadError { number, place }
     }
-}
-
-// A price: whether it is below zero, and its size.
-#[derive(Clone, Copy)]
-pub struct Money {
-    pub under: bool,
-    pub amount: u32,
 }
 
 // An end of a trench: a junction's number, from 1 to 255, or the part of the text that is its name.
@@ -55,7 +47,7 @@ pub struct Trench {
     pub left: End,
     pub right_at: usize,
     pub right: End,
-    pub price: Money,
+    pub price: i32,
     pub mark: u8,
 }
 
@@ -113,13 +105,13 @@ fn end_of(text: &[u8], p: Part) -> Option<End>
 {
     let w = &text[p.from..p.to];
     match number_of(w) {
-        Number::Value(v) => {
+        Some(v) => {
             if v < 1 || 255 < v {
                 return None;
             }
             Some(End::Number(v as u8))
         }
-        Number::Missing => {
+        None => {
             if is_name(w) {
                 return Some(End::Name(p));
             }
@@ -148,13 +140,13 @@ fn mark_of(w: &[u8]) -> Option<u8>
     ensures small { IfSome result (λ v. v ≤ 1) }
 {
     match number_of(w) {
-        Number::Value(v) => {
+        Some(v) => {
             if 1 < v {
                 return None;
             }
             Some(v as u8)
         }
-        Number::Missing => {
+        None => {
             if is_yes(w) {
                 return Some(1);
             }
@@ -163,23 +155,6 @@ fn mark_of(w: &[u8]) -> Option<u8>
             }
             None
         }
-    }
-}
-
-// The price that a word is.
-fn money_of(w: &[u8]) -> Option<Money>
-    ensures { money_seen result ≡ price_of w.now }
-{
-    match price_of(w) {
-        Price::Plus(amount) => Some(Money {
-            under: false,
-            amount,
-        }),
-        Price::Minus(amount) => Some(Money {
-            under: true,
-            amount,
-        }),
-        Price::NoPrice => None,
     }
 }
 
@@ -228,7 +203,7 @@ fn row(
     let Some(right) = end_of(text, b) else {
         return Err(ReadError::at(Cause::NotJunction as u32, b.from));
     };
-    let Some(price) = money_of(third) else {
+    let Some(price) = price_of(third) else {
         return Err(ReadError::at(Cause::NotPrice as u32, c.from));
     };
     let Some(m) = mark else {
@@ -284,8 +259,8 @@ fn count_line(text: &[u8], at: usize, x: Fields) -> Result<Line, ReadError>
     }
     let n = x.parts[1];
     match number_of(&text[n.from..n.to]) {
-        Number::Value(v) => Ok(Line::Counting(v, at)),
-        Number::Missing => Err(ReadError::at(Cause::NotCount as u32, at)),
+        Some(v) => Ok(Line::Counting(v, at)),
+        None => Err(ReadError::at(Cause::NotCount as u32, at)),
     }
 }
 

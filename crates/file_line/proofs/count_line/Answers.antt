@@ -10,10 +10,10 @@ pub returns-then-x-ne2-clause-result_value : goal.returns-then-x-ne2-clause-resu
 unfolding line_in
 returns-then-x-ne2-clause-result_value c = λ fs r. rw c.at.ensures (count-other _ fs _ _ r _ c.if-x-ne2.true)
 
-pub returns-in-Value-clause-result_value : goal.returns-in-Value-clause-result_value
+pub returns-in-Some-clause-result_value : goal.returns-in-Some-clause-result_value
 unfolding line_in counted number_in part
-returns-in-Value-clause-result_value c = λ fs r. count-one _ fs _ _ r _ c.if-x-ne2.false _ c.in-Value.ensures
+returns-in-Some-clause-result_value c = λ fs r. count-one _ fs _ _ r _ c.if-x-ne2.false _ c.in-Some.ensures
 
-pub returns-in-Missing-clause-result_value : goal.returns-in-Missing-clause-result_value
+pub returns-in-None-clause-result_value : goal.returns-in-None-clause-result_value
 unfolding line_in counted number_in part
-returns-in-Missing-clause-result_value c = λ fs r. rw c.at-in-Missing.ensures (count-one _ fs _ _ r _ c.if-x-ne2.false _ c.in-Missing.ensures)
+returns-in-None-clause-result_value c = λ fs r. rw c.at-in-None.ensures (count-one _ fs _ _ r _ c.if-x-ne2.false _ c.in-None.ensures)

@@ -11,12 +11,12 @@ use Rattle.file_line.proofs.end_of.Goals as goal
 pub returns-then-v-lt1-clause-value : goal.returns-then-v-lt1-clause-value
 unfolding end_of numbered number_in part
 returns-then-v-lt1-clause-value c =
-    rw (← c.in-Value.ensures)
-    (⊎_elim (λ w. rw (lt-leb 1 c.in-Value.v w)) (λ w. rw (le-leb 1 c.in-Value.v w.0, lt-leb c.in-Value.v 255 w.1)) c.then-v-lt1.either)
+    rw (← c.in-Some.ensures)
+    (⊎_elim (λ w. rw (lt-leb 1 c.in-Some.v w)) (λ w. rw (le-leb 1 c.in-Some.v w.0, lt-leb c.in-Some.v 255 w.1)) c.then-v-lt1.either)
 
 pub returns-else-v-gt255-clause-value : goal.returns-else-v-gt255-clause-value
 unfolding end_of numbered number_in part end_in
-returns-else-v-gt255-clause-value c = rw (← c.in-Value.ensures, le-leb 1 c.in-Value.v (omega arith), le-leb c.in-Value.v 255 (omega arith))
+returns-else-v-gt255-clause-value c = rw (← c.in-Some.ensures, le-leb 1 c.in-Some.v (omega arith), le-leb c.in-Some.v 255 (omega arith))
 
 pub returns-else-v-gt255-clause-good : goal.returns-else-v-gt255-clause-good
 unfolding Lying
@@ -24,7 +24,7 @@ returns-else-v-gt255-clause-good c = omega arith
 
 pub returns-then-is_name-clause-value : goal.returns-then-is_name-clause-value
 unfolding end_of numbered number_in part end_in
-returns-then-is_name-clause-value c = rw (← c.in-Missing.ensures, ← c.is_name.ensures, c.if-is_name.true)
+returns-then-is_name-clause-value c = rw (← c.in-None.ensures, ← c.is_name.ensures, c.if-is_name.true)
 
 pub returns-then-is_name-clause-good : goal.returns-then-is_name-clause-good
 unfolding Lying
@@ -32,4 +32,4 @@ returns-then-is_name-clause-good c = c.requires
 
 pub returns-else-is_name-clause-value : goal.returns-else-is_name-clause-value
 unfolding end_of numbered number_in part
-returns-else-is_name-clause-value c = rw (← c.in-Missing.ensures, ← c.is_name.ensures, c.if-is_name.false)
+returns-else-is_name-clause-value c = rw (← c.in-None.ensures, ← c.is_name.ensures, c.if-is_name.false)

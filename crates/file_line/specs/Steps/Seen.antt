@@ -1,14 +1,12 @@
 -- What the numbers that the line reader answers stand for.
 -- Assumes nothing.
-use Rattle.std.specs.Prelude.{ℕ, ◌≤◌, ◌<◌, cond, List, ◌≡◌, ℤ, pos, length, Option, Some, None, IfSome, Result, Ok, Err, ⊤}
+use Rattle.std.specs.Prelude.{ℕ, ◌≤◌, ◌<◌, List, ◌≡◌, length, Option, Some, None, IfSome, Result, Ok, Err, ⊤}
 use Rattle.std.proofs.Math.Option as maybe
-use Rattle.stp_words.specs.Numbers.{below}
 use Rattle.file_text.specs.Steps.Spans.{part, field_at}
 use Rattle.file_text.specs.declared.Part.{Part}
 use Rattle.file_spec.specs.Line as file
 use Rattle.file_line.specs.declared.End.{End}
 use Rattle.file_line.specs.declared.End.TheVariants.{Number, Name}
-use Rattle.file_line.specs.declared.Money.{Money}
 use Rattle.file_line.specs.declared.ReadError.{ReadError}
 use Rattle.file_line.specs.declared.Trench.{Trench}
 use Rattle.file_line.specs.declared.Line.{Line}
@@ -31,13 +29,6 @@ end_seen text x = seen (end_in text) x
 abbrev pub mark_seen : Option ℕ → maybe.Option ℕ
 mark_seen x = seen (λ v. v) x
 
--- a price
-unfoldable pub amount_in : Money → ℤ
-amount_in x = cond x.under (below x.amount) (pos x.amount)
-
-abbrev pub money_seen : Option Money → maybe.Option ℤ
-money_seen x = seen amount_in x
-
 -- a trench and a line
 unfoldable pub trench_in : List ℕ → Trench → file.Trench
 trench_in text t =
@@ -48,7 +39,7 @@ trench_in text t =
       left = end_in text t.left;
       right_at = t.right_at;
       right = end_in text t.right;
-      price = amount_in t.price;
+      price = t.price;
       mark = t.mark;
     }
 
