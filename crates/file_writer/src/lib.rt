@@ -16,46 +16,22 @@ ghost use Rattle.rowset.specs.Words.{in_words};
 
 use decimal::{put_byte, put_natural, put_price, put_text};
 
-// The bytes blank and LF.
-const BLANK: u8 = 32;
-
+// The byte LF.
 const LINE_END: u8 = 10;
 
-// A number as a place.
-fn wide(x: u32) -> usize
-    ensures { result ≡ x }
+// The number at position k of a column, 0 past its end.
+#[tactic(auto, unfolding(crate::specs::Steps::Rows::entry_at))]
+pub fn entry(column: &[u32], k: usize) -> u32
+    ensures { result ≡ entry_at column.now k }
 {
-    x as usize
+    column.get(k).copied().unwrap_or(0)
 }
 
-// The number at position k of a column, 0 past its end.
+// The same as a place.
 pub fn place(column: &[u32], k: usize) -> usize
     ensures { result ≡ entry_at column.now k }
 {
-    if k < column.len() {
-        return wide(column[k]);
-    }
-    0
-}
-
-// One less, and 0 of 0.
-pub fn before(v: usize) -> usize
-    ensures { result ≡ v - 1 }
-{
-    if v < 1 {
-        return 0;
-    }
-    v - 1
-}
-
-// The lesser of two places.
-pub fn lesser(a: usize, b: usize) -> usize
-    ensures { result ≡ min a b }
-{
-    if a < b {
-        return a;
-    }
-    b
+    entry(column, k) as usize
 }
 
 // The bytes of a text from one place up to another; what is past its end is not there.
@@ -63,7 +39,7 @@ fn put_part(out: &mut [u8], at: usize, text: &[u8], from: usize, to: usize) -> u
     requires { at ≤ length out.old }
     ensures { Puts out.old at (part text.now from to) out.new result }
 {
-    let high = lesser(to, text.len());
+    let high = to.min(text.len());
     if from < high {
         return put_text(out, at, &text[from..high]);
     }
@@ -75,10 +51,8 @@ fn put_name(out: &mut [u8], at: usize, text: &[u8], starts: &[u32], ends: &[u32]
     requires { at ≤ length out.old }
     ensures { Puts out.old at (name_of text.now starts.now ends.now v) out.new result }
 {
-    let k = before(v);
-    let from = place(starts, k);
-    let to = place(ends, k);
-    put_part(out, at, text, from, to)
+    let k = v.saturating_sub(1);
+    put_part(out, at, text, place(starts, k), place(ends, k))
 }
 
 // A junction, as its number, or as its name where names are lent.
@@ -94,7 +68,7 @@ fn put_junction(
     ensures { Puts out.old at (end_bytes (end_in text.now starts.now ends.now v)) out.new result }
 {
     if starts.len() == 0 {
-        return put_natural(out, at, v as u64);
+        return put_natural(out, at, u64::from(v));
     }
     put_name(out, at, text, starts, ends, v as usize)
 }
@@ -142,13 +116,11 @@ fn put_struck(out: &mut [u8], at: usize, struck: bool, s: u8) -> usize
 }
 
 // The mark of a trench: none where it is struck.
+#[tactic(auto, unfolding(file_spec::specs::Line::marked))]
 fn mark_unless(struck: bool, m: u8) -> u64
     ensures { result ≡ marked struck m }
 {
-    if struck {
-        return 0;
-    }
-    m as u64
+    if struck { 0 } else { u64::from(m) }
 }
 
 // The price of row i and its mark.
@@ -175,10 +147,7 @@ fn put_rest(
 pub fn is_struck(words: &[u64], i: usize) -> bool
     ensures { result ≡ not (in_words words.now i) }
 {
-    if slice_words::row_in(words, i) {
-        return false;
-    }
-    true
+    !slice_words::row_in(words, i)
 }
 
 // The line of row i.
@@ -224,11 +193,20 @@ fn put_rows(
     ensures { Puts out.old at (rows_put (λ i. line_put s (trench_of (sheet_of text.now starts.now ends.now words.now left.now right.now weight.now mark.now) i)) m) out.new result }
 {
     let mut next = at;
-    let mut i = 0;
-    while i < m {
-        i += 1;
+    for k in 0..m {
         next = put_row(
-            out, next, s, text, starts, ends, words, left, right, weight, mark, i,
+            out,
+            next,
+            s,
+            text,
+            starts,
+            ends,
+            words,
+            left,
+            right,
+            weight,
+            mark,
+            k + 1,
         );
     }
     next
@@ -257,13 +235,11 @@ fn put_count(out: &mut [u8], at: usize, s: u8, n: u64) -> usize
 }
 
 // Whether a text has a header: where blanks do not part the fields.
+#[tactic(auto, unfolding(crate::specs::Forms::headed))]
 fn has_header(s: u8) -> bool
     ensures { result ≡ headed s }
 {
-    if s == BLANK {
-        return false;
-    }
-    true
+    s != b' '
 }
 
 // A table of n junctions and m rows, whose fields the byte s parts.
