@@ -6,7 +6,7 @@ use mathlib.Core.Path.{◌≡◌, refl}
 use Rattle.std.specs.List.{list_any, list_all}
 use Rattle.file_spec.specs.Names.{is_letter, of_names, any_letter, all_of_names, is_name}
 
-some-letter : (w : List ℕ) → any_letter w ≡ list_any is_letter w
+pub some-letter : (w : List ℕ) → any_letter w ≡ list_any is_letter w
 unfolding any_letter
 some-letter [] = refl
 some-letter (b ∷ t) = rw (some-letter t)

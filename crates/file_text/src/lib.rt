@@ -52,7 +52,7 @@ pub struct Fields {
     pub parts: [Part; FIELDS],
 }
 
-fn is_blank(b: u8) -> bool
+pub fn is_blank(b: u8) -> bool
     ensures { result ≡ is_blank b }
 {
     b == 32 || b == 9

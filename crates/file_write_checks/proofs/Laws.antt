@@ -1,6 +1,6 @@
 -- Laws of the checks, one turn of a loop or one call at a time. Assumes nothing.
 use Prim.Native.Nat.{ℕ, zero, suc, ◌+◌, ◌*◌, ◌-◌, ◌/◌, ◌%◌, ◌≤◌, ◌<◌, min, max}
-use borrow.Author.Tests.{eq-eqb, ne_eqb, lt-ltb, le-ltb, ltb-false}
+use borrow.Author.Tests.{eq-eqb, ne_eqb, eqb-true, eqb-false, lt-ltb, le-ltb, ltb-false}
 use lib.Dec.{eqb, leb, ltb}
 use lib.ListN.{length, get_or, drop, take, drop_of_length-le}
 use lib.Seq.{drop-cons}
@@ -14,15 +14,16 @@ use Rattle.file_spec.specs.Names.{is_letter, of_names, any_letter}
 use Rattle.file_spec.specs.Pieces.{is_blank}
 use Rattle.file_spec.specs.Table.{max_names}
 use Rattle.file_text.specs.Steps.Spans.{part}
+use Rattle.file_line.proofs.Naming.{some-letter}
 use Rattle.file_writer.proofs.Writes.{part_none, part-high}
 use Rattle.file_writer.specs.Columns.{Sheet, name_of, room}
 use Rattle.file_writer.specs.Forms.{is_separator, parts}
 use Rattle.file_writer.specs.RoundTrip.{opens, closes}
 use Rattle.file_writer.specs.Steps.Rows.{entry_at}
 use Rattle.refusal.specs.Outcomes.{refusal_of}
-use Rattle.refusal.specs.declared.Outcome.{Outcome}
-use Rattle.refusal.specs.declared.Outcome.TheVariants.{Done, Refused}
 use Rattle.refusal.specs.declared.Refusal.{Refusal}
+use Rattle.std.specs.List.{list_any, list_all}
+use Rattle.std.specs.Prelude.{Some, None}
 use Rattle.rowset.specs.Bytes.{in_row}
 use Rattle.rowset.specs.Sets.{uppermost}
 use Rattle.rowset.specs.Words.{in_words}
@@ -31,50 +32,19 @@ use Rattle.star_spec.specs.Refusals.{max_rows, cause, cause_at, too_many_rows, o
 use Rattle.stp_words.specs.Bytes.{bytes, within}
 use Rattle.stp_words.specs.Names.{same}
 use Rattle.table_checks.proofs.Laws.{Passed, passed_none, passed-more, passed-found, passed-all, refused-first, done_next}
+use Rattle.file_write_checks.specs.Steps.{fault_of}
 use Rattle.file_write_checks.specs.Checks.{wrong_columns, past_row, size_cause, write_cause, first_fault, fits, all_fit, full, name_fits, name_fault, most_end, bad_end, opens_other, name_if, row_fault, longest_to, room_cause, fault_cause}
 
 -- ── Bytes of names ──
 
-pub letter-made : (b : ℕ) (x y z r : Bool) → x ≡ within 65 90 b → y ≡ within 97 122 b → z ≡ (x || y) → r ≡ (z || leb 128 b) → r ≡ is_letter b
-unfolding is_letter
-letter-made b x y z r ex ey ez er = rw (er, ez, ex, ey)
+all-fit : (s : ℕ) (w : List ℕ) → all_fit s w ≡ list_all (fits s) w
+unfolding all_fit
+all-fit s [] = refl
+all-fit s (b ∷ t) = rw (all-fit s t)
 
-pub separator-made : (s : ℕ) (x y r : Bool) → x ≡ (eqb s 59 || eqb s 9) → y ≡ (x || eqb s 44) → r ≡ (y || eqb s 32) → r ≡ is_separator s
-unfolding is_separator
-separator-made s x y r ex ey er = rw (er, ey, ex)
-
-pub fits-made : (s b : ℕ) (p x y z r : Bool) → p ≡ parts s b → x ≡ (leb 32 b && not (eqb b 34)) → y ≡ (x && not (eqb b 127)) → z ≡ (not (eqb b 35) && not p) → r ≡ (y && z) → r ≡ fits s b
-unfolding fits of_names
-fits-made s b p x y z r ep ex ey ez er = rw (er, ey, ez, ex, ep)
-
-and_no : (x : Bool) → (x && false) ≡ false
-and_no true = refl
-and_no false = refl
-
-or-moved : (x y z a : Bool) {r : Bool} → ((x || (y || z)) && a) ≡ r → (((x || y) || z) && a) ≡ r
-or-moved true y z a e = e
-or-moved false y z a e = e
-
-or-and-last : (x : Bool) → ((x || false) && true) ≡ x
-or-and-last true = refl
-or-and-last false = refl
-
-module _ (s : ℕ) (w : List ℕ) (i : ℕ) (l : Bool) (inv : ((l || any_letter (drop i w)) && all_fit s (drop i w)) ≡ (any_letter w && all_fit s w)) where
-  pub fit-stop : i < length w → fits s (get_or w i 0) ≡ false → false ≡ (any_letter w && all_fit s w)
-  unfolding all_fit
-  fit-stop h e = sym (and_no (l || any_letter (drop i w))) ∙ (rw (drop-cons w i 0 h, e, ← drop-cons w i 0 h) at inv)
-
-  pub fit-more : i < length w → fits s (get_or w i 0) ≡ true → (m : Bool) → m ≡ (l || is_letter (get_or w i 0))
-      → ((m || any_letter (drop (i + 1) w)) && all_fit s (drop (i + 1) w)) ≡ (any_letter w && all_fit s w)
-  unfolding all_fit any_letter
-  fit-more h e m f = rw (add-one i, f) (or-moved l (is_letter (get_or w i 0)) (any_letter (drop (suc i) w)) (all_fit s (drop (suc i) w)) (rw (drop-cons w i 0 h, e) at inv))
-
-  pub fit-last : length w ≤ i → l ≡ (any_letter w && all_fit s w)
-  unfolding all_fit any_letter
-  fit-last h = sym (or-and-last l) ∙ (rw (drop_of_length-le w h) at inv)
-
-pub or_right : (x : Bool) {y z : Bool} → y ≡ z → (x || y) ≡ (x || z)
-or_right x e = rw e
+pub name_fitting : (s : ℕ) (w : List ℕ) → name_fits s w ≡ ((list_any is_letter w && list_all (fits s) w) && full w)
+unfolding name_fits
+name_fitting s w = rw (some-letter w, all-fit s w)
 
 -- ── Edges ──
 
@@ -102,10 +72,6 @@ edges-made w a b r h ea eb er =
     let l : length w ≡ suc (length w - 1) = omega arith in
     rw (er, ea, eb, opens_at is_blank w g, closes_at is_blank w (length w - 1) l)
 
-pub name-made : (s : ℕ) (w : List ℕ) (a b r : Bool) → a ≡ (any_letter w && all_fit s w) → b ≡ full w → r ≡ (a && b) → r ≡ name_fits s w
-unfolding name_fits
-name-made s w a b r ea eb er = rw (er, ea, eb)
-
 -- ── Names ──
 
 module _ (s : ℕ) (text starts ends : List ℕ) (v from to : ℕ) where
@@ -128,50 +94,51 @@ module _ (s : ℕ) (text starts ends : List ℕ) (v from to : ℕ) where
 
 -- ── A search for the first fault ──
 
-pub fault-there : (f : ℕ → ℕ) (i x : ℕ) → x ≡ f i → (x ≡ 0 → ⊥) → not (eqb (f i) 0) ≡ true
-fault-there f i x e n = rw (← e, ne_eqb x 0 n)
+is-fault : (x n : ℕ) → Some n ≡ fault_of x → (n ≡ x) × (not (eqb x 0) ≡ true)
+unfolding fault_of
+is-fault x n = go (eqb x 0)
+  where
+    go : (t : Bool) → Some n ≡ cond t None (Some x) → (n ≡ x) × (not t ≡ true)
+    go true e = cc
+    go false e = (cc, refl)
 
-pub fault-gone : (f : ℕ → ℕ) (i x : ℕ) → x ≡ f i → x ≡ 0 → not (eqb (f i) 0) ≡ false
-fault-gone f i x e z = rw (← e, eq-eqb x 0 z)
+no-fault : (x : ℕ) → None ≡ fault_of x → not (eqb x 0) ≡ false
+unfolding fault_of
+no-fault x = go (eqb x 0)
+  where
+    go : (t : Bool) → None ≡ cond t None (Some x) → not t ≡ false
+    go true e = refl
+    go false e = cc
 
--- none of the first k has a fault
+cause-some : (n k : ℕ) → 1 ≤ k → some (record { number = n; place = k }) ≡ cause_at n k
+unfolding cause_at
+cause-some n zero h = absurd (omega arith)
+cause-some n (suc k) h = refl
+
+-- none of those before k has a fault
 unfoldable pub Clear : (ℕ → ℕ) → ℕ → Type 0
-Clear f k = Passed (λ i. not (eqb (f i) 0)) (k + 1)
+Clear f k = Passed (λ i. not (eqb (f i) 0)) k
 
 module _ (f : ℕ → ℕ) where
-  pub clear_none : Clear f 0
+  pub clear_none : Clear f 1
   unfolding Clear
   clear_none = passed_none (λ i. not (eqb (f i) 0))
 
-  pub clear-more : (k x : ℕ) → x ≡ f (k + 1) → x ≡ 0 → Clear f k → Clear f (k + 1)
+  pub clear-more : (k : ℕ) → Clear f k → None ≡ fault_of (f k) → Clear f (k + 1)
   unfolding Clear
-  clear-more k x e z h = passed-more (λ i. not (eqb (f i) 0)) (k + 1) h (fault-gone f (k + 1) x e z)
+  clear-more k h e = passed-more (λ i. not (eqb (f i) 0)) k h (no-fault (f k) e)
 
-  pub clear-found : (m k x : ℕ) → x ≡ f (k + 1) → (x ≡ 0 → ⊥) → k + 1 ≤ m → Clear f k → k + 1 ≡ first_fault f m
-  unfolding first_fault Clear
-  clear-found m k x e n l h = passed-found (λ i. not (eqb (f i) 0)) m (k + 1) (omega arith) l h (fault-there f (k + 1) x e n)
+  pub clear-found : (m k n : ℕ) → 1 ≤ k → k ≤ m → Clear f k → Some n ≡ fault_of (f k) → some (record { number = n; place = k }) ≡ fault_cause f m
+  unfolding fault_cause first_fault Clear
+  clear-found m k n l u h e =
+      let g = is-fault (f k) n e in
+      rw (← passed-found (λ i. not (eqb (f i) 0)) m k l u h g.1, g.0) (cause-some (f k) k l)
 
-  pub clear-all : (m k : ℕ) → m ≤ k → Clear f k → 0 ≡ first_fault f m
-  unfolding first_fault Clear
-  clear-all m k l h = passed-all (λ i. not (eqb (f i) 0)) m (k + 1) (omega arith) h
+  pub clear-all : (m k : ℕ) → m < k → Clear f k → none ≡ fault_cause f m
+  unfolding fault_cause first_fault Clear cause_at
+  clear-all m k l h = rw (← passed-all (λ i. not (eqb (f i) 0)) m k l h)
 
 -- ── Rows ──
-
-pub most-none : (n : ℕ) → n ≡ 0 → 255 ≡ most_end n
-unfolding most_end
-most-none n e = rw (eq-eqb n 0 e)
-
-pub most-some : (n : ℕ) → (n ≡ 0 → ⊥) → n ≡ most_end n
-unfolding most_end
-most-some n e = rw (ne_eqb n 0 e)
-
-pub end-made : (most v w : ℕ) (r : Bool) → w ≡ v → r ≡ (eqb v 0 || ltb most w) → r ≡ bad_end most v
-unfolding bad_end
-end-made most v w r e f = rw (f, e)
-
-pub other-made : (w : List ℕ) (a b r : Bool) → a ≡ same w (115 ∷ 116 ∷ 114 ∷ 117 ∷ 99 ∷ 107 ∷ []) → b ≡ same w (106 ∷ 117 ∷ 110 ∷ 99 ∷ 116 ∷ 105 ∷ 111 ∷ 110 ∷ 115 ∷ []) → r ≡ (a || b) → r ≡ opens_other w
-unfolding opens_other bytes
-other-made w a b r ea eb er = rw (er, ea, eb)
 
 module _ (text starts ends : List ℕ) (v : ℕ) where
   pub other-numbers : length starts ≡ 0 → false ≡ opens_other (name_if text starts ends v)
@@ -257,23 +224,16 @@ pub few-names : (s m : ℕ) (wrong : Bool) (past names : ℕ) → none ≡ size_
 unfolding size_cause
 few-names s m wrong past names e = ltb-false 255 names (cause-none (ltb max_names names) 26 0 (or-none _ _ (or-none _ _ (or-none _ _ (or-none _ _ e).1).1).1).0)
 
-pub four-odd : (w m : ℕ) → (w % 4 ≡ 0 → ⊥) → eqb w (4 * m) ≡ false
-four-odd w m h = ne_eqb w (4 * m) (λ e. omega (arith, h))
-
-pub four-other : (w m : ℕ) → (w / 4 ≡ m → ⊥) → eqb w (4 * m) ≡ false
-four-other w m h = ne_eqb w (4 * m) (λ e. omega (arith, h))
-
-pub four-times : (w m : ℕ) → w % 4 ≡ 0 → w / 4 ≡ m → eqb w (4 * m) ≡ true
-four-times w m h g = eq-eqb w (4 * m) (omega arith)
-
-pub sizes-made : (s m : ℕ) (wrong : Bool) (past names : ℕ) (parted : Bool) (a b c d e f g h r : Option Refusal) → parted ≡ is_separator s → a ≡ cause (ltb max_rows m) 2 0 → b ≡ cause wrong 3 0 → c ≡ cause_at 3 past
-    → d ≡ cause (ltb max_names names) 26 0 → e ≡ cause (not parted) 28 0 → f ≡ or_else d e → g ≡ or_else c f → h ≡ or_else b g → r ≡ or_else a h → r ≡ size_cause s m wrong past names
-unfolding size_cause too_many_rows
-sizes-made s m wrong past names parted a b c d e f g h r ep ea eb ec ed ee ef eg eh er = rw (er, eh, eg, ef, ea, eb, ec, ed, ee, ep)
-
-pub fault-caused : (f : ℕ → ℕ) (m k number : ℕ) {o : Option Refusal} → k ≡ first_fault f m → number ≡ f k → o ≡ cause_at number k → o ≡ fault_cause f m
-unfolding fault_cause
-fault-caused f m k number e g h = h ∙ ap (λ x. cause_at x k) g ∙ ap (λ i. cause_at (f i) i) e
+pub four_times : (w m : ℕ) → eqb w (4 * m) ≡ (eqb (w % 4) 0 && eqb (w / 4) m)
+four_times w m = go (eqb w (4 * m)) refl
+  where
+    go : (x : Bool) → eqb w (4 * m) ≡ x → x ≡ (eqb (w % 4) 0 && eqb (w / 4) m)
+    go true e = let q = eqb-true w (4 * m) e in rw (eq-eqb (w % 4) 0 (omega arith), eq-eqb (w / 4) m (omega arith))
+    go false e = odd (eqb (w % 4) 0) refl
+      where
+        odd : (y : Bool) → eqb (w % 4) 0 ≡ y → false ≡ (y && eqb (w / 4) m)
+        odd true a = let n = eqb-false w (4 * m) e in let b = eqb-true (w % 4) 0 a in rw (ne_eqb (w / 4) m (λ q. n (omega arith)))
+        odd false a = refl
 
 module _ (longest size need : ℕ) (en : need ≡ room max_rows longest) where
   pub room-long : 16777216 < need → some (record { number = 12; place = 16777216 }) ≡ room_cause longest size
@@ -290,14 +250,7 @@ module _ (longest size need : ℕ) (en : need ≡ room max_rows longest) where
 
 -- ── All, in their order ──
 
-module _ (s size : ℕ) (x : Sheet) (wrong : Bool) (past : ℕ)
-    (ew : wrong ≡ wrong_columns (length x.left) (length x.right) (length x.weight) (length x.mark) (length x.words) (length x.starts) (length x.ends))
-    (ep : past ≡ uppermost max_rows (past_row x.words (length x.left))) (o : Outcome) (eo : refusal_of o ≡ size_cause s (length x.left) wrong past (length x.starts)) where
-  pub write-refused : (r : Refusal) → o ≡ Refused r → refusal_of o ≡ write_cause s x size
-  unfolding write_cause
-  write-refused r told = rw (← ew, ← ep) (refused-first o r _ _ told eo)
-
-  pub write_done : (n q p f z : Option Refusal) (most : ℕ) → o ≡ Done → n ≡ fault_cause (name_fault s x.text x.starts x.ends) (length x.starts) → q ≡ fault_cause (row_fault x) (length x.left)
-      → most ≡ longest_to x.starts x.ends (length x.starts) → p ≡ room_cause most size → f ≡ or_else q p → z ≡ or_else n f → z ≡ write_cause s x size
-  unfolding write_cause
-  write_done n q p f z most told en eq em er ef ez = rw (← ew, ← ep) (done_next o _ _ z told eo (rw (ez, ef, en, eq, er, em)))
+pub size-causes : (s m : ℕ) (wrong : Bool) (past names : ℕ) → or_else (cause (ltb max_rows m) 2 0) (or_else (cause wrong 3 0) (or_else (cause_at 3 past) (or_else (cause (ltb max_names names) 26 0) (cause (not (is_separator s)) 28 0))))
+    ≡ size_cause s m wrong past names
+unfolding size_cause too_many_rows
+size-causes s m wrong past names = refl

@@ -1,2 +1,3 @@
 pub mod Checks
 pub mod Trials
+pub mod Steps

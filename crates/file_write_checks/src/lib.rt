@@ -2,22 +2,22 @@
 
 #![tactic(auto)]
 
-ghost use Rattle.std.specs.Prelude.{◌&&◌, ◌||◌, ◌≡◌, ◌-◌, ◌≤◌, max, length};
-ghost use Rattle.file_spec.specs.Names.{is_letter, any_letter};
-ghost use Rattle.file_spec.specs.Pieces.{is_blank};
+ghost use Rattle.std.specs.Prelude.{◌||◌, ◌≡◌, ◌≤◌, length};
 ghost use Rattle.file_writer.specs.Columns.{sheet_of, room};
 ghost use Rattle.file_writer.specs.Forms.{is_separator, parts};
-ghost use Rattle.file_writer.specs.Steps.Rows.{entry_at};
 ghost use Rattle.refusal.specs.Outcomes.{refusal_of};
 ghost use Rattle.rowset.specs.Sets.{uppermost};
 ghost use Rattle.star_spec.specs.Refusals.{max_rows};
-ghost use Rattle.stp_words.specs.Bytes.{within};
-ghost use Rattle.file_write_checks.specs.Checks.{wrong_columns, past_row, size_cause, first_fault, fault_cause, fits, all_fit, full, name_fits, name_fault, most_end, bad_end, opens_other, name_if, row_fault, longest_to, room_cause, write_cause};
+ghost use Rattle.std.specs.List.{list_all};
+ghost use Rattle.file_write_checks.specs.Steps.{fault_of};
+ghost use Rattle.file_write_checks.specs.Checks.{wrong_columns, past_row, size_cause, fault_cause, fits, full, name_fits, name_fault, most_end, bad_end, opens_other, name_if, row_fault, longest_to, room_cause, write_cause};
 
-use file_writer::{before, lesser, place};
-use refusal::{Outcome, Refusal};
+use file_line::{any_letter, of_names};
+use file_text::is_blank;
+use file_writer::{entry, is_struck, place};
+use refusal::{Cause, Refusal};
 use stp_words::same;
-use table_checks::{first, refused_at, refused_if, row_byte};
+use table_checks::{refused_at, refused_if, row_byte};
 
 // The most rows and names, the words of the rows in use, and the longest text that is read.
 const ROWS: usize = 1024;
@@ -28,209 +28,145 @@ const WORDS: usize = 16;
 
 const MAX_TEXT: usize = 16777216;
 
-fn both(a: bool, b: bool) -> bool
-    ensures { result ≡ (a && b) }
-{
-    if a { b } else { false }
-}
-
-fn either(a: bool, b: bool) -> bool
-    ensures { result ≡ (a || b) }
-{
-    if a { true } else { b }
-}
-
-fn between(low: u8, high: u8, b: u8) -> bool
-    ensures { result ≡ within low high b }
-{
-    both(low <= b, b <= high)
-}
-
-fn is_letter(b: u8) -> bool
-    ensures { result ≡ is_letter b }
-{
-    either(either(between(65, 90, b), between(97, 122, b)), 128 <= b)
-}
-
-fn is_blank(b: u8) -> bool
-    ensures { result ≡ is_blank b }
-{
-    either(b == 32, b == 9)
-}
-
 // Whether a byte parts fields.
+#[tactic(auto, unfolding(file_writer::specs::Forms::is_separator))]
 fn is_separator(s: u8) -> bool
     ensures { result ≡ is_separator s }
 {
-    either(either(either(s == 59, s == 9), s == 44), s == 32)
+    matches!(s, b';' | b'\t' | b',' | b' ')
 }
 
 // Whether no field holds a byte where s parts the fields.
+#[tactic(auto, unfolding(file_writer::specs::Forms::parts, file_writer::specs::Forms::goes_before, file_spec::specs::Pieces::is_byte))]
 fn parts_at(s: u8, b: u8) -> bool
     ensures { result ≡ parts s b }
 {
-    if b == s {
-        return true;
+    match s {
+        b';' => b == b';',
+        b'\t' => matches!(b, b';' | b'\t'),
+        b',' => matches!(b, b';' | b'\t' | b','),
+        _ => b == s || matches!(b, b';' | b'\t' | b','),
     }
-    if s == 59 {
-        return false;
-    }
-    if b == 59 {
-        return true;
-    }
-    if s == 9 {
-        return false;
-    }
-    if b == 9 {
-        return true;
-    }
-    if s == 44 {
-        return false;
-    }
-    b == 44
 }
 
 // Whether a name may hold a byte.
+#[tactic(auto, unfolding(crate::specs::Checks::fits))]
 fn byte_fits(s: u8, b: u8) -> bool
     ensures { result ≡ fits s b }
 {
-    let p = parts_at(s, b);
-    let low = both(32 <= b, b != 34);
-    let name = both(low, b != 127);
-    let free = both(b != 35, !p);
-    both(name, free)
+    of_names(b) && b != b'#' && !parts_at(s, b)
 }
 
-// Whether bytes have a letter, and a name may hold each.
+// Whether a name may hold each byte.
 fn bytes_fit(s: u8, w: &[u8]) -> bool
-    ensures { result ≡ (any_letter w.now && all_fit s w.now) }
+    ensures { result ≡ list_all (fits s) w.now }
 {
-    let mut letter = false;
-    for i in 0..w.len() {
-        let b = w[i];
-        if !byte_fits(s, b) {
-            return false;
-        }
-        letter = either(letter, is_letter(b));
-    }
-    letter
+    w.iter().all(|b| byte_fits(s, *b))
 }
 
 // Whether no blank stands in front or behind.
 fn edges_full(w: &[u8]) -> bool
     ensures { result ≡ full w.now }
 {
-    if w.len() == 0 {
+    if w.is_empty() {
         return true;
     }
-    let last = w.len() - 1;
     let a = is_blank(w[0]);
-    let b = is_blank(w[last]);
-    both(!a, !b)
+    let b = is_blank(w[w.len() - 1]);
+    !a && !b
 }
 
 // Whether bytes are a name that the file can have.
+#[tactic(auto, using(crate::proofs::Laws::name_fitting))]
 fn name_fits(s: u8, w: &[u8]) -> bool
     ensures { result ≡ name_fits s w.now }
 {
-    let held = bytes_fit(s, w);
-    let edges = edges_full(w);
-    both(held, edges)
+    any_letter(w) && bytes_fit(s, w) && edges_full(w)
 }
 
-// What is wrong with the name of a junction: its number, 0 where nothing is.
-fn name_fault(s: u8, text: &[u8], starts: &[u32], ends: &[u32], v: usize) -> u32
-    ensures { result ≡ name_fault s text.now starts.now ends.now v }
+// What is wrong with the name of a junction: its cause, if it has one.
+fn name_fault(s: u8, text: &[u8], starts: &[u32], ends: &[u32], v: usize) -> Option<u32>
+    ensures { result ≡ fault_of (name_fault s text.now starts.now ends.now v) }
 {
-    let k = before(v);
+    let k = v.saturating_sub(1);
     let from = place(starts, k);
     let to = place(ends, k);
     if to < from {
-        return 29;
+        return Some(Cause::BadNamePlaces as u32);
     }
     if text.len() < to {
-        return 29;
+        return Some(Cause::BadNamePlaces as u32);
     }
     if name_fits(s, &text[from..to]) {
-        return 0;
+        return None;
     }
-    21
+    Some(Cause::NotJunction as u32)
 }
 
-// The first name with a fault, 0 where there is none.
-fn first_name_fault(s: u8, text: &[u8], starts: &[u32], ends: &[u32]) -> usize
-    ensures { (result ≡ first_fault (name_fault s text.now starts.now ends.now) (length starts.now)) × (result ≤ length starts.now) }
-{
-    let mut k = 0;
-    while k < starts.len() {
-        k += 1;
-        if name_fault(s, text, starts, ends, k) != 0 {
-            return k;
-        }
-    }
-    0
-}
-
-// The names' causes, of at most 255.
-fn names_check(s: u8, text: &[u8], starts: &[u32], ends: &[u32]) -> Outcome
+// The names' causes, of at most 255: that of the first name that has one.
+fn names_check(s: u8, text: &[u8], starts: &[u32], ends: &[u32]) -> Result<(), Refusal>
     requires { length starts.now ≤ 255 }
     ensures { refusal_of result ≡ fault_cause (name_fault s text.now starts.now ends.now) (length starts.now) }
 {
-    let k = first_name_fault(s, text, starts, ends);
-    let number = name_fault(s, text, starts, ends, k);
-    refused_at(number, k as u32)
+    for k in 1..starts.len() + 1 {
+        if let Some(number) = name_fault(s, text, starts, ends, k) {
+            return Err(Refusal {
+                number,
+                place: k as u32,
+            });
+        }
+    }
+    Ok(())
 }
 
 // The largest number of an end.
+#[tactic(auto, unfolding(crate::specs::Checks::most_end))]
 fn most_end(names: usize) -> usize
     ensures { result ≡ most_end names }
 {
-    if names == 0 {
-        return 255;
-    }
-    names
-}
-
-fn wide_byte(v: u8) -> usize
-    ensures { result ≡ v }
-{
-    v as usize
+    if names == 0 { 255 } else { names }
 }
 
 // Whether an end is 0 or above the largest.
+#[tactic(auto, unfolding(crate::specs::Checks::bad_end))]
 fn bad_end(most: usize, v: u8) -> bool
     ensures { result ≡ bad_end most v }
 {
-    let w = wide_byte(v);
-    either(v == 0, most < w)
+    v == 0 || most < v as usize
+}
+
+// Whether an end of a row is.
+fn bad_ends(most: usize, a: u8, b: u8) -> bool
+    ensures { result ≡ (bad_end most a || bad_end most b) }
+{
+    bad_end(most, a) || bad_end(most, b)
 }
 
 // Whether bytes are a word that opens a line of another kind.
+#[tactic(auto, unfolding(crate::specs::Checks::opens_other, stp_words::specs::Bytes::bytes))]
 fn is_other(w: &[u8]) -> bool
     ensures { result ≡ opens_other w.now }
 {
-    let a = same(w, b"struck");
-    let b = same(w, b"junctions");
-    either(a, b)
+    same(w, b"struck") || same(w, b"junctions")
 }
 
 // Whether a junction has such a name.
 fn opens_other(text: &[u8], starts: &[u32], ends: &[u32], v: u8) -> bool
     ensures { result ≡ opens_other (name_if text.now starts.now ends.now v) }
 {
-    if starts.len() == 0 {
+    if starts.is_empty() {
         return false;
     }
-    let k = before(wide_byte(v));
+    let k = (v as usize).saturating_sub(1);
     let from = place(starts, k);
-    let high = lesser(place(ends, k), text.len());
+    let high = place(ends, k).min(text.len());
     if from < high {
         return is_other(&text[from..high]);
     }
     false
 }
 
-// What is wrong with row i: its number, 0 where nothing is.
+// What is wrong with row i: its cause, if it has one.
 fn row_fault(
     text: &[u8],
     starts: &[u32],
@@ -241,51 +177,28 @@ fn row_fault(
     weight: &[u8],
     mark: &[u8],
     i: usize,
-) -> u32
-    ensures { result ≡ row_fault (sheet_of text.now starts.now ends.now words.now left.now right.now weight.now mark.now) i }
+) -> Option<u32>
+    ensures { result ≡ fault_of (row_fault (sheet_of text.now starts.now ends.now words.now left.now right.now weight.now mark.now) i) }
 {
     let most = most_end(starts.len());
     let l = row_byte(left, i);
     let r = row_byte(right, i);
-    if either(bad_end(most, l), bad_end(most, r)) {
-        return 4;
+    if bad_ends(most, l, r) {
+        return Some(Cause::BadEnd as u32);
     }
-    if file_writer::is_struck(words, i) {
-        return 0;
+    if is_struck(words, i) {
+        return None;
     }
     if 1 < row_byte(mark, i) {
-        return 6;
+        return Some(Cause::BadMark as u32);
     }
     if opens_other(text, starts, ends, l) {
-        return 20;
+        return Some(Cause::NotTrench as u32);
     }
-    0
+    None
 }
 
-// The first row with a fault, 0 where there is none.
-fn first_row_fault(
-    text: &[u8],
-    starts: &[u32],
-    ends: &[u32],
-    words: &[u64],
-    left: &[u8],
-    right: &[u8],
-    weight: &[u8],
-    mark: &[u8],
-) -> usize
-    ensures { (result ≡ first_fault (row_fault (sheet_of text.now starts.now ends.now words.now left.now right.now weight.now mark.now)) (length left.now)) × (result ≤ length left.now) }
-{
-    let mut k = 0;
-    while k < left.len() {
-        k += 1;
-        if row_fault(text, starts, ends, words, left, right, weight, mark, k) != 0 {
-            return k;
-        }
-    }
-    0
-}
-
-// The rows' causes, of at most 1,024.
+// The rows' causes, of at most 1,024: that of the first row that has one.
 fn rows_check(
     text: &[u8],
     starts: &[u32],
@@ -295,40 +208,43 @@ fn rows_check(
     right: &[u8],
     weight: &[u8],
     mark: &[u8],
-) -> Outcome
+) -> Result<(), Refusal>
     requires { length left.now ≤ 1024 }
     ensures { refusal_of result ≡ fault_cause (row_fault (sheet_of text.now starts.now ends.now words.now left.now right.now weight.now mark.now)) (length left.now) }
 {
-    let k = first_row_fault(text, starts, ends, words, left, right, weight, mark);
-    let number = row_fault(text, starts, ends, words, left, right, weight, mark, k);
-    refused_at(number, k as u32)
+    for i in 1..left.len() + 1 {
+        if let Some(number) = row_fault(text, starts, ends, words, left, right, weight, mark, i) {
+            return Err(Refusal {
+                number,
+                place: i as u32,
+            });
+        }
+    }
+    Ok(())
 }
 
 // Whether row i is in use and past the last row.
+#[tactic(auto, unfolding(crate::specs::Checks::past_row))]
 fn past_row(words: &[u64], m: usize, i: usize) -> bool
     ensures { result ≡ past_row words.now m i }
 {
-    if i <= m {
-        return false;
-    }
-    slice_words::row_in(words, i)
+    m < i && slice_words::row_in(words, i)
 }
 
 // The first such row, 0 where there is none.
 fn first_past(words: &[u64], m: usize) -> u32
     ensures { result ≡ uppermost max_rows (past_row words.now m) }
 {
-    let mut k = 0;
-    while k < 1024 {
-        k += 1;
-        if past_row(words, m, k as usize) {
-            return k;
+    for i in 1..ROWS + 1 {
+        if past_row(words, m, i) {
+            return i as u32;
         }
     }
     0
 }
 
 // Whether a column is not as long as m rows, or what else is lent has another length.
+#[tactic(auto, using(crate::proofs::Laws::four_times), unfolding(crate::specs::Checks::wrong_columns))]
 fn wrong_columns(
     m: usize,
     right: usize,
@@ -340,70 +256,32 @@ fn wrong_columns(
 ) -> bool
     ensures { result ≡ wrong_columns m right weight mark words starts ends }
 {
-    if right != m {
-        return true;
-    }
-    if weight % 4 != 0 {
-        return true;
-    }
-    if weight / 4 != m {
-        return true;
-    }
-    if mark != m {
-        return true;
-    }
-    if words != WORDS {
-        return true;
-    }
-    ends != starts
+    right != m
+        || weight % 4 != 0
+        || weight / 4 != m
+        || mark != m
+        || words != WORDS
+        || ends != starts
 }
 
 // The causes of the lengths, in their order.
-fn sizes_check(s: u8, m: usize, wrong: bool, past: u32, names: usize) -> Outcome
+fn sizes_check(s: u8, m: usize, wrong: bool, past: u32, names: usize) -> Result<(), Refusal>
     ensures { refusal_of result ≡ size_cause s m wrong past names }
 {
-    let parted = is_separator(s);
-    let rows = refused_if(ROWS < m, 2);
-    let columns = refused_if(wrong, 3);
-    let beyond = refused_at(3, past);
-    let many = refused_if(NAMES < names, 26);
-    let parting = refused_if(!parted, 28);
-    first(rows, first(columns, first(beyond, first(many, parting))))
-}
-
-// The number at position k of a column, 0 past its end.
-fn entry(column: &[u32], k: usize) -> u32
-    ensures { result ≡ entry_at column.now k }
-{
-    if k < column.len() {
-        return column[k];
-    }
-    0
-}
-
-// The bytes from one place up to another.
-fn span(from: u32, to: u32) -> usize
-    ensures { (result ≡ to - from) × (result ≤ 4294967295) }
-{
-    if to < from {
-        return 0;
-    }
-    (to - from) as usize
-}
-
-fn larger(a: usize, b: usize) -> usize
-    ensures { result ≡ max a b }
-{
-    if a < b { b } else { a }
+    refused_if(ROWS < m, Cause::TooManyRows as u32)?;
+    refused_if(wrong, Cause::BadLengths as u32)?;
+    refused_at(Cause::BadLengths as u32, past)?;
+    refused_if(NAMES < names, Cause::TooManyNames as u32)?;
+    refused_if(!is_separator(s), Cause::BadSeparator as u32)
 }
 
 // The longest name, at least 3.
 fn longest(starts: &[u32], ends: &[u32]) -> usize
     ensures { (result ≡ longest_to starts.now ends.now (length starts.now)) × (result ≤ 4294967295) }
 {
-    let mut most = 3;
+    let mut most: usize = 3;
     for k in 0..starts.len() {
-        most = larger(most, span(entry(starts, k), entry(ends, k)));
+        most = most.max(entry(ends, k).saturating_sub(entry(starts, k)) as usize);
     }
     most
 }
@@ -417,24 +295,24 @@ fn needed(longest: usize) -> usize
 }
 
 // The causes of the room.
-fn room_check(longest: usize, size: usize) -> Outcome
+fn room_check(longest: usize, size: usize) -> Result<(), Refusal>
     requires { longest ≤ 4294967295 }
     ensures { refusal_of result ≡ room_cause longest size }
 {
     let need = needed(longest);
     if MAX_TEXT < need {
-        return Outcome::Refused(Refusal {
-            number: 12,
-            place: 16777216,
+        return Err(Refusal {
+            number: Cause::BadText as u32,
+            place: MAX_TEXT as u32,
         });
     }
     if size < need {
-        return Outcome::Refused(Refusal {
-            number: 30,
+        return Err(Refusal {
+            number: Cause::ShortText as u32,
             place: need as u32,
         });
     }
-    Outcome::Done
+    Ok(())
 }
 
 // All causes, in their order: the lengths, the names, the rows, the room in a column of so many bytes.
@@ -449,7 +327,7 @@ pub fn write_check(
     weight: &[u8],
     mark: &[u8],
     size: usize,
-) -> Outcome
+) -> Result<(), Refusal>
     ensures { refusal_of result ≡ write_cause s (sheet_of text.now starts.now ends.now words.now left.now right.now weight.now mark.now) size }
 {
     let m = left.len();
@@ -462,14 +340,8 @@ pub fn write_check(
         starts.len(),
         ends.len(),
     );
-    let past = first_past(words, m);
-    let sizes = sizes_check(s, m, wrong, past, starts.len());
-    let Outcome::Done = sizes else {
-        return sizes;
-    };
-    let names = names_check(s, text, starts, ends);
-    let rows = rows_check(text, starts, ends, words, left, right, weight, mark);
-    let most = longest(starts, ends);
-    let space = room_check(most, size);
-    first(names, first(rows, space))
+    sizes_check(s, m, wrong, first_past(words, m), starts.len())?;
+    names_check(s, text, starts, ends)?;
+    rows_check(text, starts, ends, words, left, right, weight, mark)?;
+    room_check(longest(starts, ends), size)
 }
