@@ -13,14 +13,7 @@ ghost use Rattle.file_write_door.specs.Door.{sheet_text, write_door, write_door_
 ghost use Rattle.file_write_door.specs.Steps.Wrote.{Wrote, told_fields};
 
 use answer::{Record, well_lent, write_answer};
-use refusal::{Outcome, Refusal};
-
-// What was written: the length of the text, or the refusal.
-#[derive(Clone, Copy)]
-pub enum Written {
-    Text(usize),
-    Refused(Refusal),
-}
+use refusal::Refusal;
 
 // The text of a table, where nothing is refused.
 fn write_sheet(
@@ -35,11 +28,11 @@ fn write_sheet(
     right: &[u8],
     weight: &[u8],
     mark: &[u8],
-) -> Written
+) -> Result<usize, Refusal>
     ensures { let x = sheet_of text.now starts.now ends.now words.now left.now right.now weight.now mark.now in
         Wrote (write_cause s x (length out.old)) (sheet_text s n x) out.old out.new result }
 {
-    if let Outcome::Refused(refusal) = file_write_checks::write_check(
+    file_write_checks::write_check(
         s,
         text,
         starts,
@@ -50,9 +43,7 @@ fn write_sheet(
         weight,
         mark,
         out.len(),
-    ) {
-        return Written::Refused(refusal);
-    }
+    )?;
     let size = file_writer::write_table(
         out,
         s,
@@ -67,15 +58,15 @@ fn write_sheet(
         weight,
         mark,
     );
-    Written::Text(size)
+    Ok(size)
 }
 
 // The fields of what was written: its length or the refusal's place stands where a verdict has its weight.
-fn of_written(w: Written) -> Record
+fn of_written(w: Result<usize, Refusal>) -> Record
     ensures { fields_of result ≡ told_fields w }
 {
     match w {
-        Written::Text(size) => Record {
+        Ok(size) => Record {
             kind: 1,
             number: 0,
             out: 0,
@@ -83,7 +74,7 @@ fn of_written(w: Written) -> Record
             only: 0,
             amount: size as u64,
         },
-        Written::Refused(r) => Record {
+        Err(r) => Record {
             kind: 0,
             number: r.number,
             out: 0,

@@ -8,13 +8,13 @@ use Rattle.rowset.proofs.Signed.{natural-bits}
 use Rattle.star_spec.specs.Door.{Fields}
 use Rattle.file_write_door.proofs.of_written.Goals as goal
 
-pub returns-in-Text : goal.returns-in-Text
+pub returns-in-Ok : goal.returns-in-Ok
 unfolding fields_of told_fields
-returns-in-Text c = rw c.in-Text.is refl
+returns-in-Ok c = rw c.in-Ok.is refl
 
-pub returns-in-Refused : goal.returns-in-Refused
+pub returns-in-Err : goal.returns-in-Err
 unfolding fields_of told_fields
-returns-in-Refused c =
-    let r = c.in-Refused.r in
+returns-in-Err c =
+    let r = c.in-Err.r in
     let written : ℤ → Fields = λ a. record { kind = 0; number = r.number; out = 0; into = 0; only = 0; amount = a } in
-    rw c.in-Refused.is (ap written (natural-bits 63 r.place (omega arith)))
+    rw c.in-Err.is (ap written (natural-bits 63 r.place (omega arith)))
