@@ -101,7 +101,7 @@ fn is_name(w: &[u8]) -> bool
 fn end_of(text: &[u8], p: Part) -> Option<End>
     requires { (p.from ≤ p.to) × (p.to ≤ length text.now) }
     ensures value { end_seen text.now result ≡ end_of (part text.now p.from p.to) }
-    ensures good { GoodEnd text.now result }
+    ensures good { GoodEnd text.now p.from result }
 {
     let w = &text[p.from..p.to];
     match number_of(w) {

@@ -51,8 +51,10 @@ returns-clause-good c =
     record {
       at_high = c.requires.first;
       left-high = omega (arith, c.requires.from_le_to);
-      left-lying = c.in-Some.ensures.good;
+      left-lying = c.in-Some.ensures.good.0;
+      left-placed = c.in-Some.ensures.good.1;
       right-high = omega (arith, c.requires.second);
-      right-lying = c.in-Some-end_of.ensures.good;
+      right-lying = c.in-Some-end_of.ensures.good.0;
+      right-placed = c.in-Some-end_of.ensures.good.1;
       mark-small = marked-small c.args.struck c.in-Some-mark.m _ c.mark_unless.ensures (rw c.in-Some-mark.is at c.requires.small);
     }

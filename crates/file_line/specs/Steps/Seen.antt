@@ -60,16 +60,23 @@ unfoldable pub Lying : List ℕ → End → Type 0
 Lying text (Number v) = v ≤ 255
 Lying text (Name p) = (p.from ≤ p.to) × (p.to ≤ length text)
 
-abbrev pub GoodEnd : List ℕ → Option End → Type 0
-GoodEnd text x = IfSome x (Lying text)
+-- a name stands at this place
+unfoldable pub Placed : ℕ → End → Type 0
+Placed at (Number v) = ⊤
+Placed at (Name p) = p.from ≡ at
+
+abbrev pub GoodEnd : List ℕ → ℕ → Option End → Type 0
+GoodEnd text at x = IfSome x (λ e. Lying text e × Placed at e)
 
 -- a trench whose ends lie in the text, with numbers in their ranges
 pub record GoodTrench (text : List ℕ) (t : Trench) : Type 0 where
   pub at_high : t.at ≤ length text
   pub left-high : t.left_at ≤ length text
   pub left-lying : Lying text t.left
+  pub left-placed : Placed t.left_at t.left
   pub right-high : t.right_at ≤ length text
   pub right-lying : Lying text t.right
+  pub right-placed : Placed t.right_at t.right
   pub mark-small : t.mark ≤ 1
 
 abbrev pub Good : List ℕ → Result Line ReadError → Type 0
