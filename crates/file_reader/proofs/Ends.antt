@@ -18,53 +18,34 @@ use Rattle.file_spec.specs.Reader.{met_end, met_end_at, number_in}
 use Rattle.file_line.specs.Steps.Seen.{end_in}
 use Rattle.file_reader.specs.Steps.State.{EndMet}
 
-pub end-number : (w : List ℕ) (v : ℕ) → (v ≡ 0 → ⊥) → end_in w v ≡ number v
-unfolding end_in
-end-number w v n = rw (ne_eqb v 0 n)
-
-pub end-name : (w : List ℕ) (v : ℕ) → v ≡ 0 → end_in w v ≡ name w
-unfolding end_in
-end-name w v e = rw e
-
 pub names-all : (text s e : List ℕ) (count : ℕ) → length (names_of text s e count) ≡ count
 unfolding names_of
 names-all text s e count = names-length text s e 0 count
 
-module _ (text s e : List ℕ) (count at : ℕ) (w : List ℕ) (v : ℕ) where
-  pub kept-number : (v ≡ 0 → ⊥) → v ≤ 255 → count ≤ 255 → Within text s e count → EndMet text s e at (end_in w v) (names_of text s e count) (take count s) (record { number = v; count = count })
+module _ (text s e : List ℕ) (count at : ℕ) where
+  pub kept-number : (v : ℕ) → count ≤ 255 → Within text s e count → EndMet text s e at (number v) (names_of text s e count) (take count s) (record { number = v; count = count })
   unfolding met_end met_end_at number_in
-  kept-number n h k i =
-      rw (end-number w v n)
-      (record { names = λ l. refl; places-met = λ l. refl; number-met = λ l. refl; few = λ l. k; kept = λ l. i; many = λ l. absurd (omega arith) })
+  kept-number v k i = record { names = refl; places-met = refl; number-met = refl; few = k; kept = i }
 
-module _ (text s e s' e' : List ℕ) (count at : ℕ) (w : List ℕ) (v : ℕ) (z : v ≡ 0) (k : ℕ) (p : k ≡ position w (names_of text s e count)) (h : k ≤ count) (c : count ≤ 255) where
-  pub no_room : k ≡ 255 → EndMet text s' e' at (end_in w v) (names_of text s e count) (take count s) (record { number = 256; count = count })
+module _ (text s e : List ℕ) (count : ℕ) (w : List ℕ) (k : ℕ) (p : k ≡ position w (names_of text s e count)) (h : k ≤ count) (c : count ≤ 255) where
+  pub no_room : k ≡ 255 → 255 < length (met_end (name w) (names_of text s e count))
   unfolding met_end met
   no_room g =
       let n : length (names_of text s e count) ≡ count = names-all text s e count in
       let l : ltb (position w (names_of text s e count)) (length (names_of text s e count)) ≡ false = le-ltb (position w (names_of text s e count)) (length (names_of text s e count)) (omega arith) in
-      rw (end-name w v z)
-      (record {
-        names = λ l. absurd (omega arith);
-        places-met = λ l. absurd (omega arith);
-        number-met = λ l. absurd (omega arith);
-        few = λ l. absurd (omega arith);
-        kept = λ l. absurd (omega arith);
-        many = λ b. rw l (omega (arith, length-append (names_of text s e count) (w ∷ [])));
-      })
+      rw l (omega (arith, length-append (names_of text s e count) (w ∷ [])))
 
-  pub met-name : k < 255 → names_of text s' e' (max count (k + 1)) ≡ met w (names_of text s e count) → take (max count (k + 1)) s' ≡ met_at at w (names_of text s e count) (take count s) → Within text s' e' (max count (k + 1)) → (n : ℕ) → n ≡ max count (k + 1)
-      → EndMet text s' e' at (end_in w v) (names_of text s e count) (take count s) (record { number = k + 1; count = n })
+  pub met-name : (s' e' : List ℕ) (at : ℕ) → k < 255 → names_of text s' e' (max count (k + 1)) ≡ met w (names_of text s e count) → take (max count (k + 1)) s' ≡ met_at at w (names_of text s e count) (take count s) → Within text s' e' (max count (k + 1)) → (n : ℕ) → n ≡ max count (k + 1)
+      → EndMet text s' e' at (name w) (names_of text s e count) (take count s) (record { number = k + 1; count = n })
   unfolding met_end met_end_at number_in
-  met-name g m a i n q =
-      rw (end-name w v z, q)
+  met-name s' e' at g m a i n q =
+      rw q
       (record {
-        names = λ l. m;
-        places-met = λ l. a;
-        number-met = λ l. rw (position-met w (names_of text s e count)) (omega arith);
-        few = λ l. omega arith;
-        kept = λ l. i;
-        many = λ l. absurd (omega arith);
+        names = m;
+        places-met = a;
+        number-met = rw (position-met w (names_of text s e count)) (omega arith);
+        few = omega arith;
+        kept = i;
       })
 
 pub stored : (l : List ℕ) (k v : ℕ) → k < length l → take (k + 1) (set l k v) ≡ take k l ++ (v ∷ [])

@@ -8,6 +8,10 @@ use mathlib.Core.Bool.{Bool, true, false, not, cond, ◌&&◌, true≢false}
 use mathlib.Core.List.{List, [], ◌∷◌, ◌++◌, map-append}
 use mathlib.Core.Path.{◌≡◌, refl, sym, ap, ◌∙◌}
 use native.Mathlib.Omega.{arith}
+use mir.Syntax.{w32}
+use mir.Val.{SFits, of_z, bool_byte}
+use Rattle.std.proofs.lemmas.Int.{ints}
+use lib.IntN.{ℤ, pos, negsuc}
 use Rattle.rowset.specs.Integers.{to_bits}
 use Rattle.star_spec.specs.Door.{bytes_of}
 use Rattle.file_spec.specs.Names.{position, met}
@@ -16,48 +20,23 @@ use Rattle.file_text.proofs.Meeting.{position-kept, position-met, position-high}
 use Rattle.file_spec.specs.Line.{End, number, name, Trench, mixed, many_names, many_rows}
 use Rattle.file_spec.specs.Reader.{Read, Reading, broken, read, kind_of, met_end, number_in, met_end_at, with_row, names_after, names_at_after, other_kind, laid}
 use Rattle.stp_words.specs.Numbers.{below}
-use Rattle.file_line.specs.Steps.Seen.{amount_in}
 use Rattle.file_reader.specs.Steps.State.{is_one, read_of, Stored, EndMet}
 use Rattle.file_reader.specs.Steps.State.{resumed}
 use Rattle.file_reader.specs.declared.Met.{Met}
 use Rattle.file_reader.specs.declared.Row.{Row}
 use Rattle.file_reader.proofs.Ends.{names-all}
-use Rattle.file_reader.specs.declared.Step.{Step}
 
--- the bits of a price
-pub bits-plain : (u : Bool) (v : ℕ) → u ≡ false → v ≡ to_bits 32 (amount_in u v)
-unfolding amount_in to_bits
-bits-plain u v e = rw e
+-- the 32 bits of a price
+pub price-bits : (z : ℤ) → SFits w32 z → of_z w32 z ≡ to_bits 32 z
+unfolding to_bits
+price-bits (pos n) f = omega (arith, ints)
+price-bits (negsuc n) f = omega (arith, ints)
 
-pub bits-zero : (u : Bool) (v : ℕ) → u ≡ true → v ≡ 0 → 0 ≡ to_bits 32 (amount_in u v)
-unfolding amount_in to_bits below
-bits-zero u v e z = rw (e, z)
-
-below-some : (v : ℕ) → (v ≡ 0 → ⊥) → 4294967295 - (v - 1) ≡ to_bits 32 (below v)
-unfolding below to_bits
-below-some zero n = absurd (n refl)
-below-some (suc v) n = omega arith
-
-pub bits-some : (u : Bool) (v : ℕ) → u ≡ true → (v ≡ 0 → ⊥) → 4294967295 - (v - 1) ≡ to_bits 32 (amount_in u v)
-unfolding amount_in
-bits-some u v e n = rw e (below-some v n)
-
--- bytes that are stored from index p on
-stored : (p q : ℕ) (l bs : List ℕ) → length bs ≡ q → p + q ≤ length l → take (p + q) (sets l p bs) ≡ take p l ++ bs
-stored p q l bs k f =
-    ap (take (p + q)) (sets-eq bs l p (omega arith)) ∙ take_at (take p l ++ bs) (drop (p + length bs) l) (p + q) (omega (arith, length-append (take p l) bs, length-take-le p l (omega arith)))
-
-pub stored-weight : (k w : ℕ) (l : List ℕ) → length l ≡ 4096 → k < 1024 →
-    take (4 * (k + 1))
-    (set (set (set (set l (4 * k) (w % 256)) (4 * k + 1) (w / 256 % 256)) (4 * k + 2) (w / 256 / 256 % 256)) (4 * k + 3) (w / 256 / 256 / 256 % 256))
-    ≡ take (4 * k) l ++ bytes_of 4 w
-unfolding bytes_of
-stored-weight k w l h f =
-    let a : 4 * k + 1 ≡ suc (4 * k) = omega arith in
-    let b : 4 * k + 2 ≡ suc (suc (4 * k)) = omega arith in
-    let c : 4 * k + 3 ≡ suc (suc (suc (4 * k))) = omega arith in
-    let e : 4 * (k + 1) ≡ 4 * k + 4 = omega arith in
-    rw (a, b, c, e) (stored (4 * k) 4 l (bytes_of 4 w) refl (omega arith))
+-- a struck trench as a byte
+pub one-struck : (b : Bool) (n : ℕ) → n ≡ bool_byte b → is_one n ≡ b
+unfolding is_one
+one-struck true n e = rw e
+one-struck false n e = rw e
 
 -- a trench, by what is wrong with it
 module _ (r : Read) (t : Trench) where
@@ -134,13 +113,6 @@ row_read text (f0 ∷ f1 ∷ f2 ∷ f3 ∷ f4 ∷ f5 ∷ fs) s e l r w m k p s' 
 pub kinds : (x : Bool) (f k k' : ℕ) → x ≡ (not (eqb f 0) && not (eqb f k)) → k ≡ k' → x ≡ (not (eqb f 0) && not (eqb f k'))
 kinds x f k k' e g = e ∙ (rw g)
 
-pub stopped : (x : Step) (q : Read) (n at : ℕ) {y : Reading} → x ≡ record { broken = true; reason = n; at = at } → y ≡ broken n at → y ≡ resumed x q
-unfolding resumed
-stopped x q n at e g = g ∙ (rw e)
-
-pub never : {A : Type 0} (x : Step) (n at : ℕ) → x ≡ record { broken = true; reason = n; at = at } → x.broken ≡ false → A
-never x n at e g = absurd (true≢false (sym (ap (λ (y : Step). y.broken) e) ∙ g))
-
 pub rows-length : (n : ℕ) (l : List ℕ) → length l ≡ 1024 → n ≤ 1024 → length (take n l) ≡ n
 rows-length n l e h = length-take-le n l (omega arith)
 
@@ -150,30 +122,29 @@ numbers_after (f0 ∷ []) a b d h = absurd (omega arith)
 numbers_after (f0 ∷ f1 ∷ []) a b d h = absurd (omega arith)
 numbers_after (f0 ∷ f1 ∷ f2 ∷ fs) a b d h = (refl, refl)
 
-pub met-few : (text s e : List ℕ) (at : ℕ) (u : End) (ns : List (List ℕ)) (ps : List ℕ) (x : Met) → EndMet text s e at u ns ps x → x.number ≤ 255 → length (met_end u ns) ≤ 255
-met-few text s e at u ns ps x m h = rw (m.names h) at (few-of text s e x.count (m.few h))
+pub met-few : (text s e : List ℕ) (at : ℕ) (u : End) (ns : List (List ℕ)) (ps : List ℕ) (x : Met) → EndMet text s e at u ns ps x → length (met_end u ns) ≤ 255
+met-few text s e at u ns ps x m = rw m.names at (few-of text s e x.count m.few)
   where
     few-of : (text s e : List ℕ) (n : ℕ) → n ≤ 255 → length (names_of text s e n) ≤ 255
     few-of text s e n g = omega (arith, names-all text s e n)
 
 -- both ends met, one after the other
-module _ (text s e s₁ e₁ s₂ e₂ : List ℕ) (n i j : ℕ) (u v : End) (ns : List (List ℕ)) (ps : List ℕ) (x y : Met) (q : names_of text s e n ≡ ns) (d : take n s ≡ ps) (m : EndMet text s₁ e₁ i u (names_of text s e n) (take n s) x) (h : x.number ≤ 255)
-    (o : EndMet text s₂ e₂ j v (names_of text s₁ e₁ x.count) (take x.count s₁) y) where
-  pub both-many : 255 < y.number → 255 < length (met_end v (met_end u ns))
-  both-many g = rw (m.names h, q) at (o.many g)
+module _ (text s e s₁ e₁ s₂ e₂ : List ℕ) (n i j : ℕ) (u v : End) (x : Met) (m : EndMet text s₁ e₁ i u (names_of text s e n) (take n s) x) where
+  pub both-many : 255 < length (met_end v (names_of text s₁ e₁ x.count)) → 255 < length (met_end v (met_end u (names_of text s e n)))
+  both-many g = rw m.names at g
 
-  module _ (g : y.number ≤ 255) where
-    pub both-few : length (met_end v (met_end u ns)) ≤ 255
-    both-few = rw (m.names h, q) at (met-few text s₂ e₂ j v (names_of text s₁ e₁ x.count) (take x.count s₁) y o g)
+  module _ (y : Met) (o : EndMet text s₂ e₂ j v (names_of text s₁ e₁ x.count) (take x.count s₁) y) where
+    pub both-few : length (met_end v (met_end u (names_of text s e n))) ≤ 255
+    both-few = rw m.names at (met-few text s₂ e₂ j v (names_of text s₁ e₁ x.count) (take x.count s₁) y o)
 
-    pub both-names : names_of text s₂ e₂ y.count ≡ met_end v (met_end u ns)
-    both-names = rw (m.names h, q) at (o.names g)
+    pub both-names : names_of text s₂ e₂ y.count ≡ met_end v (met_end u (names_of text s e n))
+    both-names = rw m.names at o.names
 
-    pub both-places : take y.count s₂ ≡ met_end_at j v (met_end u ns) (met_end_at i u ns ps)
-    both-places = rw (m.names h, m.places-met h, q, d) at (o.places-met g)
+    pub both-places : take y.count s₂ ≡ met_end_at j v (met_end u (names_of text s e n)) (met_end_at i u (names_of text s e n) (take n s))
+    both-places = rw (m.names, m.places-met) at o.places-met
 
-    pub left-number : x.number ≡ number_in (met_end v (met_end u ns)) u
-    left-number = sym (left-kept u v ns ∙ (rw q at (m.number-met h)))
+    pub left-number : x.number ≡ number_in (met_end v (met_end u (names_of text s e n))) u
+    left-number = sym (left-kept u v (names_of text s e n) ∙ m.number-met)
 
-    pub right-number : y.number ≡ number_in (met_end v (met_end u ns)) v
-    right-number = sym (rw (m.names h, q) at (o.number-met g))
+    pub right-number : y.number ≡ number_in (met_end v (met_end u (names_of text s e n))) v
+    right-number = sym (rw m.names at o.number-met)

@@ -1,11 +1,11 @@
 -- What the reader's numbers and columns stand for.
 -- Assumes nothing.
-use Rattle.std.specs.Prelude.{ℕ, ◌+◌, ◌*◌, ◌≤◌, ◌<◌, Bool, true, false, cond, List, [], ◌∷◌, ◌++◌, map, ◌≡◌, eqb, leb, ltb, length, take, get_or}
+use Rattle.std.specs.Prelude.{ℕ, ◌+◌, ◌*◌, ◌≤◌, ◌<◌, Bool, true, false, cond, List, [], ◌∷◌, ◌++◌, map, ◌≡◌, eqb, leb, ltb, length, take, get_or, Result, Ok, Err, ⊤}
 use Rattle.std.proofs.Math.Option.{Option, none, some}
 use Rattle.file_text.specs.Steps.Spans.{part, names_of, Within}
 use Rattle.file_spec.specs.Line.{End}
 use Rattle.file_spec.specs.Reader.{Read, Reading, broken, read, met_end, met_end_at, number_in}
-use Rattle.file_reader.specs.declared.Step.{Step}
+use Rattle.file_line.specs.declared.ReadError.{ReadError}
 use Rattle.file_reader.specs.declared.Met.{Met}
 use Rattle.file_reader.specs.declared.Row.{Row}
 use Rattle.star_spec.specs.Door.{bytes_of}
@@ -60,14 +60,14 @@ pub record Sound (text found starts ends : List ℕ) : Type 0 where
   pub kept : Within text starts ends (get_or found 1 0)
 
 -- reading goes on, or is broken
-unfoldable pub resumed : Step → Read → Reading
-resumed x r = cond x.broken (broken x.reason x.at) (read r)
+unfoldable pub resumed : Result ⊤ ReadError → Read → Reading
+resumed (Ok done) r = read r
+resumed (Err e) r = broken e.number e.place
 
 -- an end e met at a place, after the names ns at their places
 pub record EndMet (text starts ends : List ℕ) (at : ℕ) (e : End) (ns : List (List ℕ)) (places : List ℕ) (x : Met) : Type 0 where
-  pub names : x.number ≤ 255 → names_of text starts ends x.count ≡ met_end e ns
-  pub places-met : x.number ≤ 255 → take x.count starts ≡ met_end_at at e ns places
-  pub number-met : x.number ≤ 255 → number_in (met_end e ns) e ≡ x.number
-  pub few : x.number ≤ 255 → x.count ≤ 255
-  pub kept : x.number ≤ 255 → Within text starts ends x.count
-  pub many : 255 < x.number → 255 < length (met_end e ns)
+  pub names : names_of text starts ends x.count ≡ met_end e ns
+  pub places-met : take x.count starts ≡ met_end_at at e ns places
+  pub number-met : number_in (met_end e ns) e ≡ x.number
+  pub few : x.count ≤ 255
+  pub kept : Within text starts ends x.count
