@@ -1,8 +1,9 @@
 -- Laws of the byte order mark, of the number of junctions, and of the rows in use. Assumes nothing.
 use Prim.Native.Nat.{ℕ, zero, suc, ◌+◌, ◌-◌, ◌*◌, ◌≤◌, ◌<◌, max}
-use borrow.Author.Tests.{eq-eqb, ne_eqb, le-leb, lt-leb, lt-ltb, le-ltb, ltb-true, ltb-false}
+use borrow.Author.Tests.{eq-eqb, ne_eqb, eqb-true, eqb-false, le-leb, lt-leb, lt-ltb, le-ltb, ltb-true, ltb-false}
 use lib.Dec.{eqb, leb, ltb}
 use lib.ListN.{length, take, drop, get_or, length-drop, drop_of_length-le}
+use lib.Pointwise.{pointwise}
 use lib.Seq.{drop-cons, take_all, length-take-le}
 use mathlib.Core.Bool.{Bool, true, false, not, cond, ◌&&◌, false≢true, true≢false}
 use mathlib.Core.List.{List, [], ◌∷◌, ◌++◌, map}
@@ -20,26 +21,33 @@ use Rattle.file_spec.specs.Table.{bounded, reading, unstruck}
 use Rattle.file_text.specs.Steps.Spans.{part}
 use Rattle.file_text.proofs.Parts.{part_length}
 use Rattle.file_reader.specs.Steps.State.{is_one, resumed}
-use Rattle.file_reader.specs.declared.Step.{Step}
 
 -- ── The byte order mark ──
-
-pub opens-long : (text : List ℕ) → 3 ≤ length text → opens_marked text ≡ (eqb (get_or text 0 0) 239 && (eqb (get_or text 1 0) 187 && (eqb (get_or text 2 0) 191 && true)))
-unfolding opens_marked equal
-opens-long [] h = absurd (omega arith)
-opens-long (a ∷ []) h = absurd (omega arith)
-opens-long (a ∷ b ∷ []) h = absurd (omega arith)
-opens-long (a ∷ b ∷ c ∷ t) h = refl
 
 and_none : (x : Bool) → (x && false) ≡ false
 and_none true = refl
 and_none false = refl
 
-pub and-true : (x : Bool) → (x && true) ≡ x
-and-true true = refl
-and-true false = refl
+-- the same bytes, as std compares them
+flipped : (a b : ℕ) → eqb a b ≡ eqb b a
+flipped a b = go (eqb b a) refl
+  where
+    go : (x : Bool) → eqb b a ≡ x → eqb a b ≡ x
+    go true e = eq-eqb a b (sym (eqb-true b a e))
+    go false e = ne_eqb a b (λ q. eqb-false b a e (sym q))
 
-pub opens-short : (text : List ℕ) → length text < 3 → opens_marked text ≡ false
+same-bytes : (s t : List ℕ) → equal s t ≡ pointwise eqb t s
+unfolding equal
+same-bytes [] [] = refl
+same-bytes [] (b ∷ t) = refl
+same-bytes (a ∷ s) [] = refl
+same-bytes (a ∷ s) (b ∷ t) = rw (flipped a b, same-bytes s t)
+
+pub same-opening : (text : List ℕ) → pointwise eqb (239 ∷ 187 ∷ 191 ∷ []) (take 3 text) ≡ opens_marked text
+unfolding opens_marked
+same-opening text = sym (same-bytes (take 3 text) (239 ∷ 187 ∷ 191 ∷ []))
+
+opens-short : (text : List ℕ) → length text < 3 → opens_marked text ≡ false
 unfolding opens_marked equal
 opens-short [] h = refl
 opens-short (a ∷ []) h = and_none (eqb a 239)
@@ -62,13 +70,6 @@ whole text at h = take_all (length text - at) (drop at text) (omega (arith, leng
 pub too_long : (text : List ℕ) → 16777216 < length text → reading text ≡ broken 12 16777216
 unfolding reading bounded
 too_long text h = rw (lt-ltb 16777216 (length text) h)
-
-pub told-broken : (x : Step) (r : Read) → x ≡ record { broken = true; reason = 12; at = 16777216 } → broken 12 16777216 ≡ resumed x r
-unfolding resumed
-told-broken x r e = rw e
-
-pub never-read : {A : Type 0} (x : Step) → x ≡ record { broken = true; reason = 12; at = 16777216 } → x.broken ≡ false → A
-never-read x e g = absurd (true≢false (sym (ap (λ (y : Step). y.broken) e) ∙ g))
 
 pub taken-whole : (text : List ℕ) (from : ℕ) → length text ≤ 16777216 → from ≡ body_at text → from ≤ length text
     → reading text ≡ read_lines nothing_read (lines from (part text from (length text)))

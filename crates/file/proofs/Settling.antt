@@ -13,28 +13,13 @@ use Rattle.file_spec.specs.Table.{Lent, FileAnswer, untaken, taken, reading, ans
 use Rattle.file_text.specs.Steps.Spans.{part, names_from, names_of, Within}
 use Rattle.file_text.proofs.Found.{names-length}
 use Rattle.file_text.proofs.Parts.{part_length}
-use Rattle.file_reader.specs.Steps.State.{told_of, read_of, resumed, Sized, Columns, Sound}
-use Rattle.file_reader.specs.declared.Step.{Step}
+use Rattle.file_reader.specs.Steps.State.{told_of, read_of, Sized, Columns, Sound}
 use Rattle.file.specs.Answers.{lent_of}
 use Rattle.file.specs.Steps.Stored.{Fitting, stored}
 
 pub lent_same : {a b c d e f g h a' b' c' d' e' f' g' h' : List ℕ} → a ≡ a' → b ≡ b' → c ≡ c' → d ≡ d' → e ≡ e' → f ≡ f' → g ≡ g' → h ≡ h'
     → lent_of a b c d e f g h ≡ lent_of a' b' c' d' e' f' g' h'
 lent_same ea eb ec ed ee ef eg eh = rw (ea, eb, ec, ed, ee, ef, eg, eh)
-
--- ── A reading that is broken, and one that is not ──
-
-pub broken-answer : (x : Step) (r : Read) → x.broken ≡ true → untaken x.reason x.at ≡ answered (resumed x r)
-unfolding resumed answered
-broken-answer x r e = rw e
-
-pub broken-lent : (x : Step) (r : Read) (l : Lent) → x.broken ≡ true → l ≡ filled (resumed x r) l
-unfolding resumed filled
-broken-lent x r l e = rw e
-
-pub read-on : (x : Step) (r : Read) → x.broken ≡ false → read r ≡ resumed x r
-unfolding resumed
-read-on x r e = rw e
 
 -- ── Where the names end ──
 
@@ -81,10 +66,6 @@ module _ (text found s e l r w m k p : List ℕ) (z : Sized found s e) (y : Colu
         length-take-le (get_or found 1 0) e (omega (arith, z.ends-sized, o.few-names)),
         length-take-le (get_or found 2 0) p (omega (arith, y.places, o.few-rows)),
       )
-
-pub read-lent : (x : Step) (r : Read) (l l' : Lent) → x.broken ≡ false → l' ≡ lent_over r l → l' ≡ filled (resumed x r) l
-unfolding resumed filled
-read-lent x r l l' e q = rw e q
 
 pub nothing_yet : (text found s e l r w m k p : List ℕ) → get_or found 0 0 ≡ 0 → get_or found 1 0 ≡ 0 → get_or found 2 0 ≡ 0 → get_or found 3 0 ≡ 0
     → read_of text found s e l r w m k p ≡ nothing_read

@@ -1,13 +1,13 @@
 -- What the code answers of a table file, and the lent columns, as the definitions have them.
 -- Assumes nothing.
-use Rattle.std.specs.Prelude.{ℕ, List}
+use Rattle.std.specs.Prelude.{ℕ, List, Result, Ok, Err}
 use Rattle.file_spec.specs.Table.{Lent, FileAnswer, untaken, taken}
-use Rattle.file.specs.declared.Taken.{Taken}
-use Rattle.file.specs.declared.Taken.TheVariants.{Read, Refused}
+use Rattle.file_line.specs.declared.ReadError.{ReadError}
+use Rattle.file.specs.declared.Sizes.{Sizes}
 
-unfoldable pub answer_of : Taken → FileAnswer
-answer_of (Read s) = taken s.n s.names s.rows
-answer_of (Refused number place) = untaken number place
+unfoldable pub answer_of : Result Sizes ReadError → FileAnswer
+answer_of (Ok s) = taken s.n s.names s.rows
+answer_of (Err e) = untaken e.number e.place
 
 abbrev pub lent_of : (left right weight mark in_use starts ends rows : List ℕ) → Lent
 lent_of left right weight mark in_use starts ends rows =

@@ -2,18 +2,20 @@
 
 #![tactic(auto)]
 
-ghost use Rattle.std.specs.Prelude.{◌≡◌, Bool, true, false, cond, List, ◌++◌, map, ℕ, ◌*◌, ◌≤◌, max, eqb, length, take, drop, get_or};
+ghost use Rattle.std.specs.Prelude.{◌≡◌, cond, List, ◌++◌, map, ℕ, ◌*◌, ◌≤◌, max, eqb, length, take, drop, get_or, Ok, OnOk};
 ghost use Rattle.rowset.specs.Words.{column_words, column_words_from};
 ghost use Rattle.slice.specs.Slices.{component};
-ghost use Rattle.file_spec.specs.Reader.{opens_marked, body_at, told_or, largest, nothing_read};
+ghost use Rattle.file_spec.specs.Reader.{read, opens_marked, body_at, told_or, largest, nothing_read};
 ghost use Rattle.file_spec.specs.Table.{reading, wrong_sizes, unstruck, answered, filled, file_answer, lent_after};
 ghost use Rattle.file_reader.specs.Steps.State.{is_one, told_of, read_of, resumed, Sized, Columns, Sound};
 ghost use Rattle.file.specs.Answers.{answer_of, lent_of};
 ghost use Rattle.file.specs.Steps.Stored.{Fitting, stored};
 
 use claim::claim_rows;
-use file_reader::{Step, read_lines};
+use file_line::ReadError;
+use file_reader::read_lines;
 use file_text::NAMES;
+use refusal::Cause;
 use slice::Slice;
 use slice::difference::without;
 use slice::rows::rows_to;
@@ -35,27 +37,11 @@ pub struct Sizes {
     pub rows: u32,
 }
 
-// What is answered of a text: the sizes, or the refusal's number and place.
-#[derive(Clone, Copy)]
-pub enum Taken {
-    Read(Sizes),
-    Refused(u32, usize),
-}
-
 // Whether a text opens with a byte order mark.
 fn opens_marked(text: &[u8]) -> bool
     ensures { result ≡ opens_marked text.now }
 {
-    if text.len() < 3 {
-        return false;
-    }
-    if text[0] != 239 {
-        return false;
-    }
-    if text[1] != 187 {
-        return false;
-    }
-    text[2] == 191
+    text.starts_with(&[239, 187, 191])
 }
 
 // Where the lines of a text begin: after the byte order mark, if there is one.
@@ -63,16 +49,6 @@ fn body_at(text: &[u8]) -> usize
     ensures { (result ≡ body_at text.now) × (result ≤ length text.now) }
 {
     if opens_marked(text) { 3 } else { 0 }
-}
-
-fn too_long() -> Step
-    ensures { result ≡ record { broken = true; reason = 12; at = 16777216 } }
-{
-    Step {
-        broken: true,
-        reason: 12,
-        at: MAX_TEXT,
-    }
 }
 
 // A whole text into columns in which nothing is read yet.
@@ -87,16 +63,16 @@ fn read_text(
     mark: &mut [u8; ROWS],
     struck: &mut [u8; ROWS],
     rows: &mut [u32; ROWS],
-) -> Step
+) -> Result<(), ReadError>
     requires rows_value { read_of text.now found.old starts.old ends.old left.old right.old weight.old mark.old struck.old rows.old ≡ nothing_read }
     requires sized { Sized found.old starts.old ends.old × Columns left.old right.old weight.old mark.old struck.old rows.old }
     requires sound { Sound text.now found.old starts.old ends.old }
     ensures text_value { reading text.now ≡ resumed result (read_of text.now found.new starts.new ends.new left.new right.new weight.new mark.new struck.new rows.new) }
     ensures sized { Sized found.new starts.new ends.new × Columns left.new right.new weight.new mark.new struck.new rows.new }
-    ensures sound { result.broken ≡ false → Sound text.now found.new starts.new ends.new }
+    ensures sound { OnOk result (Sound text.now found.new starts.new ends.new) }
 {
     if MAX_TEXT < text.len() {
-        return too_long();
+        return Err(ReadError::at(Cause::BadText as u32, MAX_TEXT));
     }
     let from = body_at(text);
     read_lines(
@@ -104,28 +80,15 @@ fn read_text(
     )
 }
 
-// A byte as a number.
-fn number_of(b: u8) -> u32
-    ensures { result ≡ b }
-{
-    b as u32
-}
-
 // The largest byte of a column, 0 where it has none.
 fn largest_of(column: &[u8]) -> u32
     ensures { result ≡ largest column.now }
 {
-    let mut most = 0;
+    let mut most: u32 = 0;
     for k in 0..column.len() {
-        most = larger(most, number_of(column[k]));
+        most = most.max(column[k] as u32);
     }
     most
-}
-
-fn larger(a: u32, b: u32) -> u32
-    ensures { result ≡ max a b }
-{
-    if a < b { b } else { a }
 }
 
 // The number of junctions: what a line says, else the number of names, or the largest end.
@@ -139,27 +102,15 @@ fn junctions_of(found: [u32; 5], left: &[u8], right: &[u8]) -> u32
     if found[0] == 2 {
         return found[1];
     }
-    larger(largest_of(left), largest_of(right))
+    largest_of(left).max(largest_of(right))
 }
 
-// The first `count` bytes of a column become those of another.
-fn fill(column: &mut [u8], own: &[u8], count: usize)
+// The first `count` elements of a column become those of another.
+fn fill<T: Copy>(column: &mut [T], own: &[T], count: usize)
     requires { (count ≤ length column.old) × (count ≤ length own.now) }
     ensures { column.new ≡ take count own.now ++ drop count column.old }
 {
-    for k in 0..count {
-        column[k] = own[k];
-    }
-}
-
-// The first `count` numbers of a column become those of another.
-fn fill_numbers(column: &mut [u32], own: &[u32], count: usize)
-    requires { (count ≤ length column.old) × (count ≤ length own.now) }
-    ensures { column.new ≡ take count own.now ++ drop count column.old }
-{
-    for k in 0..count {
-        column[k] = own[k];
-    }
+    column[..count].copy_from_slice(&own[..count]);
 }
 
 // The rows in use: of the m rows those that are not struck.
@@ -222,12 +173,13 @@ fn store_places(
     ensures last { ends.new ≡ take names to.now ++ drop names ends.old }
     ensures lines { rows.new ≡ take m at.now ++ drop m rows.old }
 {
-    fill_numbers(starts, from, names);
-    fill_numbers(ends, to, names);
-    fill_numbers(rows, at, m);
+    fill(starts, from, names);
+    fill(ends, to, names);
+    fill(rows, at, m);
 }
 
 // Whether a lent column has another length.
+#[tactic(auto, unfolding(file_spec::specs::Table::wrong_sizes))]
 fn wrong_sizes(
     left: usize,
     right: usize,
@@ -240,35 +192,14 @@ fn wrong_sizes(
 ) -> bool
     ensures { result ≡ wrong_sizes left right weight mark words starts ends rows }
 {
-    if left != ROWS {
-        return true;
-    }
-    if right != ROWS {
-        return true;
-    }
-    if weight != WEIGHT_BYTES {
-        return true;
-    }
-    if mark != ROWS {
-        return true;
-    }
-    if words != WORDS {
-        return true;
-    }
-    if starts != NAMES {
-        return true;
-    }
-    if ends != NAMES {
-        return true;
-    }
-    rows != ROWS
-}
-
-// A number as a place.
-fn wide(x: u32) -> usize
-    ensures { result ≡ x }
-{
-    x as usize
+    left != ROWS
+        || right != ROWS
+        || weight != WEIGHT_BYTES
+        || mark != ROWS
+        || words != WORDS
+        || starts != NAMES
+        || ends != NAMES
+        || rows != ROWS
 }
 
 // The lent columns become what was read.
@@ -301,9 +232,8 @@ fn store(
     store_places(names, m, from, to, at, starts, ends, rows);
 }
 
-// What follows the reading of a text into columns of its own: the refusal, or the sizes and the lent columns.
+// What follows the reading of a text into columns of its own: the sizes, and the lent columns.
 fn settle(
-    step: Step,
     found: [u32; 5],
     from: &[u32],
     to: &[u32],
@@ -321,22 +251,17 @@ fn settle(
     starts: &mut [u32],
     ends: &mut [u32],
     rows: &mut [u32],
-) -> Taken
+) -> Sizes
     requires sized { Sized found from.now to.now × Columns lefts.now rights.now weights.now marks.now struck.now at.now }
-    requires few { step.broken ≡ false → (get_or found 1 0 ≤ 255) × (get_or found 2 0 ≤ 1024) }
+    requires few { (get_or found 1 0 ≤ 255) × (get_or found 2 0 ≤ 1024) }
     requires lent { Fitting (lent_of left.old right.old weight.old mark.old words.old starts.old ends.old rows.old) }
-    ensures answer { (text : List ℕ) → answer_of result ≡ answered (resumed step (read_of text found from.now to.now lefts.now rights.now weights.now marks.now struck.now at.now)) }
-    ensures lent { (text : List ℕ) → (step.broken ≡ false → Sound text found from.now to.now) → lent_of left.new right.new weight.new mark.new words.new starts.new ends.new rows.new ≡ filled (resumed step (read_of text found from.now to.now lefts.now rights.now weights.now marks.now struck.now at.now)) (lent_of left.old right.old weight.old mark.old words.old starts.old ends.old rows.old) }
+    ensures answer { (text : List ℕ) → answer_of (Ok result) ≡ answered (read (read_of text found from.now to.now lefts.now rights.now weights.now marks.now struck.now at.now)) }
+    ensures lent { (text : List ℕ) → Sound text found from.now to.now → lent_of left.new right.new weight.new mark.new words.new starts.new ends.new rows.new ≡ filled (read (read_of text found from.now to.now lefts.now rights.now weights.now marks.now struck.now at.now)) (lent_of left.old right.old weight.old mark.old words.old starts.old ends.old rows.old) }
 {
-    if step.broken {
-        return Taken::Refused(step.reason, step.at);
-    }
-    let names = found[1];
-    let count = found[2];
-    let m = wide(count);
+    let m = found[2] as usize;
     let n = junctions_of(found, &lefts[..m], &rights[..m]);
     store(
-        wide(names),
+        found[1] as usize,
         m,
         from,
         to,
@@ -355,11 +280,11 @@ fn settle(
         ends,
         rows,
     );
-    Taken::Read(Sizes {
-        n: n,
-        names: names,
-        rows: count,
-    })
+    Sizes {
+        n,
+        names: found[1],
+        rows: found[2],
+    }
 }
 
 // A table file into the lent columns; a refusal leaves them as they were.
@@ -373,7 +298,7 @@ pub fn read_table(
     starts: &mut [u32],
     ends: &mut [u32],
     rows: &mut [u32],
-) -> Taken
+) -> Result<Sizes, ReadError>
     ensures answer { answer_of result ≡ file_answer text.now (lent_of left.old right.old weight.old mark.old words.old starts.old ends.old rows.old) }
     ensures lent { lent_of left.new right.new weight.new mark.new words.new starts.new ends.new rows.new ≡ lent_after text.now (lent_of left.old right.old weight.old mark.old words.old starts.old ends.old rows.old) }
 {
@@ -387,7 +312,7 @@ pub fn read_table(
         ends.len(),
         rows.len(),
     ) {
-        return Taken::Refused(3, 0);
+        return Err(ReadError::at(Cause::BadLengths as u32, 0));
     }
     let mut found = [0u32; 5];
     let mut from = [0u32; NAMES];
@@ -398,7 +323,7 @@ pub fn read_table(
     let mut marks = [0u8; ROWS];
     let mut struck = [0u8; ROWS];
     let mut at = [0u32; ROWS];
-    let s = read_text(
+    read_text(
         text,
         &mut found,
         &mut from,
@@ -409,9 +334,9 @@ pub fn read_table(
         &mut marks,
         &mut struck,
         &mut at,
-    );
-    settle(
-        s, found, &from, &to, &lefts, &rights, &weights, &marks, &struck, &at, left, right, weight,
+    )?;
+    Ok(settle(
+        found, &from, &to, &lefts, &rights, &weights, &marks, &struck, &at, left, right, weight,
         mark, words, starts, ends, rows,
-    )
+    ))
 }

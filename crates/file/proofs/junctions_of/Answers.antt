@@ -15,4 +15,4 @@ returns-then-found-eq2 c = rw (ne_eqb _ _ c.if-found-eq1.false, eq-eqb _ _ c.if-
 pub returns : goal.returns
 unfolding told_or told_of
 returns c =
-    rw (ne_eqb _ _ c.if-found-eq1.false, ne_eqb _ _ c.if-found-eq2.false, ← c.largest_of.ensures, ← c.largest_of-2.ensures) c.larger.ensures
+    rw (ne_eqb _ _ c.if-found-eq1.false, ne_eqb _ _ c.if-found-eq2.false, ← c.largest_of.ensures, ← c.largest_of-2.ensures) c.max.ensures

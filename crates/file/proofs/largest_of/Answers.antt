@@ -5,12 +5,12 @@ use Rattle.file.proofs.Laws.{largest-start, largest-turn, largest-end}
 use Rattle.file.proofs.largest_of.Goals as goal
 
 pub loop-k-init : goal.loop-k-init
-loop-k-init c = (omega arith, largest-start _)
+loop-k-init c = largest-start _
 
 pub loop-k-preserved : goal.loop-k-preserved
 loop-k-preserved c =
     let l = c.loop-k in
-    (omega arith, largest-turn _ l.k l.most _ (omega arith) (rw c.number_of.ensures at c.larger-most.ensures) l.invariant.1)
+    largest-turn _ l.k l.most _ (omega arith) c.max-most.ensures l.invariant
 
 pub returns : goal.returns
-returns c = let l = c.loop-k in largest-end _ l.k l.most (omega arith) l.invariant.1
+returns c = let l = c.loop-k in largest-end _ l.k l.most (omega arith) l.invariant

@@ -6,4 +6,4 @@ use Rattle.file_spec.specs.Reader.{largest}
 use Rattle.file.proofs.largest_of.Given as goal
 
 abbrev pub invariant-loop-k : goal.invariant-loop-k
-invariant-loop-k l = (l.k ≤ length l.column) × (largest l.column ≡ max l.most (largest (drop l.k l.column)))
+invariant-loop-k l = largest l.column ≡ max l.most (largest (drop l.k l.column))

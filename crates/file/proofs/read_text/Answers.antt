@@ -4,12 +4,13 @@ use mathlib.Core.Path.{sym, ap, ◌∙◌}
 use Rattle.file_spec.specs.Pieces.{lines}
 use Rattle.file_spec.specs.Reader.{Read, read_lines}
 use Rattle.file_text.specs.Steps.Spans.{part}
-use Rattle.file.proofs.Laws.{too_long, taken-whole, never-read, told-broken}
+use Rattle.file_reader.specs.Steps.State.{resumed}
+use Rattle.file.proofs.Laws.{too_long, taken-whole}
 use Rattle.file.proofs.read_text.Goals as goal
 
-pub returns-then-text-gt-MAX_TEXT : goal.returns-then-text-gt-MAX_TEXT
-returns-then-text-gt-MAX_TEXT c =
-    let p = c.requires in record { text_value = too_long _ c.if-text-gt-MAX_TEXT.true ∙ told-broken _ _ c.too_long.ensures; sized = p.sized; sound = λ b. never-read _ c.too_long.ensures b }
+pub returns-then-text-gt-MAX_TEXT-clause-text_value : goal.returns-then-text-gt-MAX_TEXT-clause-text_value
+unfolding resumed
+returns-then-text-gt-MAX_TEXT-clause-text_value c = rw c.at.ensures (too_long _ c.if-text-gt-MAX_TEXT.true)
 
 pub read_lines-requires : goal.read_lines-requires
 read_lines-requires c =

@@ -3,4 +3,4 @@ use Rattle.file.proofs.store_places.Goals as goal
 
 pub returns : goal.returns
 returns c =
-    record { first = c.fill_numbers.ensures; last = c.fill_numbers-2.ensures; lines = c.fill_numbers-3.ensures }
+    record { first = c.fill.ensures; last = c.fill-2.ensures; lines = c.fill-3.ensures }
