@@ -12,14 +12,15 @@ ghost use Rattle.file_door_meaning.specs.Bytes.{ReadTableCall};
 ghost use Rattle.file.specs.Answers.{answer_of, lent_of};
 
 use answer::{Record, write_answer};
-use file::Taken;
+use file::Sizes;
+use file_line::ReadError;
 
 // The fields of what was read: the number of names and of rows stand where a verdict has its rows, n or the refusal's place where it has its weight.
-pub fn of_taken(x: Taken) -> Record
+pub fn of_taken(x: Result<Sizes, ReadError>) -> Record
     ensures { fields_of result ≡ file_fields (answer_of x) }
 {
     match x {
-        Taken::Read(s) => Record {
+        Ok(s) => Record {
             kind: 1,
             number: 0,
             out: s.names,
@@ -27,13 +28,13 @@ pub fn of_taken(x: Taken) -> Record
             only: 0,
             amount: s.n as u64,
         },
-        Taken::Refused(number, place) => Record {
+        Err(e) => Record {
             kind: 0,
-            number: number,
+            number: e.number,
             out: 0,
             into: 0,
             only: 0,
-            amount: place as u64,
+            amount: e.place as u64,
         },
     }
 }
@@ -85,8 +86,7 @@ fn line_after(after_cr: bool, line: u64, b: u8) -> u64
 fn bytes_before(place: u32, len: usize) -> usize
     ensures { (result ≡ min place len) × (result ≤ 4294967295) }
 {
-    let p = place as usize;
-    if p < len { p } else { len }
+    (place as usize).min(len)
 }
 
 // The line of a place, counted from 1; a place past the text's end is in its last line.

@@ -3,7 +3,7 @@
 #![tactic(auto)]
 
 ghost use Rattle.std.specs.Prelude.{◌++◌};
-ghost use Rattle.cst.specs.Verdicts.{answer_of};
+ghost use Rattle.cst.specs.Verdicts.{answer_of, verdict_of};
 ghost use Rattle.decimal.specs.Decimal.{natural};
 ghost use Rattle.decimal.specs.Puts.{Puts};
 ghost use Rattle.rowset.specs.Integers.{from_bits};
@@ -11,8 +11,9 @@ ghost use Rattle.star_spec.specs.Cst.{refused, passed, lighter};
 ghost use Rattle.verdict_spec.specs.VerdictText.{only_word};
 ghost use Rattle.verdict_lines.specs.Lines.{Told};
 
-use cst::{Exchange, Pass, Verdict};
+use cst::{Checked, Exchange, Pass, Verdict};
 use decimal::{put_byte, put_integer, put_natural, put_text};
+use refusal::Refusal;
 
 // The bytes that the longest line takes: that of a cheaper plan, with three numbers of ten digits.
 pub const LINE_BYTES: usize = 48;
@@ -83,13 +84,22 @@ pub fn put_refused(out: &mut [u8], number: u32, place: usize) -> Line
     }
 }
 
-// The line of CST's verdict.
-pub fn put_verdict(out: &mut [u8], v: Verdict) -> Line
-    ensures { Told (answer_of v) out.old out.new result.size result.status }
+// The line of a plan that passes, or of the exchange that makes it cheaper.
+fn put_passing(out: &mut [u8], v: Verdict) -> Line
+    ensures { Told (verdict_of v) out.old out.new result.size result.status }
 {
     match v {
         Verdict::Passed(x) => put_passed(out, x),
         Verdict::Lighter(x) => put_cheaper(out, x),
-        Verdict::Refused(x) => put_refused(out, x.number, x.place as usize),
+    }
+}
+
+// The line of CST's verdict, or of its refusal.
+pub fn put_verdict(out: &mut [u8], x: Result<Checked, Refusal>) -> Line
+    ensures { Told (answer_of x) out.old out.new result.size result.status }
+{
+    match x {
+        Ok(checked) => put_passing(out, checked.verdict),
+        Err(r) => put_refused(out, r.number, r.place as usize),
     }
 }

@@ -9,13 +9,13 @@ use Rattle.rowset.proofs.Signed.{natural-bits}
 use Rattle.star_spec.specs.Door.{Fields}
 use Rattle.file_door.proofs.of_taken.Goals as goal
 
-pub returns-in-Read : goal.returns-in-Read
+pub returns-in-Ok : goal.returns-in-Ok
 unfolding fields_of file_fields answer_of
-returns-in-Read c =
-    let s = c.in-Read.s in
+returns-in-Ok c =
+    let s = c.in-Ok.s in
     let written : ℤ → Fields = λ a. record { kind = 1; number = 0; out = s.names; into = s.rows; only = 0; amount = a } in
-    rw c.in-Read.is (ap written (natural-bits 63 s.n (omega arith)))
+    rw c.in-Ok.is (ap written (natural-bits 63 s.n (omega arith)))
 
-pub returns-in-Refused : goal.returns-in-Refused
+pub returns-in-Err : goal.returns-in-Err
 unfolding fields_of file_fields answer_of
-returns-in-Refused c = rw c.in-Refused.is refl
+returns-in-Err c = rw c.in-Err.is refl

@@ -6,4 +6,4 @@ use Rattle.file_spec.specs.Places.{line_from, line_at}
 use Rattle.file_door.proofs.star_line_of.Given as goal
 
 abbrev pub invariant-loop-k : goal.invariant-loop-k
-invariant-loop-k l = (l.k ≤ l.end) × (l.end ≤ length l.text) × (l.end ≤ 4294967295) × (l.line ≤ l.k + 1) × (line_at l.text l.place ≡ line_from l.after l.line (drop l.k (take l.end l.text)))
+invariant-loop-k l = (l.end ≤ length l.text) × (l.end ≤ 4294967295) × (l.line ≤ l.k + 1) × (line_at l.text l.place ≡ line_from l.after l.line (drop l.k (take l.end l.text)))

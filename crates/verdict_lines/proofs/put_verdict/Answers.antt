@@ -1,12 +1,11 @@
--- `verdict_lines::put_verdict` meets its contract: what is told of each of its cases. Assumes nothing.
-use Rattle.verdict_lines.proofs.Laws.{verdict-passed, verdict-cheaper, verdict-refused}
+-- `verdict_lines::put_verdict` meets its contract: what is told of a claim, and of a refusal. Assumes nothing.
+use Rattle.cst.specs.Verdicts.{answer_of}
 use Rattle.verdict_lines.proofs.put_verdict.Goals as goal
 
-pub returns-in-Passed : goal.returns-in-Passed
-returns-in-Passed c = verdict-passed c.in-Passed.is c.put_passed.ensures
+pub returns-in-Ok : goal.returns-in-Ok
+unfolding answer_of
+returns-in-Ok c = rw c.in-Ok.is c.put_passing.ensures
 
-pub returns-in-Lighter : goal.returns-in-Lighter
-returns-in-Lighter c = verdict-cheaper c.in-Lighter.is c.put_cheaper.ensures
-
-pub returns-in-Refused : goal.returns-in-Refused
-returns-in-Refused c = verdict-refused c.in-Refused.is c.put_refused.ensures
+pub returns-in-Err : goal.returns-in-Err
+unfolding answer_of
+returns-in-Err c = rw c.in-Err.is c.put_refused.ensures
