@@ -7,8 +7,8 @@ use mathlib.Core.Path.{◌≡◌, refl}
 use Rattle.decimal.specs.Puts.{Puts}
 use Rattle.file.specs.Answers.{answer_of as read_of, lent_of}
 use Rattle.file.specs.declared.Sizes.{Sizes}
-use Rattle.file.specs.declared.Taken.{Taken}
-use Rattle.file.specs.declared.Taken.TheVariants as files
+use Rattle.file_line.specs.declared.ReadError.{ReadError}
+use Rattle.std.specs.Prelude.{Result, Ok, Err}
 use Rattle.file_spec.specs.Table.{file_answer, lent_after}
 use Rattle.star_spec.specs.Call.{work_of}
 use Rattle.star_spec.specs.Cst.{Answer, refused, cst}
@@ -21,18 +21,18 @@ told_same e t = rw e at t
 
 -- ── Of a text ──
 
-module _ (text : List ℕ) {t : Taken} (answer : read_of t ≡ file_answer text blank) where
+module _ (text : List ℕ) {t : Result Sizes ReadError} (answer : read_of t ≡ file_answer text blank) where
   -- a file that was read
-  pub read-verdict : {s : Sizes} {left right weight mark in_use starts ends rows : List ℕ} → t ≡ files.Read s
+  pub read-verdict : {s : Sizes} {left right weight mark in_use starts ends rows : List ℕ} → t ≡ Ok s
       → lent_of left right weight mark in_use starts ends rows ≡ lent_after text blank
       → cst (work_of s.n in_use left right weight mark) ≡ file_verdict text
   unfolding file_verdict judged_file read_of
   read-verdict e lent = rw (← lent, ← answer, e) refl
 
   -- and one that was not
-  pub refused-verdict : {number place : ℕ} → t ≡ files.Refused number place → refused (record { number = number; place = place }) ≡ file_verdict text
+  pub refused-verdict : {e : ReadError} → t ≡ Err e → refused (record { number = e.number; place = e.place }) ≡ file_verdict text
   unfolding file_verdict judged_file read_of
-  refused-verdict e = rw (← answer, e) refl
+  refused-verdict q = rw (← answer, q) refl
 
 -- what is told of the verdict on a text
 pub told_text : (text : List ℕ) {a : Answer} {before after : List ℕ} {size status : ℕ} → a ≡ file_verdict text → Told a before after size status

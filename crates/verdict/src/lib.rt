@@ -9,7 +9,6 @@ ghost use Rattle.star_spec.specs.Cst.{cst};
 ghost use Rattle.verdict_lines.specs.Lines.{Told};
 ghost use Rattle.verdict_spec.specs.VerdictText.{verdict_text, verdict_status};
 
-use file::Taken;
 use in_use::InUse;
 use verdict_lines::{Line, put_refused, put_verdict};
 
@@ -36,9 +35,7 @@ fn table_verdict(
         Told (cst c) out.old out.new result.size result.status }
 {
     let table = InUse::working(words);
-    let checked = cst::cst(n, table, left, right, weight, mark);
-    let v = checked.verdict;
-    put_verdict(out, v)
+    put_verdict(out, cst::cst(n, table, left, right, weight, mark))
 }
 
 // The line of a table file: it stands at the start of the column, as far as it fits; LINE_BYTES hold it whole.
@@ -55,7 +52,7 @@ pub fn print_text(text: &[u8], out: &mut [u8]) -> Line
     let mut starts = [0u32; NAMES];
     let mut ends = [0u32; NAMES];
     let mut rows = [0u32; ROWS];
-    let taken = file::read_table(
+    let read = file::read_table(
         text,
         &mut left,
         &mut right,
@@ -66,8 +63,8 @@ pub fn print_text(text: &[u8], out: &mut [u8]) -> Line
         &mut ends,
         &mut rows,
     );
-    match taken {
-        Taken::Read(s) => table_verdict(s.n, &words, &left, &right, &weight, &mark, out),
-        Taken::Refused(number, place) => put_refused(out, number, place),
+    match read {
+        Ok(s) => table_verdict(s.n, &words, &left, &right, &weight, &mark, out),
+        Err(e) => put_refused(out, e.number, e.place),
     }
 }

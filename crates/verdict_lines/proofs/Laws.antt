@@ -8,11 +8,8 @@ use mathlib.Core.Bool.{Bool, true, false}
 use mathlib.Core.List.{List, [], ◌∷◌}
 use mathlib.Core.Path.{◌≡◌, refl}
 use native.Mathlib.Omega.{arith}
-use Rattle.cst.specs.Verdicts.{answer_of}
 use Rattle.cst.specs.declared.Exchange.{Exchange}
 use Rattle.cst.specs.declared.Pass.{Pass}
-use Rattle.cst.specs.declared.Verdict.{Verdict}
-use Rattle.cst.specs.declared.Verdict.TheVariants as verdicts
 use Rattle.decimal.proofs.Laws.{natural-length, print-above, print-below}
 use Rattle.decimal.specs.Decimal.{integer}
 use Rattle.decimal.specs.Puts.{Puts}
@@ -79,17 +76,3 @@ module _ {before after : List ℕ} {size : ℕ} where
       → Puts before 0 (verdict_line (refused (record { number = number; place = place }))) after size → Told (refused (record { number = number; place = place })) before after size 2
   unfolding status_of
   refused-told number place h k p = record { puts = p; short = refused-short number place h k; status-of = refl; few = omega arith }
-
--- of CST's verdict, by its cases
-module _ {v : Verdict} {before after : List ℕ} {size status : ℕ} where
-  pub verdict-passed : {x : Pass} → v ≡ verdicts.Passed x → Told (passed (from_bits 64 x.weight) x.only) before after size status → Told (answer_of v) before after size status
-  unfolding answer_of
-  verdict-passed e t = rw e t
-
-  pub verdict-cheaper : {x : Exchange} → v ≡ verdicts.Lighter x → Told (lighter x.out x.into x.saving) before after size status → Told (answer_of v) before after size status
-  unfolding answer_of
-  verdict-cheaper e t = rw e t
-
-  pub verdict-refused : {x : Refusal} → v ≡ verdicts.Refused x → Told (refused (record { number = x.number; place = x.place })) before after size status → Told (answer_of v) before after size status
-  unfolding answer_of
-  verdict-refused e t = rw e t

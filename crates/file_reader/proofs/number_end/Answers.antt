@@ -10,7 +10,7 @@ returns-in-Number-clause-end_met c at h = rw c.in-Number.is (kept-number _ _ _ _
 
 pub meet-k-requires : goal.meet-k-requires
 unfolding Lying
-meet-k-requires c = 
+meet-k-requires c =
     let l = rw c.in-Name.is at c.requires.count_bound.2 in
     record { count_bound = (c.requires.count_bound.0, l.0, l.1, c.requires.count_bound.1); sized = c.requires.sized; kept = c.requires.kept }
 

@@ -14,7 +14,7 @@ invariant-loop-l l = record {
   sized : Sized l.found l.starts l.ends × Columns l.left l.right l.weight l.mark l.struck l.rows;
   sound : Sound l.text l.found l.starts l.ends;
   same : read_lines (read_of l.text l.initial.found l.initial.starts l.initial.ends l.initial.left l.initial.right l.initial.weight l.initial.mark l.initial.struck l.initial.rows) (lines l.from (part l.text l.from (length l.text)))
-    ≡ read_lines (read_of l.text l.found l.starts l.ends l.left l.right l.weight l.mark l.struck l.rows) (lines l.at (part l.text l.at (length l.text)));
+      ≡ read_lines (read_of l.text l.found l.starts l.ends l.left l.right l.weight l.mark l.struck l.rows) (lines l.at (part l.text l.at (length l.text)));
 }
 
 abbrev pub decreases-loop-l : goal.decreases-loop-l

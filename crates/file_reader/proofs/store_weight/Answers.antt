@@ -17,7 +17,7 @@ bytes_same x =
     rw (two, three) refl
 
 pub returns-clause-column_after : goal.returns-clause-column_after
-returns-clause-column_after c = 
+returns-clause-column_after c =
     let b : c.copy_from_slice.new.self ≡ bytes_of 4 c.args.w = c.copy_from_slice.ensures.after ∙ c.to_le_bytes.ensures ∙ bytes_same c.args.w in
     let n : length c.copy_from_slice.new.self ≡ 4 = ap length (c.copy_from_slice.ensures.after ∙ c.to_le_bytes.ensures) in
     take-put_mid (4 * c.args.k) _ c.args.column.now _ (4 * (c.args.k + 1)) (omega arith) (omega arith) ∙ ap (λ (x : List ℕ). take (4 * c.args.k) c.args.column.now ++ x) b

@@ -2,14 +2,14 @@
 use Rattle.verdict.proofs.Laws.{read-verdict, refused-verdict, told_text}
 use Rattle.verdict.proofs.print_text.Goals as goal
 
-pub returns-in-Read : goal.returns-in-Read
-returns-in-Read c =
-    let lent = c.read_table-taken.ensures in
-    let told = told_text _ (read-verdict _ lent.answer c.in-Read.is lent.lent) c.table_verdict.ensures in
+pub returns-in-Ok : goal.returns-in-Ok
+returns-in-Ok c =
+    let lent = c.read_table-read.ensures in
+    let told = told_text _ (read-verdict _ lent.answer c.in-Ok.is lent.lent) c.table_verdict.ensures in
     record { puts = told.0; few = told.1.0; status = told.1.1 }
 
-pub returns-in-Refused : goal.returns-in-Refused
-returns-in-Refused c =
-    let lent = c.read_table-taken.ensures in
-    let told = told_text _ (refused-verdict _ lent.answer c.in-Refused.is) c.put_refused.ensures in
+pub returns-in-Err : goal.returns-in-Err
+returns-in-Err c =
+    let lent = c.read_table-read.ensures in
+    let told = told_text _ (refused-verdict _ lent.answer c.in-Err.is) c.put_refused.ensures in
     record { puts = told.0; few = told.1.0; status = told.1.1 }

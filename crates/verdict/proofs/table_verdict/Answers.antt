@@ -5,4 +5,4 @@ use Rattle.verdict.proofs.table_verdict.Goals as goal
 pub returns : goal.returns
 returns c =
     let table = c.working-table.ensures in
-    told_same (rw (table.rows.0, table.rows.1, table.used) at c.cst-checked.ensures.verdict) c.put_verdict.ensures
+    told_same (rw (table.rows.0, table.rows.1, table.used) at c.cst.ensures.verdict) c.put_verdict.ensures
