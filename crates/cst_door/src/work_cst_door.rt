@@ -4,8 +4,7 @@ ghost use Rattle.star_spec.specs.Call.{work_of};
 ghost use Rattle.promise.specs.Promise.{working, CstCall};
 ghost use Rattle.star_spec.specs.Door.{door_returns, cst_door};
 
-use answer::{well_lent, write_answer};
-use answer_fields::verdict::of_verdict;
+use crate::cst_door::answered;
 use in_use::InUse;
 
 // CST over the rows in use, through the door. `means` says what the bytes are worth: what is read back, and what it says of the spanning trees of the rows in use.
@@ -25,12 +24,6 @@ pub extern "C" fn star_work_cst(
     ensures means { let t = working n words.now left.now right.now weight.now in
         CstCall t mark.now answer.old answer.new result }
 {
-    if !well_lent(answer) {
-        return 0;
-    }
-    let table = InUse::working(words);
-    let checked = cst::cst(n, table, left, right, weight, mark);
-    let x = of_verdict(checked);
-    write_answer(answer, x);
-    1
+    let working = InUse::working(words);
+    answered(n, working, left, right, weight, mark, answer)
 }

@@ -4,8 +4,7 @@ ghost use Rattle.star_spec.specs.Call.{work_of};
 ghost use Rattle.promise.specs.Promise.{working, Mst1Call};
 ghost use Rattle.star_spec.specs.Door.{door_returns, mst1_door, mst1_door_marks};
 
-use answer::{well_lent, write_answer};
-use answer_fields::built::of_built;
+use crate::mst1_door::answered;
 use in_use::InUse;
 
 // MST1 over the rows in use, through the door: the marks are written where a tree is built, with 0 at rows not in use, and stay as they are otherwise.
@@ -26,11 +25,6 @@ pub extern "C" fn star_work_mst1(
     ensures means { let t = working n words.now left.now right.now weight.now in
         Mst1Call t mark.old answer.old answer.new mark.new result }
 {
-    if !well_lent(answer) {
-        return 0;
-    }
-    let b = mst1::mst1(n, InUse::working(words), left, right, weight, mark);
-    let x = of_built(b);
-    write_answer(answer, x);
-    1
+    let working = InUse::working(words);
+    answered(n, working, left, right, weight, mark, answer)
 }

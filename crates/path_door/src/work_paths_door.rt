@@ -4,7 +4,7 @@ ghost use Rattle.path_meaning.specs.Bytes.{PathsCall};
 ghost use Rattle.star_spec.specs.Call.{work_of};
 ghost use Rattle.star_spec.specs.Door.{door_returns, paths_door, paths_door_matrix};
 
-use answer::{of_outcome, well_lent, write_answer};
+use crate::paths_door::answered;
 use in_use::InUse;
 
 // MatrixPath over the rows in use, through the door: the matrix is filled where nothing is refused, and stays as it is otherwise.
@@ -29,12 +29,6 @@ pub extern "C" fn star_work_paths(
     ensures means { let c = work_of n words.now left.now right.now weight.now mark.now in
         PathsCall c s matrix.old answer.old answer.new matrix.new result }
 {
-    if !well_lent(answer) {
-        return 0;
-    }
-    let table = InUse::working(words);
-    let o = path::matrix_path(n, table, left, right, weight, mark, s, matrix);
-    let x = of_outcome(o);
-    write_answer(answer, x);
-    1
+    let working = InUse::working(words);
+    answered(n, working, left, right, weight, mark, s, matrix, answer)
 }

@@ -1,15 +1,6 @@
--- `path_door::work_paths_door::star_work_paths` meets its contract: what MatrixPath over the rows in use, `of_outcome` and `write_answer` promise, one after the other. Assumes nothing.
-use mathlib.Core.Path.{sym, ◌∙◌}
-use Rattle.path_door.proofs.Laws.{unwritten, answered}
-use Rattle.path_meaning.proofs.Bytes.{paths-call}
+-- `path_door::work_paths_door::star_work_paths` meets its contract: it is that of `answered` over a working table. Assumes nothing.
 use Rattle.path_door.proofs.work_paths_door.star_work_paths.Goals as goal
-
-pub returns-then-not-well_lent : goal.returns-then-not-well_lent
-returns-then-not-well_lent c =
-    let told = paths-call (unwritten _ _ _ _ (sym c.well_lent.ensures ∙ c.if-not-well_lent.true)) in record { returned = told.0; answered = told.1.0; filled = told.1.1.0; means = told.1.1.1 }
 
 pub returns : goal.returns
 returns c =
-    let table = c.working-table.ensures in let told = paths-call
-    (answered _ _ _ _ (sym c.well_lent.ensures ∙ c.if-not-well_lent.false) c.write_answer.ensures c.of_outcome-x.ensures
-    (rw (table.rows.0, table.rows.1, table.used) at c.matrix_path-o.ensures)) in record { returned = told.0; answered = told.1.0; filled = told.1.1.0; means = told.1.1.1 }
+    let t = c.working-working.ensures in rw (t.rows.0, t.rows.1, t.used) at c.answered.ensures
