@@ -17,7 +17,6 @@ ghost use Rattle.outlets_swaps.specs.Steps.Exchanges.{number_of, between, deares
 
 use claim::flipped_weight;
 use slice::{SIZE, Slice};
-use table_checks::row_byte;
 
 // 2 ^ 32, which is added to a cost, and 2 ^ 33, the cost where there is no exchange.
 const ABOVE: u64 = 4294967296;
@@ -48,18 +47,6 @@ fn number_at(column: &[usize], j: usize) -> usize
     0
 }
 
-// The rows on the tree path between row i's ends, from the path matrix.
-fn path_of(own: &[u64], left: &[u8], right: &[u8], i: usize) -> Slice
-    ensures { component result ≡ between own.now left.now right.now i }
-{
-    let a = row_byte(left, i) as usize;
-    let b = row_byte(right, i) as usize;
-    slice::xor(
-        path_matrix::read_column(own, a),
-        path_matrix::read_column(own, b),
-    )
-}
-
 // FND of MAX: the uppermost of a slice's heaviest rows, 0 where it has none.
 fn heaviest(weights: &[u64], first: usize, x: Slice) -> usize
     ensures { let w = integer_in (matrix_column weights.now) first (width - first) in
@@ -81,7 +68,7 @@ fn dearest_at(
     ensures { let w = integer_in (matrix_column weights.now) first (width - first) in
         result ≡ uppermost size (largest size w (both (between own.now left.now right.now i) (component at))) }
 {
-    let path = path_of(own, left, right, i);
+    let path = path_exchange::path_of(own, left, right, i);
     let here = slice::and(path, at);
     if slice::zero(here) {
         return 0;
@@ -211,7 +198,7 @@ fn swap(
     ensures chosen { component result ≡ swapped (component tree) e f }
     ensures own { own.new ≡ columns_turned own.old n e (written (between own.old left.now right.now f) f true) }
 {
-    let path = path_of(own, left, right, f);
+    let path = path_exchange::path_of(own, left, right, f);
     path_exchange::turn_columns(own, n, e, slice::put(path, f, true));
     slice::put(slice::put(tree, e, false), f, true)
 }

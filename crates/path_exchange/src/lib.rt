@@ -4,10 +4,26 @@
 #![tactic(auto)]
 
 ghost use Rattle.std.specs.Prelude.{◌≡◌};
+ghost use Rattle.path_matrix.specs.Matrix.{matrix_column};
+ghost use Rattle.rowset.specs.Bytes.{in_row};
+ghost use Rattle.rowset.specs.Sets.{one_of};
 ghost use Rattle.slice.specs.Slices.{component};
 ghost use Rattle.path_exchange.specs.Turned.{column_turned, columns_turned};
 
 use slice::Slice;
+use table_checks::row_byte;
+
+// The rows on the tree path between row i's ends, from the path matrix.
+pub fn path_of(matrix: &[u64], left: &[u8], right: &[u8], i: usize) -> Slice
+    ensures { component result ≡ one_of (matrix_column matrix.now (in_row 1 left.now i)) (matrix_column matrix.now (in_row 1 right.now i)) }
+{
+    let a = row_byte(left, i) as usize;
+    let b = row_byte(right, i) as usize;
+    slice::xor(
+        path_matrix::read_column(matrix, a),
+        path_matrix::read_column(matrix, b),
+    )
+}
 
 // Column j, turned over by the ring where it has row e; any other column stays.
 pub fn turn_column(matrix: &mut [u64], j: usize, e: usize, ring: Slice)

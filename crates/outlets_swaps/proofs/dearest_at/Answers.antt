@@ -8,6 +8,7 @@ use Rattle.outlets_kept.proofs.Kept.{none_out}
 use Rattle.rowset.specs.Searches.{largest}
 use Rattle.rowset.specs.Sets.{both, any, uppermost}
 use Rattle.slice.specs.Slices.{size}
+use Rattle.outlets_swaps.specs.Steps.Exchanges.{between}
 use Rattle.outlets_swaps.proofs.dearest_at.Goals as goal
 
 -- the rows X that are searched are those of the path and of the rows at r
@@ -20,7 +21,9 @@ module _ (w : ℕ → ℤ) (X p q here : ℕ → Bool) (both-are : X ≡ both p 
   zero-out b e t = found-out 0 (sym (none_out size w X (not-true (any size X) (sym e ∙ t))))
 
 pub returns-then-zero : goal.returns-then-zero
+unfolding between
 returns-then-zero c = zero-out _ _ _ _ _ c.and-here.ensures c.path_of-path.ensures _ c.zero.ensures c.if-zero.true
 
 pub returns : goal.returns
+unfolding between
 returns c = found-out _ _ _ _ _ c.and-here.ensures c.path_of-path.ensures _ c.heaviest.ensures

@@ -36,9 +36,6 @@ overflow_sub-f c = omega (arith, c.if-f-eq0.false)
 pub find_again-requires : goal.find_again-requires
 find_again-requires c = let l = c.loop-i in omega (arith, l.invariant.3, l.invariant.4, l.invariant.5)
 
-pub overflow_add-i : goal.overflow_add-i
-overflow_add-i c = omega (arith, c.loop-i-test.true, c.loop-i.invariant.1)
-
 pub loop-i-smaller : goal.loop-i-smaller
 loop-i-smaller c = omega (arith, c.loop-i-test.true)
 

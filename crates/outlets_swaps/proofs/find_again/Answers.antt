@@ -25,9 +25,6 @@ pub find-requires : goal.find-requires
 find-requires c =
     let l = c.loop-j in (omega (arith, c.loop-j-test.true), omega (arith, c.loop-j-test.true, l.invariant.0.full, l.invariant.1.full, l.invariant.2))
 
-pub overflow_add-j : goal.overflow_add-j
-overflow_add-j c = omega (arith, c.loop-j-test.true)
-
 pub loop-j-smaller : goal.loop-j-smaller
 loop-j-smaller c = omega (arith, c.loop-j-test.true, c.loop-j.invariant.0.full)
 

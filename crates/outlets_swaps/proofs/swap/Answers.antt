@@ -1,10 +1,10 @@
 -- `outlets_swaps::swap` meets its contract, by what its calls ensure. Assumes nothing.
-use Rattle.outlets_swaps.specs.Steps.Exchanges.{swapped}
+use Rattle.outlets_swaps.specs.Steps.Exchanges.{swapped, between}
 use Rattle.outlets_swaps.proofs.swap.Goals as goal
 
 -- src/lib.rt:206:1
 pub returns : goal.returns
-unfolding swapped
+unfolding swapped between
 returns c =
     record {
       chosen = rw (← c.put-2.ensures) c.put-3.ensures;

@@ -1,8 +1,0 @@
--- `outlets_swaps::path_of` meets its contract, by what its calls ensure. Assumes nothing.
-use Rattle.outlets_swaps.specs.Steps.Exchanges.{between}
-use Rattle.outlets_swaps.proofs.path_of.Goals as goal
-
-pub returns : goal.returns
-unfolding between
-returns c =
-    rw (c.xor.ensures, c.read_column-2.ensures, c.read_column.ensures, c.row_byte-b.ensures, c.row_byte-a.ensures)
