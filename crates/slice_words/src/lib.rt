@@ -27,8 +27,8 @@ pub fn count_rows(x: Slice) -> usize
     ensures { result ≡ count size (component x) }
 {
     let mut count = 0;
-    for i in 0..slice::SIZE {
-        count += row_in(&x.words, i + 1) as usize;
+    for word in &x.words {
+        count += word.count_ones() as usize;
     }
     count
 }
