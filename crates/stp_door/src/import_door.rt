@@ -29,7 +29,7 @@ pub fn of_imported(x: Result<Sizes, Refusal>) -> Record
             out: 0,
             into: 0,
             only: 0,
-            amount: u64::from(r.place),
+            amount: r.place as u64,
         },
     }
 }
