@@ -54,7 +54,7 @@ fn highest(w: u64) -> usize
     requires { 0 < w }
     ensures { (result < 64) × (bit w result ≡ true) × ((j : ℕ) → result < j → bit w j ≡ false) }
 {
-    BITS - 1 - w.leading_zeros() as usize
+    w.ilog2() as usize
 }
 
 // The position of the last component that the slice has, 0 where it has none.

@@ -1,6 +1,5 @@
 -- `slice_words::highest` meets its contract. Assumes nothing.
-use Prim.Native.Nat.{ℕ, suc, ◌+◌, ◌-◌, ◌/◌, ◌%◌, ◌^◌, ◌<◌, ◌≤◌}
-use lib.Count.{leading_le, leading_top}
+use Prim.Native.Nat.{ℕ, suc, ◌/◌, ◌%◌, ◌^◌, ◌<◌, ◌≤◌}
 use lib.Dec.{eqb}
 use lib.Pow.{pow_mono}
 use mathlib.Core.Bool.{true, false}
@@ -22,17 +21,8 @@ bits_above : (w j i : ℕ) → w < 2 ^ suc j → j < i → bit w i ≡ false
 unfolding bit
 bits_above w j i high l = let small : w < 2 ^ i = omega (arith, pow_mono {i = suc j} {j = i} l) in rw (div-eq_of_lt small)
 
--- the place by the zeros above it
-place : (w z : ℕ) → ((j : ℕ) × (z + suc j ≡ 64) × (2 ^ j ≤ w) × (w < 2 ^ suc j)) → (63 - z < 64) × (bit w (63 - z) ≡ true) × ((j : ℕ) → 63 - z < j → bit w j ≡ false)
-place w z (j, sum, low, high) =
-    let e : 63 - z ≡ j = omega arith in
-    rw e (omega arith, top_bit w j low high, λ i l. bits_above w j i high l)
-
-pub overflow_cast-result : goal.overflow_cast-result
-overflow_cast-result c = omega (arith, leading_le 64 c.args.w)
-
-pub overflow_sub-result-2 : goal.overflow_sub-result-2
-overflow_sub-result-2 c = omega (arith, (leading_top 64 c.args.w c.requires c.ranges.w.fits).1)
-
 pub returns : goal.returns
-returns c = place c.args.w _ (leading_top 64 c.args.w c.requires c.ranges.w.fits)
+returns c =
+    let e = c.ilog2.ensures in
+    let above : c.args.w < 2 ^ suc c.ilog2.result = omega (arith, e.next_power_gt, pow-suc 2 c.ilog2.result) in
+    (e.bound, top_bit _ _ e.power_le above, λ j l. bits_above _ _ j above l)
