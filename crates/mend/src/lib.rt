@@ -20,7 +20,7 @@ ghost use Rattle.table.specs.Loads.{loaded_row};
 ghost use Rattle.mend_spec.specs.Mend.{claim_causes, few_records, redrawn, mend, mend_marks, mend_list};
 ghost use Rattle.mend.specs.Answers.{answer_of};
 ghost use Rattle.mend_groups.specs.Steps.Machine.{state_of, visits};
-ghost use Rattle.mend.specs.Steps.Machine.{path_of, out_of, swapped, swap_at};
+ghost use Rattle.mend.specs.Steps.Machine.{out_of, swapped, swap_at};
 
 use claim::flipped_weight;
 use in_use::InUse;
@@ -30,7 +30,6 @@ use mend_record::{Kind, Record};
 use refusal::{Cause, Refusal};
 use slice::rows::rows_among;
 use slice::{SIZE, Slice};
-use table_checks::row_byte;
 
 // What stands in the list where no record was noted.
 const NO_RECORD: Record = Record {
@@ -38,18 +37,6 @@ const NO_RECORD: Record = Record {
     out: 0,
     into: 0,
 };
-
-// The rows on the tree path between row i's ends, from the path matrix.
-fn path_of(own: &[u64], left: &[u8], right: &[u8], i: usize) -> Slice
-    ensures { component result ≡ path_of own.now left.now right.now i }
-{
-    let a = row_byte(left, i) as usize;
-    let b = row_byte(right, i) as usize;
-    slice::xor(
-        path_matrix::read_column(own, a),
-        path_matrix::read_column(own, b),
-    )
-}
 
 // FND of MAX: the heaviest row of a path, the uppermost among equals, where it is heavier than row i; else 0. `weights` has the words of the weight column as a table, of which the first columns are left out.
 fn row_out(path: Slice, weights: &[u64], first: usize, weight: &[u8], i: usize) -> usize
@@ -110,7 +97,7 @@ fn swap_at(
     if slice::get(s.marks, i) {
         return s;
     }
-    let path = path_of(own, left, right, i);
+    let path = path_exchange::path_of(own, left, right, i);
     let out = row_out(path, weights, first, weight, i);
     if out == 0 {
         return s;

@@ -4,6 +4,7 @@ use borrow.Author.Tests.{eq-eqb, ne_eqb}
 use mathlib.Core.Path.{sym, ◌∙◌}
 use native.Mathlib.Omega.{arith}
 use Rattle.mend.proofs.Steps.{swap-unused, swap-marked, swap-none, swap-swaps, out-bound}
+use Rattle.mend.specs.Steps.Machine.{path_of}
 use Rattle.mend.proofs.swap_at.Goals as goal
 
 pub returns-then-not-get : goal.returns-then-not-get
@@ -14,6 +15,7 @@ returns-then-get c =
     sym (swap-marked _ _ _ _ _ _ _ _ (sym c.get.ensures ∙ c.if-not-get.false) (sym c.get-2.ensures ∙ c.if-get.true))
 
 pub returns-then-out-eq0 : goal.returns-then-out-eq0
+unfolding path_of
 returns-then-out-eq0 c =
     let out = rw c.path_of-path.ensures at c.row_out-out.ensures in
     sym (swap-none _ _ _ _ _ _ _ _ (sym c.get.ensures ∙ c.if-not-get.false) (sym c.get-2.ensures ∙ c.if-get.false) (eq-eqb _ _ (sym out ∙ c.if-out-eq0.true)))
@@ -22,6 +24,7 @@ pub swap-requires : goal.swap-requires
 swap-requires c = (out-bound _ _ _ _ _ c.row_out-out.ensures, omega arith, omega arith)
 
 pub returns : goal.returns
+unfolding path_of
 returns c =
     let out = rw c.path_of-path.ensures at c.row_out-out.ensures in
     (rw (out, c.path_of-path.ensures) at c.swap.ensures)
