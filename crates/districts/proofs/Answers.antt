@@ -4,13 +4,14 @@ use Prim.Native.Nat.{ℕ, ◌≤◌, ◌<◌}
 use borrow.Author.Tests.{not-true, not-false}
 use lib.ListN.{length}
 use mathlib.Core.Bool.{Bool, true, false, not}
-use mathlib.Core.List.{List}
+use mathlib.Core.List.{List, [], ◌∷◌}
 use mathlib.Core.Option.{Option, none, some}
 use mathlib.Core.Path.{◌≡◌, refl, sym, ◌∙◌, ap}
 use native.Mathlib.Nat.{mod-one}
 use native.Mathlib.Omega.{arith}
-use Rattle.districts_spec.proofs.Causes.{causes-in-order, none-applies, taken-means, words-rise}
-use Rattle.districts_spec.specs.Districts.{forest_rows, city_tree, city_rows, no_city, run_causes, district_causes, answer_or, districts_answer, column_or, districts_forests, districts_marks}
+use Rattle.std.specs.Prelude.{Result, Ok, Err, ⊤}
+use Rattle.districts_spec.proofs.Causes.{checks-in-order, causes-in-order, none-applies, taken-means, words-rise}
+use Rattle.districts_spec.specs.Districts.{bad_runs, bad_forests, forest_rows, city_tree, city_rows, no_city, run_causes, district_causes, answer_or, districts_answer, column_or, districts_forests, districts_marks}
 use Rattle.districts_spec.specs.Means.{Taken}
 use Rattle.districts.specs.Steps.Divided.{Divided}
 use Rattle.districts_theory.proofs.Districts.{districts-hold}
@@ -21,8 +22,6 @@ use Rattle.mst1.proofs.Answers.{loaded-weights}
 use Rattle.mst1.proofs.Cut.{over, tree-cut}
 use Rattle.mst1.specs.Steps.Growth.{loaded_graph}
 use Rattle.refusal.specs.Outcomes.{refusal_of}
-use Rattle.refusal.specs.declared.Outcome.{Outcome}
-use Rattle.refusal.specs.declared.Outcome.TheVariants.{Done, Refused}
 use Rattle.refusal.specs.declared.Refusal.{Refusal}
 use Rattle.rowset.proofs.Integers.{total-cut}
 use Rattle.rowset.proofs.Laws.{refuted}
@@ -33,7 +32,7 @@ use Rattle.slice.specs.Slices.{size}
 use Rattle.star_spec.proofs.Accepted as accepted
 use Rattle.star_spec.specs.Call.{Call, rows_of, used, graph_of, weight_of, claim_of}
 use Rattle.star_spec.specs.Mst1.{BuildAnswer, unbuilt, tree_built, chosen_rows}
-use Rattle.star_spec.specs.Refusals.{cause, is_none, or_else, refusal}
+use Rattle.star_spec.specs.Refusals.{cause, is_none, bad_vertices, too_many_rows, table_causes, or_else, refusal}
 use Rattle.table.proofs.Loads.{load-taken, loaded-taken}
 use Rattle.table.specs.Loads.{loaded_row}
 
@@ -41,21 +40,31 @@ use Rattle.table.specs.Loads.{loaded_row}
 abbrev pub Ends : Call → (F ends : List ℕ) → BuildAnswer → (forests marks : List ℕ) → Type 0
 Ends c F ends answer columns marks = (answer ≡ districts_answer c F ends) × (columns ≡ districts_forests c F ends) × (marks ≡ districts_marks c F ends)
 
+-- four answers taken two by two
+or_else-pairs : (a b d e : Option Refusal) → or_else a (or_else b (or_else d e)) ≡ or_else (or_else a b) (or_else d e)
+unfolding or_else
+or_else-pairs none b d e = refl
+or_else-pairs (some r) b d e = refl
+
 module _ (c : Call) (F ends : List ℕ) where
+  -- the checks one after the other
+  pub runs-in-order : or_else (refusal (bad_vertices c.n ∷ too_many_rows (rows_of c) ∷ [])) (or_else (bad_forests (rows_of c) F) (or_else (refusal (table_causes c)) (bad_runs (rows_of c) ends))) ≡ refusal (run_causes c F ends)
+  runs-in-order = or_else-pairs _ _ _ _ ∙ checks-in-order c F ends
+
   -- a refusal leaves both columns
   ends-refused : (r : Refusal) → refusal (district_causes c F ends) ≡ some r → Ends c F ends (unbuilt r) F c.mark
   unfolding districts_answer answer_or districts_forests districts_marks column_or
   ends-refused r e = (rw e, rw e, rw e)
 
   -- a call that the checks refuse
-  pub call-refused : {o : Outcome} {r : Refusal} → refusal_of o ≡ refusal (run_causes c F ends) → o ≡ Refused r → Ends c F ends (unbuilt r) F c.mark
+  pub call-refused : {o : Result ⊤ Refusal} {r : Refusal} → refusal_of o ≡ refusal (run_causes c F ends) → o ≡ Err r → Ends c F ends (unbuilt r) F c.mark
   unfolding refusal_of or_else
   call-refused {r = r} e q =
       let h : refusal (run_causes c F ends) ≡ some r = sym e ∙ ap refusal_of q in
       ends-refused r (causes-in-order c F ends ∙ rw h)
 
   -- a call that they accept
-  module _ {o : Outcome} (checked : refusal_of o ≡ refusal (run_causes c F ends)) (done : o ≡ Done) where
+  module _ {o : Result ⊤ Refusal} (checked : refusal_of o ≡ refusal (run_causes c F ends)) (done : o ≡ Ok tt) where
     no-cause : refusal (run_causes c F ends) ≡ none
     unfolding refusal_of
     no-cause = sym checked ∙ ap refusal_of done

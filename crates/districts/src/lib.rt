@@ -2,35 +2,33 @@
 
 #![tactic(auto)]
 
-ghost use Rattle.std.specs.Prelude.{◌≡◌};
+ghost use Rattle.std.specs.Prelude.{◌≡◌, is_some};
 ghost use Rattle.districts_spec.specs.Districts.{bad_runs, run_causes, districts_answer, districts_forests, districts_marks};
 ghost use Rattle.districts_theory.specs.Districts.{rises_to};
 ghost use Rattle.mst1.specs.Answers.{answer_of};
 ghost use Rattle.search_columns.specs.Steps.Integers.{integers_after};
-ghost use Rattle.mst1.specs.Steps.Growth.{graph_by, loaded_graph};
+ghost use Rattle.mst1.specs.Steps.Growth.{graph_by, loaded_graph, chosen_in};
 ghost use Rattle.refusal.specs.Outcomes.{refusal_of};
 ghost use Rattle.rowset.specs.Integers.{signed};
 ghost use Rattle.slice.specs.Slices.{component};
 ghost use Rattle.in_use.specs.Tables.{table_in};
-ghost use Rattle.star_spec.specs.Call.{table_of};
 ghost use Rattle.star_spec.specs.Refusals.{refusal};
 ghost use Rattle.table.specs.Loads.{loaded_row};
 ghost use Rattle.districts.specs.Steps.Divided.{Divided};
 
 use in_use::InUse;
-use mst1::Built;
-use refusal::{Outcome, Refusal};
+use refusal::{Cause, Refusal};
 use slice::Slice;
+use table_checks::{refused_if, size_check, table_check};
 
 // The largest number of ends that is taken.
 pub const MAX_ENDS: usize = 8;
 
-// What was grown: the forests' rows, whether the tree is a whole one, and its rows, none where it is not.
+// What was grown: the forests' rows, and those of the tree, where there is one.
 #[derive(Clone, Copy)]
 pub struct City {
     pub forests: Slice,
-    pub whole: bool,
-    pub chosen: Slice,
+    pub tree: Option<Slice>,
 }
 
 // Whether each end is above the one before, the first above 0, and the last is m; without an end, whether m is 0.
@@ -38,8 +36,8 @@ fn ends_rise(ends: &[u32], m: usize) -> bool
     ensures { result ≡ rises_to m 0 ends.now }
 {
     let mut p: usize = 0;
-    for j in 0..ends.len() {
-        let q = ends[j] as usize;
+    for end in ends {
+        let q = *end as usize;
         if q <= p {
             return false;
         }
@@ -49,33 +47,32 @@ fn ends_rise(ends: &[u32], m: usize) -> bool
 }
 
 // Cause 14.
-fn runs_check(ends: &[u32], m: usize) -> Outcome
+fn runs_check(ends: &[u32], m: usize) -> Result<(), Refusal>
     ensures { refusal_of result ≡ bad_runs m ends.now }
 {
     let rising = ends_rise(ends, m);
-    table_checks::refused_if(MAX_ENDS < ends.len() || !rising, 14)
+    refused_if(MAX_ENDS < ends.len() || !rising, Cause::BadRuns as u32)
 }
 
 // Causes 1 to 4, 15 and 14; 3 looks at both lent columns.
 pub fn call_check(
     n: u32,
-    m: usize,
-    whole: bool,
-    rows: Slice,
+    table: InUse,
     left: &[u8],
     right: &[u8],
     weight: &[u8],
     ends: &[u32],
     forests: &[u8],
     mark: &[u8],
-) -> Outcome
-    ensures { let c = table_of n m whole (component rows) left.now right.now weight.now mark.now in
+) -> Result<(), Refusal>
+    ensures { let c = table_in n table left.now right.now weight.now mark.now in
         refusal_of result ≡ refusal (run_causes c forests.now ends.now) }
 {
-    let sizes = table_checks::size_check(n, m);
-    let column = table_checks::first(sizes, table_checks::refused_if(forests.len() != m, 3));
-    let table = table_checks::table_check(n, m, whole, rows, left, right, weight, mark);
-    table_checks::first(column, table_checks::first(table, runs_check(ends, m)))
+    let m = table.m;
+    size_check(n, m)?;
+    refused_if(forests.len() != m, Cause::BadLengths as u32)?;
+    table_check(n, m, table.whole, table.rows, left, right, weight, mark)?;
+    runs_check(ends, m)
 }
 
 // The forests of the runs of a slice's rows, and the tree of n vertices from the forests' rows alone, over byte columns of ends and lent columns of weights; of the weights the first columns are left out.
@@ -88,17 +85,11 @@ fn grow_city(
     n: usize,
     ends: &[u32],
 ) -> City
-    ensures { Divided (graph_by (loaded_row 1 left.now) (loaded_row 1 right.now) rows n) (integers_after weight.now first) ends.now (component result.forests) result.whole (component result.chosen) }
+    ensures { Divided (graph_by (loaded_row 1 left.now) (loaded_row 1 right.now) rows n) (integers_after weight.now first) ends.now (component result.forests) (is_some result.tree) (chosen_in result.tree) }
 {
     let forests = districts_forests::forests_of(left, right, weight, first, rows, n, ends);
     let tree = mst1::grow_tree(left, right, weight, first, forests, n);
-    let whole = tree.whole;
-    let chosen = tree.chosen;
-    City {
-        forests: forests,
-        whole: whole,
-        chosen: chosen,
-    }
+    City { forests, tree }
 }
 
 // The same over the rows of a slice among the first m, with the weights as they are loaded.
@@ -112,7 +103,7 @@ pub fn city_of(
     ends: &[u32],
 ) -> City
     ensures { let g = loaded_graph n m (component rows) left.now right.now in
-        Divided g (λ i. signed (loaded_row 4 weight.now i)) ends.now (component result.forests) result.whole (component result.chosen) }
+        Divided g (λ i. signed (loaded_row 4 weight.now i)) ends.now (component result.forests) (is_some result.tree) (chosen_in result.tree) }
 {
     let mut weights = [0u64; table_loads::ALL];
     table_loads::put_prices(weight, &mut weights);
@@ -132,36 +123,18 @@ pub fn districts(
     ends: &[u32],
     forests: &mut [u8],
     mark: &mut [u8],
-) -> Built
+) -> Result<u64, Refusal>
     ensures { let c = table_in n table left.now right.now weight.now mark.old in
         (answer_of result ≡ districts_answer c forests.old ends.now)
         × (forests.new ≡ districts_forests c forests.old ends.now)
         × (mark.new ≡ districts_marks c forests.old ends.now) }
 {
-    let m = table.m;
-    let rows = table.rows;
-    if let Outcome::Refused(refusal) = call_check(
-        n,
-        m,
-        table.whole,
-        rows,
-        left,
-        right,
-        weight,
-        ends,
-        forests,
-        mark,
-    ) {
-        return Built::Refused(refusal);
-    }
-    let city = city_of(n, m, rows, left, right, weight, ends);
-    if !city.whole {
-        return Built::Refused(Refusal {
-            number: 11,
-            place: 0,
-        });
-    }
+    call_check(n, table, left, right, weight, ends, forests, mark)?;
+    let city = city_of(n, table.m, table.rows, left, right, weight, ends);
+    let Some(chosen) = city.tree else {
+        return Err(Refusal::of(Cause::NoNetwork as u32));
+    };
     claim::write_claim(forests, city.forests);
-    claim::write_claim(mark, city.chosen);
-    Built::Tree(claim::weigh(weight, city.chosen))
+    claim::write_claim(mark, chosen);
+    Ok(claim::weigh(weight, chosen))
 }

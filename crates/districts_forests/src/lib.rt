@@ -114,8 +114,8 @@ fn forests_in(
 {
     let mut all = Slice::empty();
     let mut p: usize = 0;
-    for j in 0..ends.len() {
-        let q = ends[j] as usize;
+    for end in ends {
+        let q = *end as usize;
         let run = run_of(rows, p, q);
         let forest = forest_of(left, right, left_ends, right_ends, weight, first, run, n);
         all = slice::or(all, forest);

@@ -7,13 +7,12 @@ use mathlib.Core.List.{List}
 use mathlib.Core.Option.{none, some}
 use mathlib.Core.Path.{◌≡◌, sym, ◌∙◌, ap}
 use native.Mathlib.Omega.{arith}
+use Rattle.std.specs.Prelude.{Result, Ok, Err, ⊤}
 use Rattle.outlets_spec.proofs.Causes.{causes-in-order, vertex-asked}
 use Rattle.outlets_spec.specs.Outlets.{tree_at, is_missing, rows_in, no_tree_with, vertex_asked, outlet_causes, outlets_or, outlets, marks_or, outlet_marks}
 use Rattle.outlets_theory.proofs.Promise.{degrees}
 use Rattle.graph_theory.specs.Builder.{tree}
 use Rattle.refusal.specs.Outcomes.{refusal_of}
-use Rattle.refusal.specs.declared.Outcome.{Outcome}
-use Rattle.refusal.specs.declared.Outcome.TheVariants.{Done, Refused}
 use Rattle.refusal.specs.declared.Refusal.{Refusal}
 use Rattle.rowset.proofs.Integers.{total-cut}
 use Rattle.rowset.proofs.Laws.{refuted}
@@ -35,11 +34,11 @@ module _ (c : Call) (r n : ℕ) where
   unfolding outlets outlets_or outlet_marks marks_or
   refused-by x e = (rw e, rw e)
 
-  pub table-refused : {o : Outcome} {x : Refusal} → refusal_of o ≡ refusal (vertex_asked c r) → o ≡ Refused x → Answers c r n (unbuilt x) c.mark
+  pub table-refused : {o : Result ⊤ Refusal} {x : Refusal} → refusal_of o ≡ refusal (vertex_asked c r) → o ≡ Err x → Answers c r n (unbuilt x) c.mark
   unfolding refusal_of or_else
   table-refused {x = x} e q = refused-by x (causes-in-order c r n ∙ rw (sym e ∙ ap refusal_of q))
 
-  module _ {o : Outcome} (checked : refusal_of o ≡ refusal (vertex_asked c r)) (done : o ≡ Done) where
+  module _ {o : Result ⊤ Refusal} (checked : refusal_of o ≡ refusal (vertex_asked c r)) (done : o ≡ Ok tt) where
     none_yet : refusal (vertex_asked c r) ≡ none
     unfolding refusal_of
     none_yet = sym checked ∙ ap refusal_of done

@@ -13,10 +13,15 @@ use Rattle.outlets_swaps.specs.Steps.Columns.{price_in}
 use Rattle.outlets_swaps.specs.Steps.Exchanges.{Given, found, exchanges_to, first_state, Ends}
 use Rattle.rowset.proofs.Laws.{clash}
 use Rattle.rowset.specs.Sets.{empty, both, without, count}
+use Rattle.mst1.specs.Steps.Growth.{chosen_in}
+use Rattle.outlets_exact.specs.declared.NotMade.{NotMade}
+use Rattle.outlets_exact.specs.declared.NotMade.TheVariants.{NoExactTree}
 use Rattle.slice.specs.Slices.{size}
+use Rattle.slice.specs.declared.Slice.{Slice}
+use Rattle.std.proofs.Common.{Option, Some, None, Result, ok_or, is_ok, is_some}
 use Rattle.outlets_start.specs.Steps.Start.{graph_in, Starts}
 use Rattle.table.specs.Loads.{loaded_row}
-use Rattle.outlets_exact.specs.Steps.Reduced.{reduced_by, walked, forest_in, reduced_from, Held, used_in, loaded_in, weight_in, Makes}
+use Rattle.outlets_exact.specs.Steps.Reduced.{joined_in, rows_in, reduced_by, walked, forest_in, reduced_from, Held, used_in, loaded_in, weight_in, Makes}
 
 -- ── The exchanges ──
 
@@ -54,3 +59,9 @@ module _ (h : Held) (r t : ℕ) {U : ℕ → Bool} {w : ℕ → ℤ} {whole : Bo
   pub makes-some : whole ≡ true → {at : ℕ → Bool} → at ≡ both U (touches (graph_in (loaded_row 1 h.left) (loaded_row 1 h.right) U h.n) r) → {left : Bool} {remaining : ℕ → Bool}
       → Ends (reduced_from (record { left = h.left; right = h.right; price = price_in h.weight; weight = w; at = at }) U chosen r h.n t) left remaining → Makes h r t true left remaining
   makes-some e is_at ends = record { joins = sym e ∙ same-starts.all; ends-not = λ q. clash refl q; ends = λ q. rw (is_at, eu, ew, same-starts.rows) at ends }
+
+-- what is made as a result: the rows that are left, or that there are none
+pub made-of : (h : Held) (r t : ℕ) (o : Option Slice) {x : Result Slice NotMade} → x ≡ ok_or o NoExactTree → Makes h r t true (is_some o) (chosen_in o) → Makes h r t (joined_in x) (is_ok x) (rows_in x)
+unfolding chosen_in joined_in rows_in
+made-of h r t None e m = rw e m
+made-of h r t (Some tree) e m = rw e m

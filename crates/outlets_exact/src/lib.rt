@@ -3,26 +3,25 @@
 
 #![tactic(auto)]
 
-ghost use Rattle.std.specs.Prelude.{◌≡◌};
+ghost use Rattle.std.specs.Prelude.{◌≡◌, is_some, is_ok};
 ghost use Rattle.districts_theory.specs.Growing.{grown_forest};
+ghost use Rattle.mst1.specs.Steps.Growth.{chosen_in};
 ghost use Rattle.outlets_start.specs.Steps.Start.{graph_in};
 ghost use Rattle.outlets_swaps.specs.Steps.Columns.{given_of};
 ghost use Rattle.outlets_swaps.specs.Steps.Exchanges.{Ends};
 ghost use Rattle.search_columns.specs.Steps.Integers.{integers_after};
 ghost use Rattle.slice.specs.Slices.{size, component};
 ghost use Rattle.table.specs.Loads.{loaded_row};
-ghost use Rattle.outlets_exact.specs.Steps.Reduced.{reduced_from, Makes};
+ghost use Rattle.outlets_exact.specs.Steps.Reduced.{reduced_from, joined_in, rows_in, Makes};
 
-use outlets_swaps::Reduced;
 use slice::Slice;
 use slice::rows::rows_among;
 
-// What is made: whether there is a tree at all, whether there is one with exactly t rows at r, and its rows, none where there is none.
+// Why no tree with exactly t rows at r is made: there is no tree at all, or none with exactly t.
 #[derive(Clone, Copy)]
-pub struct Made {
-    pub joined: bool,
-    pub whole: bool,
-    pub chosen: Slice,
+pub enum NotMade {
+    NoTree,
+    NoExactTree,
 }
 
 // The forest of the rows of a slice: that of one run, which has every position.
@@ -37,8 +36,7 @@ fn forest_of(
     ensures { let g = graph_in (loaded_row 1 left.now) (loaded_row 1 right.now) (component rows) n in
         component result ≡ grown_forest g (integers_after weights.now first) (component rows) }
 {
-    let ends = [1024u32; 1];
-    districts_forests::forests_of(left, right, weights, first, rows, n, &ends)
+    districts_forests::forests_of(left, right, weights, first, rows, n, &[1024])
 }
 
 // A tree over the rows of a slice with as many exchanges made as it has rows at r more than t; none where it has fewer. Rows of U alone come in.
@@ -54,23 +52,17 @@ fn reduce(
     used: Slice,
     at: Slice,
     tree: Slice,
-) -> Reduced
+) -> Option<Slice>
     ensures { let x = given_of left.now right.now weight.now weights.now first (component at) in
-        Ends (reduced_from x (component used) (component tree) r n t) result.whole (component result.chosen) }
+        Ends (reduced_from x (component used) (component tree) r n t) (is_some result) (chosen_in result) }
 {
     let have = slice_words::count_rows(slice::and(tree, at));
     let least = t as usize;
     if have < least {
-        return Reduced {
-            whole: false,
-            chosen: Slice::empty(),
-        };
+        return None;
     }
     if have == least {
-        return Reduced {
-            whole: true,
-            chosen: tree,
-        };
+        return Some(tree);
     }
     let away = slice::difference::without(used, at);
     let forest = forest_of(left, right, weights, first, away, n as usize);
@@ -101,30 +93,20 @@ pub fn make(
     weight: &[u8],
     r: u32,
     t: u32,
-) -> Made
-    ensures { Makes (record { n = n; m = m; rows = component rows; left = left.now; right = right.now; weight = weight.now }) r t result.joined result.whole (component result.chosen) }
+) -> Result<Slice, NotMade>
+    ensures { Makes (record { n = n; m = m; rows = component rows; left = left.now; right = right.now; weight = weight.now }) r t (joined_in result) (is_ok result) (rows_in result) }
 {
     let mut weights = [0u64; table_loads::ALL];
     table_loads::put_prices(weight, &mut weights);
     let first = table_loads::sign_columns(&weights);
     let used = rows_among(m, rows);
     let start = outlets_start::start_of(left, right, &weights, first, used, n as usize, r);
-    if !start.whole {
-        return Made {
-            joined: false,
-            whole: false,
-            chosen: Slice::empty(),
-        };
-    }
+    let Some(tree) = start.tree else {
+        return Err(NotMade::NoTree);
+    };
     let at = start.at;
-    let tree = start.chosen;
     let reduced = reduce(
         n, left, right, weight, &weights, first, r, t, used, at, tree,
     );
-    let chosen = reduced.chosen;
-    Made {
-        joined: true,
-        whole: reduced.whole,
-        chosen: chosen,
-    }
+    reduced.ok_or(NotMade::NoExactTree)
 }

@@ -3,25 +3,25 @@
 
 #![tactic(auto)]
 
-ghost use Rattle.std.specs.Prelude.{◌-◌, ◌≤◌, cond, ◌≡◌};
+ghost use Rattle.std.specs.Prelude.{◌-◌, ◌≤◌, cond, is_some, ◌≡◌};
+ghost use Rattle.mst1.specs.Steps.Growth.{chosen_in};
 ghost use Rattle.outlets_theory.specs.Degree.{touches};
 ghost use Rattle.search_join.specs.Steps.Ends.{EachEnd};
 ghost use Rattle.path_matrix.specs.Matrix.{matrix_column};
 ghost use Rattle.rowset.specs.Columns.{width};
 ghost use Rattle.rowset.specs.Integers.{integer_in};
 ghost use Rattle.rowset.specs.Searches.{smallest};
-ghost use Rattle.rowset.specs.Sets.{empty, both, first_of, uppermost};
+ghost use Rattle.rowset.specs.Sets.{both, first_of, uppermost};
 ghost use Rattle.slice.specs.Slices.{size, component};
 ghost use Rattle.table.specs.Loads.{loaded_row};
 ghost use Rattle.outlets_start.specs.Steps.Start.{graph_in, Starts};
 
 use slice::{Slice, WORDS};
 
-// The start: whether it is a whole tree, its rows, none where it is not, and the rows of the table at r.
+// The start: the rows of the tree, where there is one, and the rows of the table at r.
 #[derive(Clone, Copy)]
 pub struct Started {
-    pub whole: bool,
-    pub chosen: Slice,
+    pub tree: Option<Slice>,
     pub at: Slice,
 }
 
@@ -47,19 +47,6 @@ fn far_end(left: &[u8], right: &[u8], ahead: bool, i: usize) -> u32
     table_loads::end_at(left, i)
 }
 
-// No rows: the whole tree of one vertex, or what is left where there is no tree.
-fn nothing(whole: bool, at: Slice) -> Started
-    ensures whole { result.whole ≡ whole }
-    ensures chosen { component result.chosen ≡ empty }
-    ensures at { component result.at ≡ component at }
-{
-    Started {
-        whole: whole,
-        chosen: Slice::empty(),
-        at: at,
-    }
-}
-
 // The tree of n vertices, two or more. The columns of ends are loaded, and MATCH looks in so many words.
 // The rows with exactly one end in the fragment are those that only one of x, the rows whose left end is in it, and y has. The three slices are changed in place.
 fn grow(
@@ -74,18 +61,17 @@ fn grow(
     at: Slice,
     n: usize,
     r: u32,
-) -> Started
+) -> Option<Slice>
     requires { let g = graph_in (loaded_row 1 left.now) (loaded_row 1 right.now) (component rows) n in
         (2 ≤ n) × (component at ≡ both (component rows) (touches g r))
         × EachEnd words left_ends.now (loaded_row 1 left.now) (component rows) × EachEnd words right_ends.now (loaded_row 1 right.now) (component rows) }
-    ensures starts { let g = graph_in (loaded_row 1 left.now) (loaded_row 1 right.now) (component rows) n in
+    ensures { let g = graph_in (loaded_row 1 left.now) (loaded_row 1 right.now) (component rows) n in
         let w = integer_in (matrix_column weights.now) first (width - first) in
-        Starts g w r result.whole (component result.chosen) }
-    ensures at { component result.at ≡ component at }
+        Starts g w r (is_some result) (chosen_in result) }
 {
     let i = preferred(weights, first, rows, at);
     if i == 0 {
-        return nothing(false, at);
+        return None;
     }
     let a = table_loads::end_at(left, i);
     let b = table_loads::end_at(right, i);
@@ -101,18 +87,14 @@ fn grow(
         let crossing = slice::xor(Slice { words: x }, Slice { words: y });
         let j = preferred(weights, first, crossing, at);
         if j == 0 {
-            return nothing(false, at);
+            return None;
         }
         let far = far_end(left, right, slice_words::row_in(&x, j), j);
         search_join::match_ends(&mut x, left_ends, far, &rows.words, words);
         search_join::match_ends(&mut y, right_ends, far, &rows.words, words);
         slice_words::put_row(&mut chosen, j);
     }
-    Started {
-        whole: true,
-        chosen: Slice { words: chosen },
-        at: at,
-    }
+    Some(Slice { words: chosen })
 }
 
 // The start where the columns of ends are loaded. For one vertex no row is chosen.
@@ -131,7 +113,7 @@ fn start_by(
     requires { EachEnd words left_ends.now (loaded_row 1 left.now) (component rows) × EachEnd words right_ends.now (loaded_row 1 right.now) (component rows) }
     ensures starts { let g = graph_in (loaded_row 1 left.now) (loaded_row 1 right.now) (component rows) n in
         let w = integer_in (matrix_column weights.now) first (width - first) in
-        Starts g w r result.whole (component result.chosen) }
+        Starts g w r (is_some result.tree) (chosen_in result.tree) }
     ensures at { let g = graph_in (loaded_row 1 left.now) (loaded_row 1 right.now) (component rows) n in
         component result.at ≡ both (component rows) (touches g r) }
 {
@@ -139,12 +121,14 @@ fn start_by(
     search_join::match_ends(&mut found, left_ends, r, &rows.words, words);
     search_join::match_ends(&mut found, right_ends, r, &rows.words, words);
     let at = Slice { words: found };
-    if n < 2 {
-        return nothing(n == 1, at);
-    }
-    grow(
-        left, right, left_ends, right_ends, words, weights, first, rows, at, n, r,
-    )
+    let tree = match n {
+        0 => None,
+        1 => Some(Slice::empty()),
+        _ => grow(
+            left, right, left_ends, right_ends, words, weights, first, rows, at, n, r,
+        ),
+    };
+    Started { tree, at }
 }
 
 // The start over the rows of a slice, whose ends stand in byte columns and whose weights the lent columns hold.
@@ -159,7 +143,7 @@ pub fn start_of(
 ) -> Started
     ensures starts { let g = graph_in (loaded_row 1 left.now) (loaded_row 1 right.now) (component rows) n in
         let w = integer_in (matrix_column weights.now) first (width - first) in
-        Starts g w r result.whole (component result.chosen) }
+        Starts g w r (is_some result.tree) (chosen_in result.tree) }
     ensures at { let g = graph_in (loaded_row 1 left.now) (loaded_row 1 right.now) (component rows) n in
         component result.at ≡ both (component rows) (touches g r) }
 {

@@ -3,7 +3,8 @@
 
 #![tactic(auto)]
 
-ghost use Rattle.std.specs.Prelude.{◌+◌, ◌-◌, ◌<◌, length, get_or, set, true, ◌≡◌};
+ghost use Rattle.std.specs.Prelude.{◌+◌, ◌-◌, ◌<◌, length, get_or, set, true, is_some, ◌≡◌};
+ghost use Rattle.mst1.specs.Steps.Growth.{chosen_in};
 ghost use Rattle.path_exchange.specs.Turned.{columns_turned};
 ghost use Rattle.outlets_kept.specs.Steps.Offers.{cost_of, cheaper, cheapest_to};
 ghost use Rattle.path_matrix.specs.Matrix.{matrix_column};
@@ -30,21 +31,11 @@ struct Pick {
     cost: u64,
 }
 
-// What is left of a tree: whether all exchanges were made, and the rows then, none where they were not.
-#[derive(Clone, Copy)]
-pub struct Reduced {
-    pub whole: bool,
-    pub chosen: Slice,
-}
-
 // The number at place j of a column, counted from 0; 0 past its end.
 fn number_at(column: &[usize], j: usize) -> usize
     ensures { result ≡ get_or column.now j 0 }
 {
-    if j < column.len() {
-        return column[j];
-    }
-    0
+    column.get(j).copied().unwrap_or(0)
 }
 
 // FND of MAX: the uppermost of a slice's heaviest rows, 0 where it has none.
@@ -169,7 +160,7 @@ fn cheaper(best: Pick, f: usize, cost: u64) -> Pick
     ensures { pick_of result ≡ cheaper (pick_of best) f cost }
 {
     if cost < best.cost {
-        return Pick { row: f, cost: cost };
+        return Pick { row: f, cost };
     }
     best
 }
@@ -179,8 +170,8 @@ fn cheapest(cost: &[u64]) -> usize
     ensures { result ≡ (cheapest_to (number_of cost.now) (length cost.now)).row }
 {
     let mut best = Pick { row: 0, cost: NONE };
-    for j in 0..cost.len() {
-        best = cheaper(best, j + 1, cost[j]);
+    for (j, c) in cost.iter().enumerate() {
+        best = cheaper(best, j + 1, *c);
     }
     best.row
 }
@@ -203,7 +194,7 @@ fn swap(
     slice::put(slice::put(tree, e, false), f, true)
 }
 
-// The tree after k exchanges of least cost.
+// The tree after k exchanges of least cost, where so many can be made.
 fn exchanges(
     n: usize,
     left: &[u8],
@@ -217,10 +208,10 @@ fn exchanges(
     own: &mut [u64],
     out: &mut [usize],
     cost: &mut [u64],
-) -> Reduced
+) -> Option<Slice>
     requires { length out.old ≡ length cost.old }
     ensures left { let x = given_of left.now right.now weight.now weights.now first (component at) in
-        Ends (exchanges_to x n k (record { chosen = component tree; own = own.old; out = out.old; cost = cost.old })) result.whole (component result.chosen) }
+        Ends (exchanges_to x n k (record { chosen = component tree; own = own.old; out = out.old; cost = cost.old })) (is_some result) (chosen_in result) }
     ensures own { let x = given_of left.now right.now weight.now weights.now first (component at) in
         own.new ≡ (last_state x n k (record { chosen = component tree; own = own.old; out = out.old; cost = cost.old })).own }
 {
@@ -228,22 +219,16 @@ fn exchanges(
     for i in 0..k {
         let f = cheapest(cost);
         if f == 0 {
-            return Reduced {
-                whole: false,
-                chosen: Slice::empty(),
-            };
+            return None;
         }
         let e = number_at(out, f - 1);
         chosen = swap(n, left, right, e, f, chosen, own);
         find_again(left, right, weight, weights, first, at, own, e, out, cost);
     }
-    Reduced {
-        whole: true,
-        chosen: chosen,
-    }
+    Some(chosen)
 }
 
-// The tree after k exchanges of least cost, each for a row of a slice, which has no row at r, and for one of the rows at r. The path matrix lent is the tree's from r, and afterwards that after the last exchange that was made.
+// The tree after k exchanges of least cost, where so many can be made, each for a row of a slice, which has no row at r, and for one of the rows at r. The path matrix lent is the tree's from r, and afterwards that after the last exchange that was made.
 pub fn reduce(
     n: usize,
     left: &[u8],
@@ -256,9 +241,9 @@ pub fn reduce(
     k: usize,
     tree: Slice,
     own: &mut [u64],
-) -> Reduced
+) -> Option<Slice>
     ensures left { let x = given_of left.now right.now weight.now weights.now first (component at) in
-        Ends (exchanges_to x n k (first_state x (component rest) (component tree) own.old)) result.whole (component result.chosen) }
+        Ends (exchanges_to x n k (first_state x (component rest) (component tree) own.old)) (is_some result) (chosen_in result) }
     ensures own { let x = given_of left.now right.now weight.now weights.now first (component at) in
         own.new ≡ (last_state x n k (first_state x (component rest) (component tree) own.old)).own }
 {

@@ -1,7 +1,7 @@
 -- The tree with exactly t rows at r as the machine makes it: the start on the loaded columns, the forest U of the rows not at r, the path matrix from r by a walk over the start,
 -- and as many exchanges for rows of U as it has rows at r more than t.
 -- Assumes nothing.
-use Rattle.std.specs.Prelude.{ℕ, ◌-◌, ltb, ℤ, replicate, Bool, true, false, not, cond, List, ◌≡◌}
+use Rattle.std.specs.Prelude.{ℕ, ◌-◌, ltb, ℤ, replicate, Bool, true, false, not, cond, List, Result, Ok, Err, ◌≡◌}
 use Rattle.std.proofs.Math.Option.{Option, none}
 use Rattle.districts_theory.specs.Growing.{grown_forest}
 use Rattle.outlets_theory.specs.Degree.{touches, start}
@@ -11,10 +11,13 @@ use Rattle.outlets_swaps.specs.Steps.Columns.{price_in}
 use Rattle.outlets_swaps.specs.Steps.Exchanges.{Given, State, exchanges_to, first_state, Ends}
 use Rattle.rowset.specs.Integers.{signed}
 use Rattle.rowset.specs.Sets.{empty, up_to, both, without, count}
-use Rattle.slice.specs.Slices.{size}
+use Rattle.slice.specs.Slices.{size, component}
+use Rattle.slice.specs.declared.Slice.{Slice}
 use Rattle.star_spec.specs.Mst1.{chosen_rows}
 use Rattle.star_spec.specs.Refusals.{is_none}
 use Rattle.outlets_start.specs.Steps.Start.{graph_in}
+use Rattle.outlets_exact.specs.declared.NotMade.{NotMade}
+use Rattle.outlets_exact.specs.declared.NotMade.TheVariants.{NoTree, NoExactTree}
 use Rattle.table.specs.Loads.{loaded_row}
 
 -- as many exchanges as there are rows at r more than t, none where there are fewer
@@ -56,6 +59,16 @@ weight_in h i = signed (loaded_row 4 h.weight i)
 abbrev pub given_in : Held → ℕ → Given
 given_in h r =
     record { left = h.left; right = h.right; price = price_in h.weight; weight = weight_in h; at = both (used_in h) (touches (loaded_in h) r) }
+
+-- what is made: whether there is a tree at all, and the rows of that with exactly t at r, none where there is none
+unfoldable pub joined_in : Result Slice NotMade → Bool
+joined_in (Ok tree) = true
+joined_in (Err NoTree) = false
+joined_in (Err NoExactTree) = true
+
+unfoldable pub rows_in : Result Slice NotMade → ℕ → Bool
+rows_in (Ok tree) = component tree
+rows_in (Err e) = empty
 
 -- whether there is a tree; where there is one, what is left of the start, and where there is none, no row
 pub record Makes (h : Held) (r t : ℕ) (joined whole : Bool) (chosen : ℕ → Bool) : Type 0 where

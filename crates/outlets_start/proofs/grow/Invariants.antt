@@ -1,6 +1,6 @@
--- `outlets_start::grow` meets its contract. The loop's invariant: where MATCH gives the rows with each end, the slices are those of the fragment of k vertices. -- Assumes nothing.
-use Prim.Native.Nat.{◌≤◌, ◌<◌, ◌-◌, ◌^◌}
-use lib.ListN.{length}
+-- `outlets_start::grow` meets its contract. The loop's invariant: where MATCH gives the rows with each end, the slices are those of the fragment of k vertices.
+-- Assumes nothing.
+use Prim.Native.Nat.{◌-◌}
 use mathlib.Core.Path.{◌≡◌}
 use Rattle.outlets_theory.specs.Degree.{touches, preferred}
 use Rattle.search_join.specs.Steps.Ends.{EachEnd}
@@ -16,9 +16,7 @@ use Rattle.outlets_start.proofs.grow.Given as goal
 
 abbrev pub invariant-loop-k : goal.invariant-loop-k
 invariant-loop-k l =
-    (l.k ≤ l.n) × (l.n < 2 ^ 64)
-    × (length l.x ≡ 16)
-    × (EachEnd l.words l.left_ends (loaded_row 1 l.left) (component l.rows) → EachEnd l.words l.right_ends (loaded_row 1 l.right) (component l.rows)
+    EachEnd l.words l.left_ends (loaded_row 1 l.left) (component l.rows) → EachEnd l.words l.right_ends (loaded_row 1 l.right) (component l.rows)
     → component l.at ≡ both (component l.rows) (touches (graph_in (loaded_row 1 l.left) (loaded_row 1 l.right) (component l.rows) l.n) l.r)
     → preferred (graph_in (loaded_row 1 l.left) (loaded_row 1 l.right) (component l.rows) l.n) (integer_in (matrix_column l.weights) l.first (width - l.first)) l.r (component l.rows) ≡ l.i
-    → Begun (graph_in (loaded_row 1 l.left) (loaded_row 1 l.right) (component l.rows) l.n) (integer_in (matrix_column l.weights) l.first (width - l.first)) l.r l.k (in_words l.x) (in_words l.y) (in_words l.chosen))
+    → Begun (graph_in (loaded_row 1 l.left) (loaded_row 1 l.right) (component l.rows) l.n) (integer_in (matrix_column l.weights) l.first (width - l.first)) l.r l.k (in_words l.x) (in_words l.y) (in_words l.chosen)

@@ -19,15 +19,15 @@ next l j o p e q =
 
 pub loop-j-init : goal.loop-j-init
 unfolding cheapest_to no_pick
-loop-j-init c = (omega arith, refl)
+loop-j-init c = refl
 
 pub loop-j-preserved : goal.loop-j-preserved
 loop-j-preserved c =
     let l = c.loop-j in
-    (omega arith, next c.args.cost.now l.j (pick_of l.best) (pick_of c.cheaper-best.result) l.invariant.1 c.cheaper-best.ensures)
+    next c.args.cost.now l.j (pick_of l.best) (pick_of c.cheaper-best.result) l.invariant c.cheaper-best.ensures
 
 pub returns : goal.returns
 returns c =
     let l = c.loop-j in
     let all : l.j ≡ length c.args.cost.now = omega arith in
-    rw (← all) (ap (λ (o : Pick). o.row) l.invariant.1)
+    rw (← all) (ap (λ (o : Pick). o.row) l.invariant)

@@ -1,6 +1,5 @@
--- `outlets_swaps::exchanges` meets its contract. The loop's invariant: the rows, the path matrix and what is kept are those after i exchanges. Assumes nothing.
-use Prim.Native.Nat.{◌-◌, ◌≤◌, ◌<◌, ◌^◌}
-use lib.ListN.{length}
+-- `outlets_swaps::exchanges` meets its contract. The loop's invariant: the rows, the path matrix and what is kept are those after i exchanges.
+-- Assumes nothing.
 use mathlib.Core.Option.{some}
 use mathlib.Core.Path.{◌≡◌}
 use Rattle.outlets_swaps.specs.Steps.Columns.{given_of}
@@ -10,5 +9,4 @@ use Rattle.outlets_swaps.proofs.exchanges.Given as goal
 
 abbrev pub invariant-loop-i : goal.invariant-loop-i
 invariant-loop-i l =
-    (l.i ≤ l.k) × (l.k < 2 ^ 64) × (length l.own ≡ length l.initial.own) × (length l.out ≡ length l.initial.out) × (length l.cost ≡ length l.initial.cost) × (length l.initial.out ≡ length l.initial.cost)
-    × (exchanges_to (given_of l.left l.right l.weight l.weights l.first (component l.at)) l.n l.i (record { chosen = component l.initial.chosen; own = l.initial.own; out = l.initial.out; cost = l.initial.cost }) ≡ some (record { chosen = component l.chosen; own = l.own; out = l.out; cost = l.cost }))
+    exchanges_to (given_of l.left l.right l.weight l.weights l.first (component l.at)) l.n l.i (record { chosen = component l.initial.chosen; own = l.initial.own; out = l.initial.out; cost = l.initial.cost }) ≡ some (record { chosen = component l.chosen; own = l.own; out = l.out; cost = l.cost })

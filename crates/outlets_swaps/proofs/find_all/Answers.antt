@@ -10,10 +10,7 @@ loop-j-init c = (filling-none _ _ _, filling-none _ _ _, c.requires)
 
 pub find-requires : goal.find-requires
 find-requires c =
-    let l = c.loop-j in (omega (arith, c.loop-j-test.true), omega (arith, c.loop-j-test.true, l.invariant.0.full, l.invariant.1.full, l.invariant.2))
-
-pub loop-j-smaller : goal.loop-j-smaller
-loop-j-smaller c = omega (arith, c.loop-j-test.true, c.loop-j.invariant.0.full)
+    let l = c.loop-j in (omega arith, omega (arith, c.loop-j-test.true, l.invariant.0.full, l.invariant.1.full, l.invariant.2))
 
 pub loop-j-preserved : goal.loop-j-preserved
 loop-j-preserved c =
