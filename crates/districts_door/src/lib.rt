@@ -28,9 +28,9 @@ fn districts_table(
 ) -> u32
     ensures { let c = table_in n table left.now right.now weight.now mark.old in
         (result ≡ door_returns answer.old)
-        × (answer.new ≡ districts_door c forests.old ends.now answer.old)
+        × ((answer.new ≡ districts_door c forests.old ends.now answer.old)
         × (forests.new ≡ districts_door_forests c forests.old ends.now answer.old)
-        × (mark.new ≡ districts_door_marks c forests.old ends.now answer.old) }
+        × (mark.new ≡ districts_door_marks c forests.old ends.now answer.old)) }
 {
     if !well_lent(answer) {
         return 0;

@@ -23,7 +23,7 @@ fn outlets_table(
     answer: &mut [u8],
 ) -> u32
     ensures { let c = table_in n table left.now right.now weight.now mark.old in
-        (result ≡ door_returns answer.old) × (answer.new ≡ outlets_door c r t answer.old) × (mark.new ≡ outlets_door_marks c r t answer.old) }
+        (result ≡ door_returns answer.old) × ((answer.new ≡ outlets_door c r t answer.old) × (mark.new ≡ outlets_door_marks c r t answer.old)) }
 {
     if !well_lent(answer) {
         return 0;

@@ -6,5 +6,5 @@ pub returns : goal.returns
 returns c =
     let table = c.working-used.ensures in
     let told = rw (table.rows.0, table.rows.1, table.used) at c.outlets_table.ensures in
-    let means = outlets-call (told.0, (told.1, told.2)) in
+    let means = outlets-call told in
     record { returned = means.0; written = means.1.0; means = means.1.1 }
