@@ -1,12 +1,12 @@
 -- Laws of the byte order mark, of the number of junctions, and of the rows in use. Assumes nothing.
-use Prim.Native.Nat.{ℕ, zero, suc, ◌+◌, ◌-◌, ◌*◌, ◌≤◌, ◌<◌, max}
+use Prim.Native.Nat.{ℕ, zero, suc, ◌+◌, ◌-◌, ◌≤◌, ◌<◌, max}
 use borrow.Author.Tests.{eq-eqb, ne_eqb, eqb-true, eqb-false, le-leb, lt-leb, lt-ltb, le-ltb, ltb-true, ltb-false}
 use lib.Dec.{eqb, leb, ltb}
 use lib.ListN.{length, take, drop, get_or, length-drop, drop_of_length-le}
 use lib.Pointwise.{pointwise}
-use lib.Seq.{drop-cons, take_all, length-take-le}
-use mathlib.Core.Bool.{Bool, true, false, not, cond, ◌&&◌, false≢true, true≢false}
-use mathlib.Core.List.{List, [], ◌∷◌, ◌++◌, map}
+use lib.Seq.{drop-cons, take_all}
+use mathlib.Core.Bool.{Bool, true, false, not, ◌&&◌, false≢true}
+use mathlib.Core.List.{List, [], ◌∷◌, map}
 use mathlib.Core.Path.{◌≡◌, refl, sym, ap, ◌∙◌, fun_ext}
 use native.Mathlib.Numerals.{add-one}
 use native.Mathlib.Omega.{arith}
@@ -16,11 +16,10 @@ use Rattle.star_spec.proofs.Claims.{marked-byte}
 use Rattle.claim.specs.Claims.{claim_rows}
 use Rattle.file_spec.specs.Names.{equal}
 use Rattle.file_spec.specs.Pieces.{lines}
-use Rattle.file_spec.specs.Reader.{Read, Reading, broken, opens_marked, body_at, largest, nothing_read, read_text, read_lines}
+use Rattle.file_spec.specs.Reader.{broken, opens_marked, body_at, largest, nothing_read, read_text, read_lines}
 use Rattle.file_spec.specs.Table.{bounded, reading, unstruck}
 use Rattle.file_text.specs.Steps.Spans.{part}
-use Rattle.file_text.proofs.Parts.{part_length}
-use Rattle.file_reader.specs.Steps.State.{is_one, resumed}
+use Rattle.file_reader.specs.Steps.State.{is_one}
 
 -- ── The byte order mark ──
 

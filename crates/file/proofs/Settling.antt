@@ -1,15 +1,15 @@
 -- Laws of what follows a reading: the answer, and the lent columns. Assumes nothing.
-use Prim.Native.Nat.{ℕ, zero, suc, ◌+◌, ◌*◌, ◌≤◌, ◌<◌, max}
+use Prim.Native.Nat.{ℕ, zero, suc, ◌+◌, ◌*◌, ◌≤◌, max}
 use borrow.Author.Tests.{eqb-true, not-false}
 use lib.Dec.{eqb}
 use lib.ListN.{length, take, drop, get_or}
 use lib.Seq.{drop-cons, length-take-le}
 use mathlib.Core.Bool.{Bool, true, false, not, cond, ◌||◌, true≢false}
-use mathlib.Core.List.{List, [], ◌∷◌, ◌++◌, map}
-use mathlib.Core.Path.{◌≡◌, refl, sym, ap, ◌∙◌}
+use mathlib.Core.List.{List, ◌∷◌}
+use mathlib.Core.Path.{◌≡◌, refl, ap}
 use native.Mathlib.Omega.{arith}
-use Rattle.file_spec.specs.Reader.{Read, Reading, broken, read, told_or, largest, nothing_read, junctions}
-use Rattle.file_spec.specs.Table.{Lent, FileAnswer, untaken, taken, reading, answered, answered_if, file_answer, names_end, over, lent_over, filled, filled_if, lent_after, wrong_sizes, wrong_lent}
+use Rattle.file_spec.specs.Reader.{Read, Reading, read, told_or, largest, nothing_read, junctions}
+use Rattle.file_spec.specs.Table.{Lent, untaken, taken, reading, answered, answered_if, file_answer, names_end, over, lent_over, filled, filled_if, lent_after, wrong_sizes, wrong_lent}
 use Rattle.file_text.specs.Steps.Spans.{part, names_from, names_of, Within}
 use Rattle.file_text.proofs.Found.{names-length}
 use Rattle.file_text.proofs.Parts.{part_length}

@@ -1,6 +1,6 @@
 -- Laws of the number of an end. Assumes nothing.
 use Prim.Native.Nat.{ℕ, ◌+◌, ◌≤◌, ◌<◌, max}
-use borrow.Author.Tests.{ne_eqb, le-ltb, ltb-true, ltb-false}
+use borrow.Author.Tests.{le-ltb, ltb-true, ltb-false}
 use lib.Dec.{ltb}
 use lib.ListN.{length, take, set, length-append}
 use lib.Seq.{take-suc-set}
@@ -15,7 +15,6 @@ use Rattle.file_text.proofs.Found.{names-length}
 use Rattle.file_text.proofs.Meeting.{position-met}
 use Rattle.file_spec.specs.Line.{number, name}
 use Rattle.file_spec.specs.Reader.{met_end, met_end_at, number_in}
-use Rattle.file_line.specs.Steps.Seen.{end_in}
 use Rattle.file_reader.specs.Steps.State.{EndMet}
 
 pub names-all : (text s e : List ℕ) (count : ℕ) → length (names_of text s e count) ≡ count

@@ -1,10 +1,10 @@
 -- Laws of one trench more. Assumes nothing.
-use Prim.Native.Nat.{ℕ, zero, suc, ◌+◌, ◌-◌, ◌*◌, ◌/◌, ◌%◌, ◌≤◌, ◌<◌}
+use Prim.Native.Nat.{ℕ, suc, ◌+◌, ◌≤◌, ◌<◌}
 use borrow.Author.Tests.{eq-eqb, ne_eqb, le-leb, lt-leb, lt-ltb, le-ltb, ltb-true}
 use lib.Dec.{eqb, ltb}
-use lib.ListN.{length, take, drop, set, get_or, length-append}
-use lib.Seq.{sets, sets-eq, length-take-le, take_at}
-use mathlib.Core.Bool.{Bool, true, false, not, cond, ◌&&◌, true≢false}
+use lib.ListN.{length, take, set, get_or, length-append}
+use lib.Seq.{length-take-le}
+use mathlib.Core.Bool.{Bool, true, false, not, cond, ◌&&◌}
 use mathlib.Core.List.{List, [], ◌∷◌, ◌++◌, map-append}
 use mathlib.Core.Path.{◌≡◌, refl, sym, ap, ◌∙◌}
 use native.Mathlib.Omega.{arith}
@@ -13,15 +13,12 @@ use mir.Val.{SFits, of_z, bool_byte}
 use Rattle.std.proofs.lemmas.Int.{ints}
 use lib.IntN.{ℤ, pos, negsuc}
 use Rattle.rowset.specs.Integers.{to_bits}
-use Rattle.star_spec.specs.Door.{bytes_of}
 use Rattle.file_spec.specs.Names.{position, met}
 use Rattle.file_text.specs.Steps.Spans.{names_of}
 use Rattle.file_text.proofs.Meeting.{position-kept, position-met, position-high}
 use Rattle.file_spec.specs.Line.{End, number, name, Trench, mixed, many_names, many_rows}
-use Rattle.file_spec.specs.Reader.{Read, Reading, broken, read, kind_of, met_end, number_in, met_end_at, with_row, names_after, names_at_after, other_kind, laid}
-use Rattle.stp_words.specs.Numbers.{below}
+use Rattle.file_spec.specs.Reader.{Read, broken, read, kind_of, met_end, number_in, met_end_at, with_row, names_after, names_at_after, other_kind, laid}
 use Rattle.file_reader.specs.Steps.State.{is_one, read_of, Stored, EndMet}
-use Rattle.file_reader.specs.Steps.State.{resumed}
 use Rattle.file_reader.specs.declared.Met.{Met}
 use Rattle.file_reader.specs.declared.Row.{Row}
 use Rattle.file_reader.proofs.Ends.{names-all}

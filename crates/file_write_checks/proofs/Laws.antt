@@ -1,39 +1,36 @@
 -- Laws of the checks, one turn of a loop or one call at a time. Assumes nothing.
 use Prim.Native.Nat.{ℕ, zero, suc, ◌+◌, ◌*◌, ◌-◌, ◌/◌, ◌%◌, ◌≤◌, ◌<◌, min, max}
 use borrow.Author.Tests.{eq-eqb, ne_eqb, eqb-true, eqb-false, lt-ltb, le-ltb, ltb-false}
-use lib.Dec.{eqb, leb, ltb}
-use lib.ListN.{length, get_or, drop, take, drop_of_length-le}
-use lib.Seq.{drop-cons}
+use lib.Dec.{eqb, ltb}
+use lib.ListN.{length, get_or, drop, take}
 use mathlib.Core.Bool.{Bool, true, false, not, cond, ◌&&◌, ◌||◌}
 use mathlib.Core.List.{List, [], ◌∷◌}
 use mathlib.Core.Option.{Option, none, some}
-use mathlib.Core.Path.{◌≡◌, refl, sym, ap, ◌∙◌}
+use mathlib.Core.Path.{◌≡◌, refl, sym, ◌∙◌}
 use native.Mathlib.Numerals.{add-one}
 use native.Mathlib.Omega.{arith}
-use Rattle.file_spec.specs.Names.{is_letter, of_names, any_letter}
+use Rattle.file_spec.specs.Names.{is_letter}
 use Rattle.file_spec.specs.Pieces.{is_blank}
 use Rattle.file_spec.specs.Table.{max_names}
 use Rattle.file_text.specs.Steps.Spans.{part}
 use Rattle.file_line.proofs.Naming.{some-letter}
 use Rattle.file_writer.proofs.Writes.{part_none, part-high}
 use Rattle.file_writer.specs.Columns.{Sheet, name_of, room}
-use Rattle.file_writer.specs.Forms.{is_separator, parts}
+use Rattle.file_writer.specs.Forms.{is_separator}
 use Rattle.file_writer.specs.RoundTrip.{opens, closes}
 use Rattle.file_writer.specs.Steps.Rows.{entry_at}
-use Rattle.refusal.specs.Outcomes.{refusal_of}
 use Rattle.refusal.specs.declared.Refusal.{Refusal}
 use Rattle.std.specs.List.{list_any, list_all}
 use Rattle.std.specs.Prelude.{Some, None}
 use Rattle.rowset.specs.Bytes.{in_row}
-use Rattle.rowset.specs.Sets.{uppermost}
 use Rattle.rowset.specs.Words.{in_words}
 use Rattle.star_spec.proofs.Accepted.{cause-none}
 use Rattle.star_spec.specs.Refusals.{max_rows, cause, cause_at, too_many_rows, or_else}
-use Rattle.stp_words.specs.Bytes.{bytes, within}
+use Rattle.stp_words.specs.Bytes.{bytes}
 use Rattle.stp_words.specs.Names.{same}
-use Rattle.table_checks.proofs.Laws.{Passed, passed_none, passed-more, passed-found, passed-all, refused-first, done_next}
+use Rattle.table_checks.proofs.Laws.{Passed, passed_none, passed-more, passed-found, passed-all}
 use Rattle.file_write_checks.specs.Steps.{fault_of}
-use Rattle.file_write_checks.specs.Checks.{wrong_columns, past_row, size_cause, write_cause, first_fault, fits, all_fit, full, name_fits, name_fault, most_end, bad_end, opens_other, name_if, row_fault, longest_to, room_cause, fault_cause}
+use Rattle.file_write_checks.specs.Checks.{size_cause, first_fault, fits, all_fit, full, name_fits, name_fault, most_end, bad_end, opens_other, name_if, row_fault, longest_to, room_cause, fault_cause}
 
 -- ── Bytes of names ──
 

@@ -1,6 +1,6 @@
 -- Why a table in lent columns cannot be written as a table file: each cause with its number and place, in their order. Where none applies, what is written reads back.
 -- Assumes nothing.
-use Rattle.std.specs.Prelude.{ℕ, zero, suc, ◌*◌, ◌-◌, max, Bool, true, false, not, cond, ◌&&◌, ◌||◌, List, [], ◌∷◌, eqb, ltb, length, get_or}
+use Rattle.std.specs.Prelude.{ℕ, zero, suc, ◌*◌, ◌-◌, max, Bool, true, not, cond, ◌&&◌, ◌||◌, List, [], ◌∷◌, eqb, ltb, length, get_or}
 use Rattle.std.proofs.Math.Option.{Option}
 use Rattle.file_spec.specs.Names.{of_names, any_letter}
 use Rattle.file_spec.specs.Pieces.{is_blank}

@@ -1,10 +1,9 @@
 -- Trials of the causes: what the definitions give and what they should give.
 -- Assumes nothing.
-use Rattle.std.specs.Prelude.{ℕ, pos, negsuc, length, true, false, List, [], ◌∷◌}
-use Prim.Native.String.{String}
+use Rattle.std.specs.Prelude.{ℕ, pos, negsuc, true, false, List, [], ◌∷◌}
 use Rattle.std.proofs.Math.Option.{Option, none, some}
 use Rattle.file_spec.specs.Trials.{weights}
-use Rattle.file_writer.specs.Columns.{Sheet, sheet_of}
+use Rattle.file_writer.specs.Columns.{sheet_of}
 use Rattle.refusal.specs.declared.Refusal.{Refusal}
 use Rattle.stp_words.specs.Bytes.{bytes}
 use Rattle.stp_words.specs.Trials.{Hold}

@@ -1,5 +1,4 @@
 -- `file::largest_of` meets its contract. The loop's invariant: the largest byte is the larger of what was found and of what is left. Assumes nothing.
-use Prim.Native.Nat.{◌-◌}
 use native.Mathlib.Omega.{arith}
 use Rattle.file.proofs.Laws.{largest-start, largest-turn, largest-end}
 use Rattle.file.proofs.largest_of.Goals as goal

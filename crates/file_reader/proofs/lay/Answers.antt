@@ -1,11 +1,10 @@
 -- `file_reader::lay` meets its contract: two kinds, too many rows, too many names, or one row more. Assumes nothing.
 use Prim.Native.Nat.{◌+◌}
-use lib.ListN.{take, get_or, length-set}
+use lib.ListN.{get_or}
 use mathlib.Core.Path.{◌≡◌, refl, sym, ap, ◌∙◌}
 use mir.Val.{SFits}
 use Rattle.std.proofs.Common.{rules, arith, w32, to_z, of_z}
 use Rattle.std.proofs.lemmas.Int.{ints}
-use Rattle.file_text.specs.Steps.Spans.{names_of}
 use Rattle.file_spec.specs.Reader.{read}
 use Rattle.file_line.specs.Steps.Seen.{trench_in}
 use Rattle.file_reader.specs.Steps.State.{read_of, resumed}

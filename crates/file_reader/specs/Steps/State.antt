@@ -1,8 +1,8 @@
 -- What the reader's numbers and columns stand for.
 -- Assumes nothing.
-use Rattle.std.specs.Prelude.{ℕ, ◌+◌, ◌*◌, ◌≤◌, ◌<◌, Bool, true, false, cond, List, [], ◌∷◌, ◌++◌, map, ◌≡◌, eqb, leb, ltb, length, take, get_or, Result, Ok, Err, ⊤}
+use Rattle.std.specs.Prelude.{ℕ, ◌+◌, ◌*◌, ◌≤◌, Bool, cond, List, [], ◌∷◌, ◌++◌, map, ◌≡◌, eqb, length, take, get_or, Result, Ok, Err, ⊤}
 use Rattle.std.proofs.Math.Option.{Option, none, some}
-use Rattle.file_text.specs.Steps.Spans.{part, names_of, Within}
+use Rattle.file_text.specs.Steps.Spans.{names_of, Within}
 use Rattle.file_spec.specs.Line.{End}
 use Rattle.file_spec.specs.Reader.{Read, Reading, broken, read, met_end, met_end_at, number_in}
 use Rattle.file_line.specs.declared.ReadError.{ReadError}

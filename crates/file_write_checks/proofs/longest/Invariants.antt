@@ -1,5 +1,5 @@
 -- `file_write_checks::longest` meets its contract. Assumes nothing.
-use Prim.Native.Nat.{◌-◌, ◌≤◌}
+use Prim.Native.Nat.{◌≤◌}
 use mathlib.Core.Path.{◌≡◌}
 use Rattle.file_write_checks.specs.Checks.{longest_to}
 use Rattle.file_write_checks.proofs.longest.Given as goal

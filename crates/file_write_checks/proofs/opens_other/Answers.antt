@@ -1,6 +1,5 @@
 -- `file_write_checks::opens_other` meets its contract. Assumes nothing.
 use borrow.Author.Rules.{rules}
-use native.Mathlib.Omega.{arith}
 use Rattle.file_write_checks.proofs.Laws.{other-numbers, other_name, other-nothing}
 use Rattle.file_write_checks.proofs.opens_other.Goals as goal
 

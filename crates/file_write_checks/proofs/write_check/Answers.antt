@@ -1,5 +1,4 @@
 -- `file_write_checks::write_check` meets its contract. Assumes nothing.
-use mathlib.Core.Path.{ap, sym, ◌∙◌}
 use Rattle.refusal.specs.Outcomes.{refusal_of}
 use Rattle.file_write_checks.specs.Checks.{write_cause}
 use Rattle.file_write_checks.proofs.Laws.{few-names, few-rows}
