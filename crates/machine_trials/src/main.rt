@@ -11,14 +11,9 @@ use std::io;
 use std::io::Read;
 use table::Table;
 
-fn text(rt: &impl Print, s: &[u8]) -> io::Result<()> {
-    rt.write_all(s)
-}
-
 // A number after a blank.
 fn number(rt: &impl Print, x: usize) -> io::Result<()> {
-    text(rt, b" ")?;
-    print!(rt; "{x}")
+    print!(rt; " {x}")
 }
 
 // The next line of standard input, without its end.
@@ -29,7 +24,7 @@ fn label(rt: &(impl Input + Print)) -> io::Result<()> {
         if byte[0] == b'\n' {
             return Ok(());
         }
-        text(rt, &byte)?;
+        rt.write_all(&byte)?;
     }
     Ok(())
 }
@@ -51,27 +46,25 @@ fn positions(rt: &impl Print, x: Slice, printed: bool) -> io::Result<usize> {
 
 fn value(rt: &(impl Input + Print), x: usize) -> io::Result<()> {
     label(rt)?;
-    number(rt, x)?;
-    text(rt, b"\n")
+    print!(rt; " {x}\n")
 }
 
 fn show(rt: &(impl Input + Print), x: Slice) -> io::Result<()> {
     label(rt)?;
     positions(rt, x, true)?;
-    text(rt, b"\n")
+    print!(rt; "\n")
 }
 
 // A slice with many components: how many, the uppermost, and whether component 1024 is 1.
 fn summary(rt: &(impl Input + Print), x: Slice) -> io::Result<()> {
     label(rt)?;
-    number(rt, positions(rt, x, false)?)?;
-    text(rt, b" from")?;
-    number(rt, slice::fnd(x))?;
-    if slice::get(x, 1024) {
-        text(rt, b" with 1024\n")
+    let n = positions(rt, x, false)?;
+    let word = if slice::get(x, 1024) {
+        "with"
     } else {
-        text(rt, b" without 1024\n")
-    }
+        "without"
+    };
+    print!(rt; " {n} from {} {word} 1024\n", slice::fnd(x))
 }
 
 // The byte at index i of the columns that are loaded.
@@ -124,12 +117,8 @@ fn rows_right(t: &Table, taken: usize, rows: Rows) -> usize {
 // Whether a load was taken, or why it was not.
 fn taken_or_refused(rt: &impl Print, loaded: &Result<Table, Refusal>) -> io::Result<()> {
     match loaded {
-        Ok(_) => text(rt, b" taken"),
-        Err(refusal) => {
-            text(rt, b" refused")?;
-            number(rt, refusal.number as usize)?;
-            number(rt, refusal.place as usize)
-        }
+        Ok(_) => print!(rt; " taken"),
+        Err(refusal) => print!(rt; " refused {} {}", refusal.number, refusal.place),
     }
 }
 
@@ -142,13 +131,10 @@ fn report(rt: &(impl Input + Print), column: &[u8], taken: usize, rows: Rows) ->
     label(rt)?;
     taken_or_refused(rt, &loaded)?;
     let t = loaded.unwrap_or(Table::ZERO);
-    text(rt, b", rows read back")?;
-    number(rt, rows_right(&t, taken, rows))?;
-    text(rt, b", row 1")?;
-    number(rt, table::row_of(t, 1) as usize)?;
-    text(rt, b", row 1024")?;
-    number(rt, table::row_of(t, 1024) as usize)?;
-    text(rt, b"\n")
+    let right = rows_right(&t, taken, rows);
+    let first = table::row_of(t, 1);
+    let last = table::row_of(t, 1024);
+    print!(rt; ", rows read back {right}, row 1 {first}, row 1024 {last}\n")
 }
 
 fn load_case(rt: &(impl Input + Print), len: usize, taken: usize, rows: Rows) -> io::Result<()> {
@@ -160,14 +146,14 @@ fn load_case(rt: &(impl Input + Print), len: usize, taken: usize, rows: Rows) ->
     Ok(())
 }
 
-// Columns of so many bytes, and how many of them are taken.
+// Columns that are taken, and columns that are refused, of which no byte is.
 fn loads(rt: &(impl Input + Print)) -> io::Result<()> {
-    text(rt, b"one byte a row\n")?;
+    print!(rt; "one byte a row\n")?;
     for len in [0, 1, 63, 64, 65, 1023, 1024] {
         load_case(rt, len, len, Rows::Bytes)?;
     }
     load_case(rt, 1025, 0, Rows::Bytes)?;
-    text(rt, b"four bytes a row\n")?;
+    print!(rt; "four bytes a row\n")?;
     for len in [0, 4, 4092, 4096] {
         load_case(rt, len, len, Rows::Quads)?;
     }
@@ -196,7 +182,7 @@ fn small() -> Table {
     table::load_quads(&column).unwrap_or(Table::ZERO)
 }
 
-// These rows.
+// A slice of these rows.
 fn rows_at(rows: &[usize]) -> Slice {
     rows.iter()
         .fold(slice::clr(), |x, i| slice::put(x, *i, true))
@@ -206,9 +192,9 @@ fn rows_at(rows: &[usize]) -> Slice {
 fn compared(rt: &(impl Input + Print), c: Compared) -> io::Result<()> {
     label(rt)?;
     positions(rt, c.greater, true)?;
-    text(rt, b", equal")?;
+    print!(rt; ", equal")?;
     positions(rt, c.equal, true)?;
-    text(rt, b"\n")
+    print!(rt; "\n")
 }
 
 fn searches(rt: &(impl Input + Print), t: Table, x: Slice) -> io::Result<()> {
@@ -227,10 +213,9 @@ fn searches(rt: &(impl Input + Print), t: Table, x: Slice) -> io::Result<()> {
 // MATCH whole: the number of columns that it read, and the rows that it found.
 fn counted(rt: &(impl Input + Print), m: Matched) -> io::Result<()> {
     label(rt)?;
-    number(rt, m.read)?;
-    text(rt, b", rows")?;
+    print!(rt; " {}, rows", m.read)?;
     positions(rt, m.rows, true)?;
-    text(rt, b"\n")
+    print!(rt; "\n")
 }
 
 fn counts(rt: &(impl Input + Print), t: Table, x: Slice) -> io::Result<()> {
@@ -279,10 +264,9 @@ fn places(rt: &(impl Input + Print), x: Slice) -> io::Result<()> {
 fn stepped(rt: &(impl Input + Print), x: Slice) -> io::Result<()> {
     label(rt)?;
     let mut rest = x;
-    number(rt, slice::step(&mut rest))?;
-    text(rt, b", left")?;
+    print!(rt; " {}, left", slice::step(&mut rest))?;
     positions(rt, rest, true)?;
-    text(rt, b"\n")
+    print!(rt; "\n")
 }
 
 fn steps(rt: &(impl Input + Print), x: Slice) -> io::Result<()> {
@@ -297,17 +281,17 @@ fn main(rt: HostRuntime) -> io::Result<()> {
     let t = small();
     let x = rows_at(&[1, 2, 3, 4, 5, 6]);
     corners(rt, t)?;
-    text(rt, b"rows 1 to 6 selected\n")?;
+    print!(rt; "rows 1 to 6 selected\n")?;
     searches(rt, t, x)?;
-    text(rt, b"rows 2 and 4 selected\n")?;
+    print!(rt; "rows 2 and 4 selected\n")?;
     searches(rt, t, rows_at(&[2, 4]))?;
-    text(rt, b"no row selected\n")?;
+    print!(rt; "no row selected\n")?;
     searches(rt, t, slice::clr())?;
-    text(rt, b"every row selected\n")?;
+    print!(rt; "every row selected\n")?;
     all_selected(rt, t, slice::set())?;
-    text(rt, b"columns read by MATCH\n")?;
+    print!(rt; "columns read by MATCH\n")?;
     counts(rt, t, x)?;
-    text(rt, b"slices\n")?;
+    print!(rt; "slices\n")?;
     operations(rt, x, rows_at(&[3, 1024]))?;
     places(rt, x)?;
     steps(rt, x)
