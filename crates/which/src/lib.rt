@@ -6,50 +6,52 @@ ghost use Rattle.std.specs.Prelude.{◌≡◌};
 ghost use Rattle.answer.specs.Records.{fields_of};
 ghost use Rattle.which_spec.specs.Door.{which_fields, plan_number, plan_of, start_of, which_door, which_returns, handed_back};
 ghost use Rattle.which_spec.specs.Means.{WhichCall};
+ghost use Rattle.rowset.specs.Integers.{from_bits};
 ghost use Rattle.in_use.specs.Tables.{table_in};
 ghost use Rattle.star_spec.specs.Call.{call_of, work_of};
 ghost use Rattle.which_decide.specs.Answers.{answer_of};
 
 use answer::{Record, of_refusal, well_lent, write_answer};
 use in_use::InUse;
+use refusal::Refusal;
 use which_decide::{Decision, decide};
 
 // What byte 6 holds: nothing is said about other trees.
 const ONLY: u32 = 0;
 
-// The fields of what is answered: kind 1 and the weight, or the refusal. The byte of the only tree is 0.
-fn of_decision(d: Decision) -> Record
-    ensures { fields_of result ≡ which_fields (answer_of d) }
+// The fields of a plan that stands, by the 64 bits of its weight.
+fn of_weight(amount: u64) -> Record
+    ensures { fields_of result ≡ record { kind = 1; number = 0; out = 0; into = 0; only = 0; amount = from_bits 64 amount } }
 {
-    match d {
-        Decision::First(weight) => Record {
-            kind: 1,
-            number: 0,
-            out: 0,
-            into: 0,
-            only: ONLY,
-            amount: weight,
-        },
-        Decision::Second(weight) => Record {
-            kind: 1,
-            number: 0,
-            out: 0,
-            into: 0,
-            only: ONLY,
-            amount: weight,
-        },
-        Decision::Refused(r) => of_refusal(r),
+    Record {
+        kind: 1,
+        number: 0,
+        out: 0,
+        into: 0,
+        only: ONLY,
+        amount,
+    }
+}
+
+// The fields of what is answered: kind 1 and the weight, or the refusal. The byte of the only tree is 0.
+fn of_decision(decision: Result<Decision, Refusal>) -> Record
+    ensures { fields_of result ≡ which_fields (answer_of decision) }
+{
+    match decision {
+        Ok(Decision::First(weight)) => of_weight(weight),
+        Ok(Decision::Second(weight)) => of_weight(weight),
+        Err(refusal) => of_refusal(refusal),
     }
 }
 
 // The number of the plan that stands, 0 where neither does.
-fn number_of(d: Decision) -> u32
-    ensures { result ≡ plan_number (answer_of d) }
+fn number_of(decision: Result<Decision, Refusal>) -> u32
+    ensures { result ≡ plan_number (answer_of decision) }
 {
-    match d {
-        Decision::First(_) => 1,
-        Decision::Second(_) => 2,
-        Decision::Refused(_) => 0,
+    match decision {
+        Ok(Decision::First(_)) => 1,
+        Ok(Decision::Second(_)) => 2,
+        Err(_) => 0,
     }
 }
 
@@ -70,10 +72,9 @@ pub fn which(
     if !well_lent(answer) {
         return 0;
     }
-    let d = decide(n, table, left, right, weight, first, second);
-    let x = of_decision(d);
-    write_answer(answer, x);
-    number_of(d)
+    let decision = decide(n, table, left, right, weight, first, second);
+    write_answer(answer, of_decision(decision));
+    number_of(decision)
 }
 
 // The plan of a number, as it was lent: 1 the first, 2 the second, and of any other number the empty start of the first.

@@ -8,8 +8,6 @@ use Rattle.claim.specs.Claims.{claim_rows}
 use Rattle.which_spec.proofs.Causes.{none_before, first-refused, second-refused, both-taken}
 use Rattle.which_spec.specs.Which.{neither, first_plan, second_plan, lighter_plan, which}
 use Rattle.refusal.specs.Outcomes.{refusal_of}
-use Rattle.refusal.specs.declared.Outcome.{Outcome}
-use Rattle.refusal.specs.declared.Outcome.TheVariants.{Done, Refused}
 use Rattle.refusal.specs.declared.Refusal.{Refusal}
 use Rattle.rowset.proofs.Integers.{up, down, integers, pos-parts, minus, lt-lt_z, le-lt_z, total-cut}
 use Rattle.rowset.proofs.Laws.{refuted}
@@ -20,6 +18,7 @@ use Rattle.rowset.specs.Sets.{up_to, both}
 use Rattle.slice.specs.Slices.{size}
 use Rattle.star_spec.proofs.Accepted.{Taken, taken, used-row}
 use Rattle.star_spec.specs.Call.{Call, rows_of, used, weight_of, marked, claimed, claim_weight, with_claim}
+use Rattle.std.specs.Prelude.{Result, Ok, Err, ⊤}
 use Rattle.star_spec.specs.Refusals.{table_causes, cst_causes, refusal}
 
 -- ── The order of the integers of 64 bits ──
@@ -84,24 +83,24 @@ marked-weight c e = rw (claim_rows-marked c.mark (rw t.mark-length t.few-rows)) 
 
 -- ── The answer ──
 
-module _ (c : Call) (second : List ℕ) {p : Outcome} (e : refusal_of p ≡ refusal (cst_causes c)) where
+module _ (c : Call) (second : List ℕ) {p : Result ⊤ Refusal} (e : refusal_of p ≡ refusal (cst_causes c)) where
   -- the first plan is refused
-  pub first-declined : {r : Refusal} → p ≡ Refused r → neither r ≡ which c second
+  pub first-declined : {r : Refusal} → p ≡ Err r → neither r ≡ which c second
   unfolding refusal_of
   first-declined {r} h = sym (first-refused c second r (sym e ∙ ap refusal_of h))
 
-  first_taken : p ≡ Done → refusal (cst_causes c) ≡ none
+  first_taken : p ≡ Ok tt → refusal (cst_causes c) ≡ none
   unfolding refusal_of
   first_taken done = sym e ∙ ap refusal_of done
 
-  module _ (done : p ≡ Done) {q : Outcome} (f : refusal_of q ≡ refusal (cst_causes (with_claim c second))) where
+  module _ (done : p ≡ Ok tt) {q : Result ⊤ Refusal} (f : refusal_of q ≡ refusal (cst_causes (with_claim c second))) where
     -- the second is
-    pub second-declined : {r : Refusal} → q ≡ Refused r → neither r ≡ which c second
+    pub second-declined : {r : Refusal} → q ≡ Err r → neither r ≡ which c second
     unfolding refusal_of
     second-declined {r} h = sym (second-refused c second r (first_taken done) (sym f ∙ ap refusal_of h))
 
     -- neither is: their weights decide
-    pub decided : q ≡ Done → (x y : ℕ) → (refusal (cst_causes c) ≡ none → from_bits 64 x ≡ claim_weight c)
+    pub decided : q ≡ Ok tt → (x y : ℕ) → (refusal (cst_causes c) ≡ none → from_bits 64 x ≡ claim_weight c)
         → (refusal (cst_causes (with_claim c second)) ≡ none → from_bits 64 y ≡ claim_weight (with_claim c second))
         → lighter_plan (from_bits 64 x) (from_bits 64 y) ≡ which c second
     unfolding refusal_of

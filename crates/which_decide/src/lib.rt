@@ -11,22 +11,21 @@ ghost use Rattle.rowset.specs.Integers.{from_bits};
 ghost use Rattle.slice.specs.Slices.{component};
 ghost use Rattle.star_spec.specs.Call.{Call, table_of, claim_weight};
 ghost use Rattle.star_spec.specs.Refusals.{cst_causes, refusal};
-ghost use Rattle.which_decide.specs.Answers.{answer_of};
+ghost use Rattle.which_decide.specs.Answers.{standing, answer_of};
 
 use in_use::InUse;
-use refusal::{Outcome, Refusal};
+use refusal::Refusal;
 use slice::Slice;
 use slice::rows::rows_among;
 
 // 2 ^ 63: the first of 64 bits.
 const OFFSET: u64 = 9223372036854775808;
 
-// What is answered: the plan that stands, with the 64 bits of its weight, or the refusal.
+// Which plan stands, with the 64 bits of its weight.
 #[derive(Clone, Copy)]
 pub enum Decision {
     First(u64),
     Second(u64),
-    Refused(Refusal),
 }
 
 // CST's refusals of a plan, without its search for an exchange: MatrixPath from vertex 1 has them on a matrix of its own.
@@ -37,7 +36,7 @@ fn plan_check(
     right: &[u8],
     weight: &[u8],
     mark: &[u8],
-) -> Outcome
+) -> Result<(), Refusal>
     ensures { let c = table_in n table left.now right.now weight.now mark.now in
         refusal_of result ≡ refusal (cst_causes c) }
 {
@@ -58,14 +57,12 @@ fn plan_weight(m: usize, rows: Slice, weight: &[u8], mark: &[u8]) -> u64
 fn below(x: u64, y: u64) -> bool
     ensures { result ≡ int_lt (from_bits 64 x) (from_bits 64 y) }
 {
-    let a = std::num::wrapping_add_u64(x, OFFSET);
-    let b = std::num::wrapping_add_u64(y, OFFSET);
-    a < b
+    x.wrapping_add(OFFSET) < y.wrapping_add(OFFSET)
 }
 
 // Of two plans with these weights the second where it weighs less, else the first.
 fn lighter(first: u64, second: u64) -> Decision
-    ensures { answer_of result ≡ lighter_plan (from_bits 64 first) (from_bits 64 second) }
+    ensures { standing result ≡ lighter_plan (from_bits 64 first) (from_bits 64 second) }
 {
     if below(second, first) {
         return Decision::Second(second);
@@ -82,18 +79,14 @@ pub fn decide(
     weight: &[u8],
     first: &[u8],
     second: &[u8],
-) -> Decision
+) -> Result<Decision, Refusal>
     ensures { let c = table_in n table left.now right.now weight.now first.now in
         answer_of result ≡ which c second.now }
 {
-    if let Outcome::Refused(refusal) = plan_check(n, table, left, right, weight, first) {
-        return Decision::Refused(refusal);
-    }
-    if let Outcome::Refused(refusal) = plan_check(n, table, left, right, weight, second) {
-        return Decision::Refused(refusal);
-    }
-    lighter(
+    plan_check(n, table, left, right, weight, first)?;
+    plan_check(n, table, left, right, weight, second)?;
+    Ok(lighter(
         plan_weight(table.m, table.rows, weight, first),
         plan_weight(table.m, table.rows, weight, second),
-    )
+    ))
 }

@@ -1,19 +1,22 @@
--- `which::of_decision` meets its contract: each case's fields, written out, with the weight's bits handed on; a refusal's are those of `of_refusal`. Assumes nothing.
+-- `which::of_decision` meets its contract: a plan's fields are those of its weight, and a refusal's those of `of_refusal`. Assumes nothing.
 use mathlib.Core.Path.{refl}
-use Rattle.answer.specs.Records.{fields_of}
 use Rattle.which_spec.specs.Door.{which_fields}
 use Rattle.star_spec.specs.Door.{fields}
-use Rattle.which_decide.specs.Answers.{answer_of}
+use Rattle.which_decide.specs.Answers.{standing, answer_of}
 use Rattle.which.proofs.of_decision.Goals as goal
 
-pub returns-in-First : goal.returns-in-First
-unfolding fields_of which_fields answer_of
-returns-in-First c = rw c.in-First.is refl
+pub returns-in-Ok-First : goal.returns-in-Ok-First
+unfolding which_fields answer_of standing
+returns-in-Ok-First c =
+    let it = rw c.in-Ok-First.is at c.in-Ok-First.field-0-is in
+    rw (c.in-Ok-First.is, it) c.of_weight.ensures
 
-pub returns-in-Second : goal.returns-in-Second
-unfolding fields_of which_fields answer_of
-returns-in-Second c = rw c.in-Second.is refl
+pub returns-in-Ok-Second : goal.returns-in-Ok-Second
+unfolding which_fields answer_of standing
+returns-in-Ok-Second c =
+    let it = rw c.in-Ok-Second.is at c.in-Ok-Second.field-0-is in
+    rw (c.in-Ok-Second.is, it) c.of_weight-in-Ok-Second.ensures
 
-pub returns-in-Refused : goal.returns-in-Refused
+pub returns-in-Err : goal.returns-in-Err
 unfolding which_fields answer_of fields
-returns-in-Refused c = rw c.in-Refused.is c.of_refusal.ensures
+returns-in-Err c = rw c.in-Err.is c.of_refusal.ensures

@@ -12,6 +12,6 @@ pub returns : goal.returns
 unfolding which_returns which_door
 returns c =
     rw (sym c.well_lent.ensures ∙ c.if-not-well_lent.false) (
-      c.number_of.ensures ∙ ap plan_number c.decide-d.ensures,
-      c.write_answer.ensures ∙ ap (answer_after _) (c.of_decision-x.ensures ∙ ap which_fields c.decide-d.ensures),
+      c.number_of.ensures ∙ ap plan_number c.decide-decision.ensures,
+      c.write_answer.ensures ∙ ap (answer_after _) (c.of_decision.ensures ∙ ap which_fields c.decide-decision.ensures),
     )

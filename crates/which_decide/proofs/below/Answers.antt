@@ -3,4 +3,4 @@ use Rattle.which_decide.proofs.Laws.{wide-order}
 use Rattle.which_decide.proofs.below.Goals as goal
 
 pub returns : goal.returns
-returns c = rw (wide-order, c.wrapping_add_u64-a.ensures.value, c.wrapping_add_u64-b.ensures.value)
+returns c = rw wide-order
