@@ -20,8 +20,6 @@ use Rattle.path_walk.specs.Steps.Walks.{walk}
 use Rattle.price_theory.proofs.Lacking.{lacking-sound, lacking-tree}
 use Rattle.price_theory.specs.Breaking.{lacking, heaviest_between, breaking}
 use Rattle.refusal.specs.Outcomes.{refusal_of}
-use Rattle.refusal.specs.declared.Outcome.{Outcome}
-use Rattle.refusal.specs.declared.Outcome.TheVariants.{Done, Refused}
 use Rattle.refusal.specs.declared.Refusal.{Refusal}
 use Rattle.rowset.proofs.Laws.{clash}
 use Rattle.rowset.specs.Bytes.{in_row}
@@ -33,6 +31,7 @@ use Rattle.star_spec.specs.Accepted.{Row}
 use Rattle.star_spec.specs.Call.{Call, rows_of, used, graph_of, weight_of}
 use Rattle.star_spec.specs.Mst1.{chosen_rows}
 use Rattle.star_spec.specs.Refusals.{Accepted, cause, is_none, or_else, refusal}
+use Rattle.std.specs.Prelude.{Result, Ok, Err, ⊤}
 use Rattle.table.proofs.Loads.{load-taken, loaded-taken}
 use Rattle.table.specs.Loads.{loaded_row}
 use Rattle.price_spec.proofs.Causes.{causes-in-order, row-asked}
@@ -44,7 +43,7 @@ use Rattle.breaking.specs.Steps.Routes.{Said, answered, by_trees, said_or, said,
 use Rattle.path_walk.proofs.Trees.{walked-path}
 
 -- a call that the checks refuse
-pub call-refused : (c : Call) (k : ℕ) {o : Outcome} {r : Refusal} → refusal_of o ≡ refusal (row_asked c k) → o ≡ Refused r → answered (unanswered r) ≡ said c k
+pub call-refused : (c : Call) (k : ℕ) {o : Result ⊤ Refusal} {r : Refusal} → refusal_of o ≡ refusal (row_asked c k) → o ≡ Err r → answered (unanswered r) ≡ said c k
 unfolding said said_or refusal_of
 call-refused c k {r = r} e q =
     let h : refusal (row_asked c k) ≡ some r = sym e ∙ ap refusal_of q in
@@ -70,7 +69,7 @@ unfolding is_none
 none-built none e = refl
 none-built (some f) e = clash refl e
 
-pub accepted-call : (c : Call) (k : ℕ) {o : Outcome} → refusal_of o ≡ refusal (row_asked c k) → o ≡ Done → refusal (row_asked c k) ≡ none
+pub accepted-call : (c : Call) (k : ℕ) {o : Result ⊤ Refusal} → refusal_of o ≡ refusal (row_asked c k) → o ≡ Ok tt → refusal (row_asked c k) ≡ none
 unfolding refusal_of
 accepted-call c k checked done = sym checked ∙ ap refusal_of done
 

@@ -9,28 +9,12 @@ ghost use Rattle.path_walk.specs.Steps.Walks.{walk};
 ghost use Rattle.slice.specs.Slices.{component};
 ghost use Rattle.in_use.specs.Tables.{table_in};
 ghost use Rattle.table.specs.Loads.{loaded_row};
-ghost use Rattle.breaking.specs.Answers.{answer_of};
-ghost use Rattle.breaking.specs.Steps.Routes.{said_of, said, heaviest_price, told};
+ghost use Rattle.breaking.specs.Answers.{answer_of, said_of};
+ghost use Rattle.breaking.specs.Steps.Routes.{said, heaviest_price, told};
 
 use in_use::InUse;
-use refusal::{Outcome, Refusal};
+use refusal::{Cause, Refusal};
 use slice::Slice;
-
-// What is answered: the 32 bits of the breaking price, that there is none, or the refusal.
-#[derive(Clone, Copy)]
-pub enum Breaks {
-    At(u32),
-    Never,
-    Refused(Refusal),
-}
-
-// What the trees say of a row: whether there is a route around it, and then the rows of a tree without it; else the answer. What is not said is the price 0, and no row.
-#[derive(Clone, Copy)]
-pub struct Around {
-    pub answer: Breaks,
-    pub route: bool,
-    pub chosen: Slice,
-}
 
 // The rows by which the walk over the rows of a tree comes from vertex u to vertex v. The walk fills a path matrix that is lent.
 fn path_between(
@@ -58,8 +42,7 @@ fn heaviest_price(weight: &[u8], x: Slice) -> u32
     table_checks::row_weight(weight, heaviest)
 }
 
-// What the trees of a table of either kind say of a row: where a tree is built without the row, that there is a route, and the tree's rows; else the answer.
-// Where no tree is built without the row, the tree with the row says whether the table is connected.
+// What the trees of a table of either kind say of a row: the rows of a tree that is built without it, where there is one; none where a tree is built only with it; else the refusal.
 pub fn around_rows(
     n: u32,
     table: InUse,
@@ -67,58 +50,38 @@ pub fn around_rows(
     right: &[u8],
     weight: &[u8],
     row: u32,
-) -> Around
+) -> Result<Option<Slice>, Refusal>
     ensures { let c = table_in n table left.now right.now weight.now left.now in
         said_of result ≡ said c row }
 {
-    let m = table.m;
-    let rows = table.rows;
-    if let Outcome::Refused(refusal) = quote::row_check(n, table, left, right, weight, row) {
-        return Around {
-            answer: Breaks::Refused(refusal),
-            route: false,
-            chosen: Slice::empty(),
-        };
+    quote::row_check(n, table, left, right, weight, row)?;
+    let others = slice::put(table.rows, row as usize, false);
+    if let Some(tree) = mst1::tree_of(n, table.m, others, left, right, weight) {
+        return Ok(Some(tree));
     }
-    let others = slice::put(rows, row as usize, false);
-    let around = mst1::tree_of(n, m, others, left, right, weight);
-    if around.whole {
-        let chosen = around.chosen;
-        return Around {
-            answer: Breaks::At(0),
-            route: true,
-            chosen: chosen,
-        };
+    if mst1::tree_of(n, table.m, table.rows, left, right, weight).is_none() {
+        return Err(Refusal::of(Cause::NoNetwork as u32));
     }
-    let tree = mst1::tree_of(n, m, rows, left, right, weight);
-    if tree.whole {
-        return Around {
-            answer: Breaks::Never,
-            route: false,
-            chosen: Slice::empty(),
-        };
-    }
-    let refusal = Refusal {
-        number: 11,
-        place: 0,
-    };
-    Around {
-        answer: Breaks::Refused(refusal),
-        route: false,
-        chosen: Slice::empty(),
-    }
+    Ok(None)
 }
 
-// The answer: where there is a route, the heaviest row on the tree's path between the row's ends has the breaking price.
-pub fn told(n: u32, left: &[u8], right: &[u8], weight: &[u8], row: u32, around: Around) -> Breaks
+// The 32 bits of the breaking price, none, or the refusal: where there is a route, the heaviest row on the tree's path between the row's ends has the price.
+pub fn told(
+    n: u32,
+    left: &[u8],
+    right: &[u8],
+    weight: &[u8],
+    row: u32,
+    around: Result<Option<Slice>, Refusal>,
+) -> Result<Option<u32>, Refusal>
     ensures { answer_of result ≡ told n left.now right.now weight.now row (said_of around) }
 {
-    if !around.route {
-        return around.answer;
-    }
+    let Some(tree) = around? else {
+        return Ok(None);
+    };
     let u = table_checks::row_byte(left, row as usize) as u32;
     let v = table_checks::row_byte(right, row as usize) as usize;
     let mut own = [0u64; path::ALL_WORDS];
-    let path = path_between(n, left, right, around.chosen, u, v, &mut own);
-    Breaks::At(heaviest_price(weight, path))
+    let path = path_between(n, left, right, tree, u, v, &mut own);
+    Ok(Some(heaviest_price(weight, path)))
 }

@@ -1,5 +1,6 @@
 // The breaking price for C: kind 1 and the price, kind 2 and all else 0 where there is none, or the refusal.
 ghost use Rattle.std.specs.Prelude.{◌≡◌};
+ghost use Rattle.in_use.specs.Tables.{table_in};
 ghost use Rattle.answer.specs.Records.{fields_of};
 ghost use Rattle.breaking.specs.Answers.{answer_of};
 ghost use Rattle.price_meaning.specs.Breaking.{BreakingCall};
@@ -9,8 +10,8 @@ ghost use Rattle.rowset.specs.Integers.{from_bits, signed};
 ghost use Rattle.star_spec.specs.Door.{door_returns};
 
 use answer::{Record, of_refusal, well_lent, write_answer};
-use breaking::Breaks;
 use in_use::InUse;
+use refusal::Refusal;
 
 // 2 ^ 31, from which on 32 bits stand for a number below zero, and the upper half of 64 bits.
 const NEGATIVE: u32 = 2147483648;
@@ -28,11 +29,11 @@ fn widened(price: u32) -> u64
 }
 
 // The fields of what is said of a breaking price.
-pub fn of_breaks(b: Breaks) -> Record
-    ensures { fields_of result ≡ breaking_fields (answer_of b) }
+pub fn of_breaks(price: Result<Option<u32>, Refusal>) -> Record
+    ensures { fields_of result ≡ breaking_fields (answer_of price) }
 {
-    match b {
-        Breaks::At(price) => Record {
+    match price {
+        Ok(Some(price)) => Record {
             kind: 1,
             number: 0,
             out: 0,
@@ -40,7 +41,7 @@ pub fn of_breaks(b: Breaks) -> Record
             only: 0,
             amount: widened(price),
         },
-        Breaks::Never => Record {
+        Ok(None) => Record {
             kind: 2,
             number: 0,
             out: 0,
@@ -48,8 +49,34 @@ pub fn of_breaks(b: Breaks) -> Record
             only: 0,
             amount: 0,
         },
-        Breaks::Refused(r) => of_refusal(r),
+        Err(refusal) => of_refusal(refusal),
     }
+}
+
+// The breaking price over a table of either kind, in the lent answer.
+fn answered(
+    n: u32,
+    table: InUse,
+    left: &[u8],
+    right: &[u8],
+    weight: &[u8],
+    row: u32,
+    answer: &mut [u8],
+) -> u32
+    ensures returned { result ≡ door_returns answer.old }
+    ensures answered { let c = table_in n table left.now right.now weight.now left.now in
+        answer.new ≡ breaking_door c row answer.old }
+    ensures means { let c = table_in n table left.now right.now weight.now left.now in
+        BreakingCall c row answer.old answer.new result }
+{
+    if !well_lent(answer) {
+        return 0;
+    }
+    let around = breaking::around_rows(n, table, left, right, weight, row);
+    let b = breaking::told(n, left, right, weight, row, around);
+    let x = of_breaks(b);
+    write_answer(answer, x);
+    1
 }
 
 // The breaking price through the door. `means` says what the bytes are worth: what is read back, and what it says of the routes between the row's ends and of the least totals.
@@ -68,15 +95,8 @@ pub extern "C" fn star_breaking(
     ensures means { let c = asked n left.now right.now weight.now in
         BreakingCall c row answer.old answer.new result }
 {
-    if !well_lent(answer) {
-        return 0;
-    }
-    let table = InUse::plain(left.len());
-    let around = breaking::around_rows(n, table, left, right, weight, row);
-    let b = breaking::told(n, left, right, weight, row, around);
-    let x = of_breaks(b);
-    write_answer(answer, x);
-    1
+    let plain = InUse::plain(left.len());
+    answered(n, plain, left, right, weight, row, answer)
 }
 
 // The breaking price of a working table, whose rows in use are lent as sixteen words, through the door. `means` says what the bytes are worth of the rows in use.
@@ -96,13 +116,6 @@ pub extern "C" fn star_work_breaking(
     ensures means { let c = asked_work n words.now left.now right.now weight.now in
         BreakingCall c row answer.old answer.new result }
 {
-    if !well_lent(answer) {
-        return 0;
-    }
-    let used = InUse::working(words);
-    let around = breaking::around_rows(n, used, left, right, weight, row);
-    let b = breaking::told(n, left, right, weight, row, around);
-    let x = of_breaks(b);
-    write_answer(answer, x);
-    1
+    let working = InUse::working(words);
+    answered(n, working, left, right, weight, row, answer)
 }

@@ -1,31 +1,29 @@
 -- `breaking::around_rows` meets its contract in each of its four cases: the call is refused; a tree is built without the row; only with it; or not even so.
 -- Assumes nothing.
-use mathlib.Core.Path.{◌∙◌}
-use Rattle.rowset.specs.Integers.{from_bits}
+use mathlib.Core.Path.{refl, ◌∙◌}
+use Rattle.mst1.specs.Steps.Growth.{chosen_in}
+use Rattle.refusal.proofs.Passed.{handed-on}
 use Rattle.slice.proofs.Laws.{written-false}
 use Rattle.breaking.proofs.Answers.{call-refused, accepted-call, route-found, no-route, no-tree}
-use Rattle.breaking.specs.Answers.{answer_of}
+use Rattle.breaking.specs.Answers.{said_of}
 use Rattle.breaking.proofs.around_rows.Goals as goal
 
-pub returns-in-Refused : goal.returns-in-Refused
-unfolding answer_of
-returns-in-Refused c = rw c.empty.ensures (call-refused _ _ c.row_check.ensures c.in-Refused.is)
+pub returns-in_err-row_check : goal.returns-in_err-row_check
+unfolding said_of
+returns-in_err-row_check c = rw (handed-on _ c.from_residual.ensures.1) (call-refused _ _ c.row_check.ensures c.in_err-row_check.was)
 
-pub returns-then-around : goal.returns-then-around
-unfolding answer_of from_bits
-returns-then-around c =
-    route-found _ _ (accepted-call _ _ c.row_check.ensures c.in_default.is) (c.put-others.ensures ∙ written-false _ _) c.tree_of-around.ensures c.if-around.true
+pub returns-in-Some : goal.returns-in-Some
+unfolding said_of chosen_in
+returns-in-Some c =
+    route-found _ _ (accepted-call _ _ c.row_check.ensures c.in_ok-row_check.was) (c.put-others.ensures ∙ written-false _ _) c.in-Some.ensures refl
 
-pub returns-then-tree : goal.returns-then-tree
-unfolding answer_of
-returns-then-tree c =
-    rw c.empty-then-tree.ensures
-    (no-route _ _ (accepted-call _ _ c.row_check.ensures c.in_default.is) (c.put-others.ensures ∙ written-false _ _) c.tree_of-around.ensures c.if-around.false
-    c.tree_of-tree.ensures c.if-tree.true)
+pub returns-then-is_none : goal.returns-then-is_none
+unfolding said_of chosen_in
+returns-then-is_none c =
+    rw c.of.ensures
+    (no-tree _ _ (accepted-call _ _ c.row_check.ensures c.in_ok-row_check.was) (c.put-others.ensures ∙ written-false _ _) c.in_default.ensures refl c.tree_of-2.ensures c.if-is_none.ensures)
 
 pub returns : goal.returns
-unfolding answer_of
+unfolding said_of chosen_in
 returns c =
-    rw c.empty-2.ensures
-    (no-tree _ _ (accepted-call _ _ c.row_check.ensures c.in_default.is) (c.put-others.ensures ∙ written-false _ _) c.tree_of-around.ensures c.if-around.false
-    c.tree_of-tree.ensures c.if-tree.false)
+    no-route _ _ (accepted-call _ _ c.row_check.ensures c.in_ok-row_check.was) (c.put-others.ensures ∙ written-false _ _) c.in_default.ensures refl c.tree_of-2.ensures c.if-is_none.ensures

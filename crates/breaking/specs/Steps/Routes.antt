@@ -1,8 +1,6 @@
 -- The two steps to a breaking price, each as a function of what it is handed: what the trees of a call say of row k, and the answer that a walk over the rows of a tree then gives. Assumes nothing.
 use Rattle.std.specs.Prelude.{ℕ, pos, replicate, Bool, true, false, cond, List}
 use Rattle.std.proofs.Math.Option.{Option, none, some}
-use Rattle.breaking.specs.Answers.{answer_of}
-use Rattle.breaking.specs.declared.Around.{Around}
 use Rattle.graph_theory.specs.Builder.{Fragment, tree}
 use Rattle.path_matrix.specs.Matrix.{matrix_column}
 use Rattle.path_walk.specs.Steps.Walks.{walk}
@@ -14,7 +12,7 @@ use Rattle.rowset.specs.Bytes.{in_row}
 use Rattle.rowset.specs.Integers.{signed}
 use Rattle.rowset.specs.Searches.{largest}
 use Rattle.rowset.specs.Sets.{empty, uppermost}
-use Rattle.slice.specs.Slices.{size, component}
+use Rattle.slice.specs.Slices.{size}
 use Rattle.star_spec.specs.Call.{Call, graph_of, weight_of}
 use Rattle.star_spec.specs.Refusals.{refusal}
 use Rattle.table.specs.Loads.{loaded_row}
@@ -24,9 +22,6 @@ pub record Said : Type 0 where
   pub answer : BreakingAnswer
   pub route : Bool
   pub chosen : ℕ → Bool
-
-abbrev pub said_of : Around → Said
-said_of x = record { answer = answer_of x.answer; route = x.route; chosen = component x.chosen }
 
 abbrev pub answered : BreakingAnswer → Said
 answered a = record { answer = a; route = false; chosen = empty }

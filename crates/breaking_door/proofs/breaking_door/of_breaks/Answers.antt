@@ -7,14 +7,18 @@ use Rattle.rowset.specs.Integers.{from_bits}
 use Rattle.star_spec.specs.Door.{fields}
 use Rattle.breaking_door.proofs.breaking_door.of_breaks.Goals as goal
 
-pub returns-in-At : goal.returns-in-At
+pub returns-in-Ok-Some : goal.returns-in-Ok-Some
 unfolding fields_of breaking_fields answer_of
-returns-in-At c = rw (c.in-At.is, c.widened.ensures) refl
+returns-in-Ok-Some c =
+    let it = rw c.in-Ok-Some.is at c.in-Ok-Some.field-0-is in
+    rw (c.in-Ok-Some.is, it, c.widened.ensures) refl
 
-pub returns-in-Never : goal.returns-in-Never
+pub returns-in-Ok-None : goal.returns-in-Ok-None
 unfolding fields_of breaking_fields answer_of from_bits
-returns-in-Never c = rw c.in-Never.is refl
+returns-in-Ok-None c =
+    let it = rw c.in-Ok-None.is at c.in-Ok-None.field-0-is in
+    rw (c.in-Ok-None.is, it) refl
 
-pub returns-in-Refused : goal.returns-in-Refused
+pub returns-in-Err : goal.returns-in-Err
 unfolding breaking_fields answer_of fields
-returns-in-Refused c = rw c.in-Refused.is c.of_refusal.ensures
+returns-in-Err c = rw c.in-Err.is c.of_refusal.ensures

@@ -1,17 +1,6 @@
--- `breaking_door::breaking_door::star_breaking` meets its contract: what the breaking price, `of_breaks` and `write_answer` promise, one after the other. Assumes nothing.
-use mathlib.Core.Path.{sym, ◌∙◌}
-use Rattle.breaking_door.proofs.Laws.{breaking-shut, breaking-open}
-use Rattle.price_meaning.proofs.Breaking.{breaking-call}
+-- `breaking_door::breaking_door::star_breaking` meets its contract: it is that of `answered` over a plain table. Assumes nothing.
 use Rattle.breaking_door.proofs.breaking_door.star_breaking.Goals as goal
-
-pub returns-then-not-well_lent : goal.returns-then-not-well_lent
-returns-then-not-well_lent c =
-    let told = breaking-call (breaking-shut _ _ _ (sym c.well_lent.ensures ∙ c.if-not-well_lent.true)) in
-    record { returned = told.0; answered = told.1.0; means = told.1.1 }
 
 pub returns : goal.returns
 returns c =
-    let well = sym c.well_lent.ensures ∙ c.if-not-well_lent.false in
-    let table = c.plain-table.ensures in
-    let told = breaking-call (breaking-open _ _ _ well c.write_answer.ensures c.of_breaks-x.ensures c.told-b.ensures (rw (table.rows.0, table.rows.1, table.used) at c.around_rows-around.ensures)) in
-    record { returned = told.0; answered = told.1.0; means = told.1.1 }
+    let t = c.plain-plain.ensures in rw (t.rows.0, t.rows.1, t.used) at c.answered.ensures
