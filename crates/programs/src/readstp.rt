@@ -11,7 +11,7 @@ use digs::Page;
 use digs_lines::put_refused;
 use std::io::{Eprint, Read, Write};
 use stp::Sizes;
-use streams::{first, tell, write_text};
+use streams::{first, print_page, tell};
 
 // One byte more than the longest text that is taken, so that a longer one is noticed.
 const TEXT_BYTES: usize = 65537;
@@ -99,26 +99,6 @@ fn import(text: &[u8], out: &mut [u8]) -> Page
     }
 }
 
-// Writes the page of a text and gives the exit status: 2 where it is not written, else that of the page. The bytes that are handed on are those that are to be printed of the text.
-fn write_page<W: Write, E: Eprint>(
-    output: &mut W,
-    errors: &E,
-    text: &[u8],
-    page: &[u8],
-    status: u32,
-) -> u32
-    requires { (page.now ≡ read_page text.now) × (status ≡ read_status text.now) × (status ≤ 1) }
-    ensures status { (result ≡ read_status text.now) ⊎ (result ≡ 2) }
-    ensures few { result ≤ 2 }
-    ensures written { result ≢ 2 → Appends (W.contents output.old) (W.contents output.new) (read_page text.now) }
-{
-    if let Err(error) = write_text(output, page) {
-        tell(errors, "readstp: the answer is not printed whole", error);
-        return 2;
-    }
-    status
-}
-
 // Prints what the import of the text answers, and gives the exit status.
 fn print<W: Write, E: Eprint>(output: &mut W, errors: &E, text: &[u8]) -> u32
     ensures status { (result ≡ read_status text.now) ⊎ (result ≡ 2) }
@@ -129,7 +109,8 @@ fn print<W: Write, E: Eprint>(output: &mut W, errors: &E, text: &[u8]) -> u32
     let page = import(text, &mut bytes);
     let status = page.status;
     let size = page.size;
-    write_page(output, errors, text, first(&bytes, size), status)
+    let what = "readstp: the answer is not printed whole";
+    print_page(output, errors, first(&bytes, size), what, status, 2)
 }
 
 // The program: its exit status is 0 for a table, 1 for a refusal, 2 where the text cannot be read or the answer not be written. Of a text that the reader says, it is the page of the first 65,537

@@ -3,7 +3,7 @@
 
 #![tactic(auto)]
 
-ghost use Rattle.std.specs.Prelude.{◌≡◌, ◌<◌, length, take, None, IfSome, OnOk};
+ghost use Rattle.std.specs.Prelude.{◌⊎◌, ◌≢◌, ◌≡◌, ◌<◌, length, take, None, IfSome, OnOk};
 ghost use Rattle.std.specs.Io.KnownBytes.{Appends, Consumes, IsAtEnd};
 ghost use Rattle.io.specs.Counts.{IsPrefixLen};
 
@@ -71,4 +71,23 @@ pub fn write_text<W: Write>(output: &mut W, bytes: &[u8]) -> Result<()>
 // Tells an error in a line, after what it kept from being done. Where it cannot be told, nothing is.
 pub fn tell<E: Eprint>(errors: &E, what: &str, error: Error) {
     let _ = errors.eprintln(format_args!("{what}: {error}"));
+}
+
+// Prints a page and gives the exit status: `failed`, told in a line, where it is not printed whole.
+pub fn print_page<W: Write, E: Eprint>(
+    output: &mut W,
+    errors: &E,
+    page: &[u8],
+    unprinted: &str,
+    status: u32,
+    failed: u32,
+) -> u32
+    ensures status { (result ≡ status) ⊎ (result ≡ failed) }
+    ensures written { result ≢ failed → Appends (W.contents output.old) (W.contents output.new) page.now }
+{
+    if let Err(error) = write_text(output, page) {
+        tell(errors, unprinted, error);
+        return failed;
+    }
+    status
 }
