@@ -5,11 +5,13 @@
 
 ghost use Rattle.std.specs.Prelude.{ℕ, ◌+◌, ◌≤◌, eqb, length, Bool, true, false, cond, ◌&&◌, ◌≡◌};
 ghost use Rattle.rowset.specs.Bytes.{in_row};
+ghost use Rattle.rowset.specs.Integers.{from_bits};
 ghost use Rattle.rowset.specs.Words.{in_words};
 ghost use Rattle.search_columns.specs.Steps.Integers.{integers_after};
 ghost use Rattle.slice.specs.Slices.{size, component};
 ghost use Rattle.in_use.specs.Tables.{table_in};
 ghost use Rattle.star_spec.specs.Call.{Call, table_of};
+ghost use Rattle.star_spec.specs.Mst1.{tree_built};
 ghost use Rattle.table.specs.Loads.{loaded_row};
 ghost use Rattle.cst.specs.Steps.Paths.{Walked};
 ghost use Rattle.mst1.specs.Answers.{answer_of};
@@ -17,8 +19,7 @@ ghost use Rattle.detour_spec.specs.Detours.{number_at, numbers_of, lent_beside, 
 ghost use Rattle.detour.specs.Steps.Machine.{path_in, dearest_in, replaced_in, next_in, beside_in, Put};
 
 use in_use::InUse;
-use mst1::Built;
-use refusal::Outcome;
+use refusal::Refusal;
 use slice::rows::rows_among;
 use slice::{Slice, difference};
 use table_checks::row_byte;
@@ -143,7 +144,7 @@ fn write_rows(
     write_replacements(own, &weights, first, left, right, unmarked, marked, rows);
 }
 
-// What is answered of a claim that is a spanning tree, by its path matrix from vertex 1: its weight, and the numbers are written.
+// The 64 bits of the weight of a claim that is a spanning tree, and the numbers are written by its path matrix from vertex 1.
 fn tell(
     own: &[u64],
     m: usize,
@@ -153,35 +154,25 @@ fn tell(
     weight: &[u8],
     mark: &[u8],
     rows: &mut [u32],
-) -> Built
+) -> u64
     requires { (loaded_row 4 weight.now ≡ in_row 4 weight.now) × (length rows.old ≡ m) }
     ensures { let call : ℕ → Bool → Call = λ n whole. table_of n m whole (component in_use) left.now right.now weight.now mark.now in
-        ((n : ℕ) (whole : Bool) → Walked (call n whole) own.now → (answer_of result ≡ detours (call n whole)) × (rows.new ≡ detour_rows (call n whole) rows.old)) }
+        ((n : ℕ) (whole : Bool) → Walked (call n whole) own.now → (tree_built (from_bits 64 result) ≡ detours (call n whole)) × (rows.new ≡ detour_rows (call n whole) rows.old)) }
 {
     let used = rows_among(m, in_use);
     let marked = claim::claim_rows(mark, used);
     let unmarked = difference::without(used, marked);
     write_rows(own, left, right, weight, unmarked, marked, rows);
-    Built::Tree(claim::weigh(weight, marked))
+    claim::weigh(weight, marked)
 }
 
 // The table with a column of so many numbers lent beside it: its columns are handed in for all rows only where this one has a number for each.
 fn beside(table: InUse, count: usize) -> InUse
     ensures { (result.m ≡ table.m) × (result.whole ≡ (table.whole && eqb count table.m)) × (component result.rows ≡ component table.rows) }
 {
-    let m = table.m;
-    let rows = table.rows;
-    if !table.whole {
-        return InUse {
-            m: m,
-            whole: false,
-            rows: rows,
-        };
-    }
     InUse {
-        m: m,
-        whole: count == m,
-        rows: rows,
+        whole: table.whole && count == table.m,
+        ..table
     }
 }
 
@@ -194,17 +185,13 @@ pub fn detours(
     weight: &[u8],
     mark: &[u8],
     rows: &mut [u32],
-) -> Built
+) -> Result<u64, Refusal>
     ensures { let c = lent_beside (table_in n table left.now right.now weight.now mark.now) rows.old in
         (answer_of result ≡ detours c) × (rows.new ≡ detour_rows c rows.old) }
 {
     let lent = beside(table, rows.len());
     let words = path::ALL_WORDS;
     let mut own = [0u64; path::ALL_WORDS];
-    if let Outcome::Refused(refusal) = path::path_own(
-        n, lent, left, right, weight, mark, 1, words, &mut own,
-    ) {
-        return Built::Refused(refusal);
-    }
-    tell(&own, lent.m, lent.rows, left, right, weight, mark, rows)
+    path::path_own(n, lent, left, right, weight, mark, 1, words, &mut own)?;
+    Ok(tell(&own, lent.m, lent.rows, left, right, weight, mark, rows))
 }

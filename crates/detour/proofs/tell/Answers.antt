@@ -5,7 +5,6 @@ use mathlib.Core.Bool.{Bool}
 use mathlib.Core.Path.{ap, ◌∙◌}
 use native.Mathlib.Omega.{arith}
 use Rattle.claim.specs.Claims.{claim_rows}
-use Rattle.mst1.specs.Answers.{answer_of}
 use Rattle.rowset.specs.Sets.{both, without}
 use Rattle.slice.specs.Slices.{component}
 use Rattle.detour.proofs.Paths.{marked-rows, tells}
@@ -24,7 +23,6 @@ write_rows-requires c =
     )
 
 pub returns : goal.returns
-unfolding answer_of
 returns c n whole w =
     let rows = c.rows_among-used.ensures in
     let is-marked = c.claim_rows-marked.ensures ∙ ap (λ (p : ℕ → Bool). both p (claim_rows c.args.mark.now)) rows in
