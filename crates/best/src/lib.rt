@@ -14,12 +14,12 @@ ghost use Rattle.table.specs.Loads.{loaded_row};
 ghost use Rattle.cst.specs.Steps.Paths.{Walked};
 ghost use Rattle.detour.specs.Steps.Machine.{dearest_in};
 ghost use Rattle.best_spec.specs.Best.{best};
-ghost use Rattle.best.specs.Answers.{answer_of};
+ghost use Rattle.best.specs.Answers.{found_of, answer_of};
 ghost use Rattle.best.specs.Steps.Picks.{pick_of, better_of, look_at, best_to, Small};
 
 use claim::flipped_weight;
 use in_use::InUse;
-use refusal::{Outcome, Refusal};
+use refusal::Refusal;
 use slice::rows::rows_among;
 use slice::{Slice, difference};
 
@@ -39,12 +39,11 @@ pub struct Save {
     pub least: u64,
 }
 
-// What is answered: no exchange saves, the one that saves most, or the refusal.
+// What is found: no exchange saves, or the one that saves most.
 #[derive(Clone, Copy)]
 pub enum Found {
     Stays(Stay),
     Saves(Save),
-    Refused(Refusal),
 }
 
 // The row in that is kept, the row out for it, and what their exchange saves; zeros where none saves.
@@ -155,39 +154,42 @@ fn tell(
 ) -> Found
     requires { (loaded_row 4 weight.now ≡ in_row 4 weight.now) × (m ≤ size) }
     ensures { let call : Bool → Call = λ whole. table_of n m whole (component in_use) left.now right.now weight.now mark.now in
-        ((whole : Bool) → Walked (call whole) own.now → answer_of result ≡ best (call whole)) }
+        ((whole : Bool) → Walked (call whole) own.now → found_of result ≡ best (call whole)) }
 {
     let used = rows_among(m, in_use);
     let marked = claim::claim_rows(mark, used);
     let unmarked = difference::without(used, marked);
     let pick = pick_best(own, left, right, weight, m, unmarked);
-    let tree = mst1::tree_of(n, m, in_use, left, right, weight);
-    let least = claim::weigh(weight, tree.chosen);
+    let tree = mst1::tree_of(n, m, in_use, left, right, weight).unwrap_or(Slice::empty());
+    let least = claim::weigh(weight, tree);
     if pick.row == 0 {
         return Found::Stays(Stay {
             weight: claim::weigh(weight, marked),
-            least: least,
+            least,
         });
     }
     Found::Saves(Save {
         out: pick.out as u32,
         into: pick.row as u32,
         saving: pick.saving,
-        least: least,
+        least,
     })
 }
 
 // The best exchange over a table of either kind.
-pub fn best(n: u32, table: InUse, left: &[u8], right: &[u8], weight: &[u8], mark: &[u8]) -> Found
+pub fn best(
+    n: u32,
+    table: InUse,
+    left: &[u8],
+    right: &[u8],
+    weight: &[u8],
+    mark: &[u8],
+) -> Result<Found, Refusal>
     ensures { let c = table_in n table left.now right.now weight.now mark.now in
         answer_of result ≡ best c }
 {
     let words = path::ALL_WORDS;
     let mut own = [0u64; path::ALL_WORDS];
-    if let Outcome::Refused(refusal) = path::path_own(
-        n, table, left, right, weight, mark, 1, words, &mut own,
-    ) {
-        return Found::Refused(refusal);
-    }
-    tell(&own, n, table.m, table.rows, left, right, weight, mark)
+    path::path_own(n, table, left, right, weight, mark, 1, words, &mut own)?;
+    Ok(tell(&own, n, table.m, table.rows, left, right, weight, mark))
 }

@@ -1,5 +1,6 @@
 // The best exchange for C: twenty-four bytes as a quote's, of which the first sixteen are those of every door, and the last eight the least total.
 ghost use Rattle.std.specs.Prelude.{◌≡◌};
+ghost use Rattle.in_use.specs.Tables.{table_in};
 ghost use Rattle.answer.specs.Records.{fields_of};
 ghost use Rattle.best.specs.Answers.{answer_of};
 ghost use Rattle.best_spec.specs.Bytes.{BestCall};
@@ -11,14 +12,15 @@ use answer::{Record, of_refusal};
 use best::Found;
 use in_use::InUse;
 use quote_answer::{LENGTH, QuoteRecord, write_quote};
+use refusal::Refusal;
 
 // The fields of what was found; the last eight bytes of a refusal are 0.
-pub fn of_best(b: Found) -> QuoteRecord
-    ensures first { fields_of result.first ≡ best_fields (answer_of b) }
-    ensures least { from_bits 64 result.after ≡ least_of (answer_of b) }
+pub fn of_best(found: Result<Found, Refusal>) -> QuoteRecord
+    ensures first { fields_of result.first ≡ best_fields (answer_of found) }
+    ensures least { from_bits 64 result.after ≡ least_of (answer_of found) }
 {
-    match b {
-        Found::Stays(x) => QuoteRecord {
+    match found {
+        Ok(Found::Stays(x)) => QuoteRecord {
             first: Record {
                 kind: 1,
                 number: 0,
@@ -29,7 +31,7 @@ pub fn of_best(b: Found) -> QuoteRecord
             },
             after: x.least,
         },
-        Found::Saves(x) => QuoteRecord {
+        Ok(Found::Saves(x)) => QuoteRecord {
             first: Record {
                 kind: 2,
                 number: 0,
@@ -40,11 +42,36 @@ pub fn of_best(b: Found) -> QuoteRecord
             },
             after: x.least,
         },
-        Found::Refused(r) => QuoteRecord {
-            first: of_refusal(r),
+        Err(refusal) => QuoteRecord {
+            first: of_refusal(refusal),
             after: 0,
         },
     }
+}
+
+// The best exchange over a table of either kind, in the lent answer.
+fn answered(
+    n: u32,
+    table: InUse,
+    left: &[u8],
+    right: &[u8],
+    weight: &[u8],
+    mark: &[u8],
+    answer: &mut [u8],
+) -> u32
+    ensures returned { result ≡ best_returns answer.old }
+    ensures answered { let c = table_in n table left.now right.now weight.now mark.now in
+        answer.new ≡ best_door c answer.old }
+    ensures means { let c = table_in n table left.now right.now weight.now mark.now in
+        BestCall c answer.old answer.new result }
+{
+    if answer.len() != LENGTH {
+        return 0;
+    }
+    let b = best::best(n, table, left, right, weight, mark);
+    let x = of_best(b);
+    write_quote(answer, x);
+    1
 }
 
 // The best exchange through the door. `means` says what the bytes are worth.
@@ -63,13 +90,8 @@ pub extern "C" fn star_best(
     ensures means { let c = call_of n left.now right.now weight.now mark.now in
         BestCall c answer.old answer.new result }
 {
-    if answer.len() != LENGTH {
-        return 0;
-    }
-    let b = best::best(n, InUse::plain(left.len()), left, right, weight, mark);
-    let x = of_best(b);
-    write_quote(answer, x);
-    1
+    let plain = InUse::plain(left.len());
+    answered(n, plain, left, right, weight, mark, answer)
 }
 
 // The same over the rows in use of a working table, which are lent as sixteen words. `means` as above, of the rows in use.
@@ -89,11 +111,6 @@ pub extern "C" fn star_work_best(
     ensures means { let c = work_of n words.now left.now right.now weight.now mark.now in
         BestCall c answer.old answer.new result }
 {
-    if answer.len() != LENGTH {
-        return 0;
-    }
-    let b = best::best(n, InUse::working(words), left, right, weight, mark);
-    let x = of_best(b);
-    write_quote(answer, x);
-    1
+    let working = InUse::working(words);
+    answered(n, working, left, right, weight, mark, answer)
 }
