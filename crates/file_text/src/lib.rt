@@ -52,12 +52,15 @@ pub struct Fields {
     pub parts: [Part; FIELDS],
 }
 
+// Whether a byte is a blank.
+#[tactic(auto, unfolding(file_spec::specs::Pieces::is_blank))]
 pub fn is_blank(b: u8) -> bool
     ensures { result ≡ is_blank b }
 {
     b == 32 || b == 9
 }
 
+#[tactic(auto, unfolding(file_spec::specs::Pieces::ends_line))]
 fn ends_line(b: u8) -> bool
     ensures { result ≡ ends_line b }
 {
