@@ -16,25 +16,12 @@ ghost use Rattle.table.specs.Loads.{loaded_row};
 ghost use Rattle.cst.specs.Steps.Paths.{Walked};
 ghost use Rattle.mst1.specs.Answers.{answer_of};
 ghost use Rattle.detour_spec.specs.Detours.{number_at, numbers_of, lent_beside, detours, detour_rows};
-ghost use Rattle.detour.specs.Steps.Machine.{path_in, dearest_in, replaced_in, next_in, beside_in, Put};
+ghost use Rattle.detour.specs.Steps.Machine.{dearest_in, replaced_in, next_in, beside_in, Put};
 
 use in_use::InUse;
 use refusal::Refusal;
 use slice::rows::rows_among;
 use slice::{Slice, difference};
-use table_checks::row_byte;
-
-// The rows on the tree path between row i's ends, from the path matrix.
-fn path_of(own: &[u64], left: &[u8], right: &[u8], i: usize) -> Slice
-    ensures { component result ≡ path_in own.now left.now right.now i }
-{
-    let a = row_byte(left, i) as usize;
-    let b = row_byte(right, i) as usize;
-    slice::xor(
-        path_matrix::read_column(own, a),
-        path_matrix::read_column(own, b),
-    )
-}
 
 // FND of MAX: the heaviest row on the path of row i, the uppermost among equals, where row i is one of the slice's rows, which are lent as words; else 0.
 // `weights` has the words of the weight column as a table, of which the first columns are left out.
@@ -53,7 +40,7 @@ pub fn dearest_at(
     if !slice_words::row_in(unmarked, i) {
         return 0;
     }
-    let path = path_of(own, left, right, i);
+    let path = path_exchange::path_of(own, left, right, i);
     slice::fnd(search_extremes::max_from(weights, first, path))
 }
 
@@ -116,7 +103,7 @@ fn write_replacements(
     let mut y = marked;
     let mut f = next_row(weights, first, x, y);
     while f != 0 {
-        let hit = slice::and(path_of(own, left, right, f), y);
+        let hit = slice::and(path_exchange::path_of(own, left, right, f), y);
         put_each(rows, hit, f as u32);
         x = slice::put(x, f, false);
         y = difference::without(y, hit);

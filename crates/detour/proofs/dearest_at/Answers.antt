@@ -5,7 +5,7 @@ use Rattle.rowset.specs.Searches.{largest}
 use Rattle.rowset.specs.Sets.{uppermost}
 use Rattle.slice.specs.Slices.{size}
 use Rattle.table_checks.proofs.Laws.{uppermost-bound}
-use Rattle.detour.specs.Steps.Machine.{dearest_in}
+use Rattle.detour.specs.Steps.Machine.{path_in, dearest_in}
 use Rattle.detour.proofs.dearest_at.Goals as goal
 
 pub returns-then-not-row_in : goal.returns-then-not-row_in
@@ -17,7 +17,7 @@ returns-then-not-row_in c =
     }
 
 pub returns : goal.returns
-unfolding dearest_in
+unfolding dearest_in path_in
 returns c =
     let found = c.fnd.ensures ∙ ap (uppermost size) (c.max_from.ensures ∙ ap (largest size _) c.path_of-path.ensures) in record {
       by_index = λ U e. rw (e ∙ sym c.row_in.ensures ∙ c.if-not-row_in.false) found;

@@ -13,6 +13,7 @@ use Rattle.slice.specs.Slices.{size, component}
 use Rattle.cst.proofs.Sets.{component-position}
 use Rattle.detour.proofs.Columns.{numbers-ext}
 use Rattle.detour.proofs.Order.{visited-none, visited-all, next-in, next-taken}
+use Rattle.detour.specs.Steps.Machine.{path_in}
 use Rattle.detour.proofs.write_replacements.Goals as goal
 
 pub loop-f-init : goal.loop-f-init
@@ -26,6 +27,7 @@ overflow_cast-f c =
     search (rules, (next-in _ _ _ _ _ _ _ _ _ _ l.invariant.0 _ l.invariant.1 c.loop-f-test.true).1)
 
 pub put_each-requires : goal.put_each-requires
+unfolding path_in
 put_each-requires c i h =
     let l = c.loop-f in
     let hit = c.and-hit.ensures ∙ ap (λ (p : ℕ → Bool). both p (component l.y)) c.path_of.ensures in
@@ -41,6 +43,7 @@ loop-f-smaller c =
     omega (arith, ap (count size) (c.put-x.ensures ∙ written-false _ _), count-take_out size l.f (component l.x) low high on)
 
 pub loop-f-preserved : goal.loop-f-preserved
+unfolding path_in
 loop-f-preserved c =
     let l = c.loop-f in
     let hit = c.and-hit.ensures ∙ ap (λ (p : ℕ → Bool). both p (component l.y)) c.path_of.ensures in
