@@ -1,4 +1,4 @@
--- `claim::weigh` meets its contract. The loop's invariant: the rows of the words before k are added. -- Assumes nothing.
+-- `claim::weigh` meets its contract. The loop's invariant: the rows of the words before k are added. Assumes nothing.
 use Rattle.std.proofs.Common.{◌≡◌, ◌+◌, ◌*◌, sym, refl, ◌∙◌, arith}
 use Rattle.rowset.proofs.Signed.{total-flipped}
 use Rattle.rowset.specs.Bytes.{in_row}

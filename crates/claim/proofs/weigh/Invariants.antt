@@ -1,4 +1,4 @@
--- `claim::weigh` meets its contract. The loop's invariant: the rows of the words before k are added. -- Assumes nothing.
+-- `claim::weigh` meets its contract. The loop's invariant: the rows of the words before k are added. Assumes nothing.
 use Rattle.std.proofs.Common.{◌-◌, ◌*◌, ◌≤◌}
 use Rattle.slice.specs.Slices.{component}
 use Rattle.claim.specs.Steps.Added.{Added}

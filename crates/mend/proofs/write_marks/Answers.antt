@@ -1,4 +1,4 @@
--- `mend::write_marks` meets its contract. The loop's invariant: the first i bytes are those of the mended claim, and the others as they were. -- Assumes nothing.
+-- `mend::write_marks` meets its contract. The loop's invariant: the first i bytes are those of the mended claim, and the others as they were. Assumes nothing.
 use native.Mathlib.Omega.{arith}
 use Rattle.mend.proofs.Redrawn.{redrawing-none, redrawing-more, redrawing-all}
 use Rattle.mend.proofs.write_marks.Goals as goal

@@ -1,4 +1,4 @@
--- `outlets_swaps::find_again` meets its contract. The loop's invariant: the numbers before place j are written, and the others as they were. -- Assumes nothing.
+-- `outlets_swaps::find_again` meets its contract. The loop's invariant: the numbers before place j are written, and the others as they were. Assumes nothing.
 use Prim.Native.Nat.{◌-◌}
 use lib.ListN.{length}
 use mathlib.Core.Path.{◌≡◌}

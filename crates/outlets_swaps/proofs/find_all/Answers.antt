@@ -1,4 +1,4 @@
--- `outlets_swaps::find_all` meets its contract. The loop's invariant: the numbers before place j are written, and the others as they were. -- Assumes nothing.
+-- `outlets_swaps::find_all` meets its contract. The loop's invariant: the numbers before place j are written, and the others as they were. Assumes nothing.
 use mathlib.Core.Path.{sym, ◌∙◌}
 use native.Mathlib.Omega.{arith}
 use Rattle.outlets_swaps.proofs.Fills.{filling-none, filling-more, filling-all}

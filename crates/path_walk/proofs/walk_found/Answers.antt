@@ -1,4 +1,4 @@
--- `path_walk::walk_found` meets its contract. The loop's invariant: where MATCH gives the rows with each end, the state is that after `k` steps from where the loop begins. -- Assumes nothing.
+-- `path_walk::walk_found` meets its contract. The loop's invariant: where MATCH gives the rows with each end, the state is that after `k` steps from where the loop begins. Assumes nothing.
 use Prim.Native.Nat.{◌-◌}
 use Rattle.path_walk.specs.Steps.Walks.{State, step, steps}
 use Rattle.slice_words.proofs.Laws.{component-words}

@@ -1,4 +1,4 @@
--- `slice::fnd` meets its contract. The loop's invariant: no component in the words below `k` is 1. -- Assumes nothing.
+-- `slice::fnd` meets its contract. The loop's invariant: no component in the words below `k` is 1. Assumes nothing.
 use Prim.Native.Nat.{ℕ, suc, ◌+◌, ◌-◌, ◌*◌, ◌^◌, ◌<◌}
 use mathlib.Core.Logic.{by_cases}
 use mathlib.Core.Path.{◌≡◌, sym, ap, ◌∙◌}

@@ -1,4 +1,4 @@
--- `slice::fnd` meets its contract. The loop's invariant: no component in the words below `k` is 1. -- Assumes nothing.
+-- `slice::fnd` meets its contract. The loop's invariant: no component in the words below `k` is 1. Assumes nothing.
 use Prim.Native.Nat.{◌≤◌}
 use Rattle.slice.proofs.Laws.{Clear}
 use Rattle.slice.proofs.fnd.Given as goal

@@ -1,5 +1,5 @@
 -- `slice_planes::block` meets its contract. The loop's invariant: the block so far has the bytes of the rows from number l on.
--- The measure is l. Assumes nothing.
+-- Assumes nothing.
 use mathlib.Core.Path.{◌≡◌, sym}
 use Prim.Native.Nat.{ℕ, ◌+◌, ◌*◌, ◌-◌, ◌^◌, ◌<◌}
 use native.Mathlib.Omega.{arith}

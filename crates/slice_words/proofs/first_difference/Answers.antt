@@ -1,4 +1,4 @@
--- `slice_words::first_difference` meets its contract. The loop's invariant: the slices have the same components in the words below `k`. -- Assumes nothing.
+-- `slice_words::first_difference` meets its contract. The loop's invariant: the slices have the same components in the words below `k`. Assumes nothing.
 use mathlib.Core.Path.{sym}
 use native.Mathlib.Omega.{arith}
 use Rattle.rowset.proofs.Laws.{uppermost-zero}

@@ -1,4 +1,4 @@
--- `slice_words::first_difference` meets its contract. The loop's invariant: the slices have the same components in the words below `k`. -- Assumes nothing.
+-- `slice_words::first_difference` meets its contract. The loop's invariant: the slices have the same components in the words below `k`. Assumes nothing.
 use Prim.Native.Nat.{◌≤◌}
 use Rattle.rowset.specs.Sets.{one_of}
 use Rattle.rowset.specs.Words.{in_words}

@@ -1,4 +1,4 @@
--- `table::append` meets its contract. The loop's invariant: the columns before index j are right. -- Assumes nothing.
+-- `table::append` meets its contract. The loop's invariant: the columns before index j are right. Assumes nothing.
 use mathlib.Core.Path.{◌≡◌}
 use lib.ListN.{length}
 use borrow.Author.Rules.{rules}

@@ -1,4 +1,4 @@
--- `table::append` meets its contract. The loop's invariant: the columns before index j are right. -- Assumes nothing.
+-- `table::append` meets its contract. The loop's invariant: the columns before index j are right. Assumes nothing.
 use Prim.Native.Nat.{suc}
 use mathlib.Core.Path.{◌≡◌}
 use Rattle.slice.specs.Slices.{component}

@@ -1,4 +1,4 @@
--- `table::row_of` meets its contract. The loop's invariant: r is the number in the first columns. -- Assumes nothing.
+-- `table::row_of` meets its contract. The loop's invariant: r is the number in the first columns. Assumes nothing.
 use Prim.Native.Nat.{ℕ, suc, ◌+◌, ◌*◌, ◌^◌, ◌≤◌, ◌<◌}
 use mathlib.Core.Path.{◌≡◌, ap, ◌∙◌}
 use native.Mathlib.Nat.{zero-add, lt_of_lt_of_le}

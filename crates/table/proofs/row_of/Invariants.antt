@@ -1,4 +1,4 @@
--- `table::row_of` meets its contract. The loop's invariant: r is the number in the first columns. -- Assumes nothing.
+-- `table::row_of` meets its contract. The loop's invariant: r is the number in the first columns. Assumes nothing.
 use mathlib.Core.Path.{◌≡◌}
 use Rattle.rowset.specs.Columns.{in_columns}
 use Rattle.table.specs.Tables.{column}

@@ -1,4 +1,4 @@
--- `table_loads::put_bytes` meets its contract. The loop's invariant: the bytes before `offset` are stored. -- Assumes nothing.
+-- `table_loads::put_bytes` meets its contract. The loop's invariant: the bytes before `offset` are stored. Assumes nothing.
 use Prim.Native.Nat.{◌+◌, ◌*◌, ◌-◌}
 use mathlib.Core.Path.{◌≡◌, refl, ap, ◌∙◌}
 use native.Mathlib.Numerals.{add-one}

@@ -1,4 +1,4 @@
--- `table_loads::put_planes` meets its contract. The loop's invariant: the planes before k are stored. -- Assumes nothing.
+-- `table_loads::put_planes` meets its contract. The loop's invariant: the planes before k are stored. Assumes nothing.
 use Prim.Native.Nat.{◌*◌, ◌-◌}
 use mathlib.Core.Path.{◌≡◌, refl, ap₂}
 use lib.ListN.{set}

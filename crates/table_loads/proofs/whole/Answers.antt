@@ -1,4 +1,4 @@
--- `table_loads::whole` meets its contract. The loop's invariant: the blocks before g are right. -- Assumes nothing.
+-- `table_loads::whole` meets its contract. The loop's invariant: the blocks before g are right. Assumes nothing.
 use mathlib.Core.Path.{refl}
 use native.Mathlib.Omega.{arith}
 use Rattle.slice_planes.specs.Steps.Blocks.{block_of}
