@@ -2,7 +2,7 @@
 
 #![tactic(auto)]
 
-ghost use Rattle.std.specs.Prelude.{◌≡◌, ℕ, ◌+◌, ◌*◌, ◌≤◌, ◌<◌, ◌^◌};
+ghost use Rattle.std.specs.Prelude.{◌≡◌, ℕ, ◌+◌, ◌*◌, ◌≤◌, ◌<◌, ◌^◌, is_ok, eqb};
 ghost use Rattle.rowset.specs.Sets.{empty};
 ghost use Rattle.slice.specs.Slices.{component};
 ghost use Rattle.table.specs.Tables.{column, row};
@@ -92,6 +92,7 @@ fn load(column: &[u8], count: u32) -> Result<Table, Refusal>
     requires { (1 ≤ count) × (count ≤ 4) }
     ensures refusal { refusal_in result ≡ load_refusal count column.now }
     ensures rows { row (table_in result) ≡ loaded_row count column.now }
+    ensures taken { is_ok result ≡ eqb (load_refusal count column.now).number 0 }
 {
     let bytes = count as usize;
     if bytes * slice::SIZE < column.len() {
@@ -107,6 +108,7 @@ fn load(column: &[u8], count: u32) -> Result<Table, Refusal>
 pub fn load_bytes(column: &[u8]) -> Result<Table, Refusal>
     ensures refusal { refusal_in result ≡ load_refusal 1 column.now }
     ensures rows { row (table_in result) ≡ loaded_row 1 column.now }
+    ensures taken { is_ok result ≡ eqb (load_refusal 1 column.now).number 0 }
 {
     load(column, 1)
 }
@@ -115,6 +117,7 @@ pub fn load_bytes(column: &[u8]) -> Result<Table, Refusal>
 pub fn load_quads(column: &[u8]) -> Result<Table, Refusal>
     ensures refusal { refusal_in result ≡ load_refusal 4 column.now }
     ensures rows { row (table_in result) ≡ loaded_row 4 column.now }
+    ensures taken { is_ok result ≡ eqb (load_refusal 4 column.now).number 0 }
 {
     load(column, 4)
 }

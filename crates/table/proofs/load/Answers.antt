@@ -1,5 +1,5 @@
 -- `table::load` meets its contract: each way out has the column's length that its answer asks for. Assumes nothing.
-use mathlib.Core.Path.{◌≡◌, sym, ◌∙◌}
+use mathlib.Core.Path.{◌≡◌, refl, sym, ◌∙◌}
 use Rattle.table.specs.Loads.{load_refused, load_refusal, refusal_in, table_in}
 use Rattle.table.proofs.Laws.{columns-of-zero, rows-of-empty}
 use Rattle.table.proofs.Loads.{load-long, load-uneven, load-taken, loaded-refused, loaded-taken, upper-all}
@@ -12,6 +12,7 @@ returns-then-bytes-column c =
     let e : load_refusal a.count a.column.now ≡ load_refused 2 = load-long _ _ c.if-bytes-column.true in record {
       refusal = c.of.ensures ∙ sym e;
       rows = rows-of-empty _ columns-of-zero ∙ sym (loaded-refused _ _ _ e);
+      taken = rw e refl;
     }
 
 pub returns-then-column-bytes-ne0 : goal.returns-then-column-bytes-ne0
@@ -21,6 +22,7 @@ returns-then-column-bytes-ne0 c =
     let e : load_refusal a.count a.column.now ≡ load_refused 3 = load-uneven _ _ c.if-bytes-column.false c.if-column-bytes-ne0.true in record {
       refusal = c.of-then-column-bytes-ne0.ensures ∙ sym e;
       rows = rows-of-empty _ columns-of-zero ∙ sym (loaded-refused _ _ _ e);
+      taken = rw e refl;
     }
 
 pub returns : goal.returns
@@ -30,4 +32,5 @@ returns c =
     let e : load_refusal a.count a.column.now ≡ load_refused 0 = load-taken _ _ c.if-bytes-column.false c.if-column-bytes-ne0.false in record {
       refusal = sym e;
       rows = c.filled.ensures ∙ upper-all _ _ c.if-bytes-column.false ∙ sym (loaded-taken _ _ e);
+      taken = rw e refl;
     }
