@@ -16,13 +16,18 @@ ln -s "$clang" "$work/wasm-ld"
 wasm="--target=wasm32-unknown-unknown"
 layout=$(echo | "$clang" $wasm -x c -S -emit-llvm -o - - | grep '^target datalayout')
 
-# The code for this machine with the other machine's layout and name.
+# The code for this machine with the other machine's layout and name. Where two values are loaded at
+# once and one of them is a pointer, the second stands eight bytes on, though a pointer has four.
+pair='  \1.0 = load \2, ptr \4\n  \1.at = getelementptr i8, ptr \4, i64 8\n  \1.1 = load \3, ptr \1.at'
+pair="$pair"'\n  \1.p = insertvalue { \2, \3 } poison, \2 \1.0, 0\n  \1 = insertvalue { \2, \3 } \1.p, \3 \1.1, 1'
 retarget() {
     "$clang" --target="$(uname -m)-unknown-linux-gnu" -x ir "$1" -S -emit-llvm -O0 \
         -Xclang -disable-llvm-passes -o - |
-        sed -e "s|^target datalayout.*|$layout|" \
+        sed -E -e "s|^target datalayout.*|$layout|" \
             -e 's|^target triple.*|target triple = "wasm32-unknown-unknown"|' \
             -e 's|ptrtoaddr ptr|ptrtoint ptr|' \
+            -e "s/^ *(%[^ ]+) = load \{ ([a-z0-9]+), (ptr) \}, ptr (%[^ ,]+).*/$pair/" \
+            -e "s/^ *(%[^ ]+) = load \{ (ptr), ([a-z0-9]+) \}, ptr (%[^ ,]+).*/$pair/" \
             -e 's| "probe-stack"="inline-asm" "stack-probe-size"="[0-9]*" "target-cpu"="[^"]*"||'
 }
 
