@@ -43,13 +43,10 @@ done
     -o "$work/star.o"
 # With no optimisation, which would make a call of itself of it.
 "$clang" $wasm -O0 -ffreestanding -c page/freestanding/multi3.c -o "$work/multi3.o"
-# For size, but for the readers of STP texts, which call each other once a section: with more calls
-# and frames than -O2 leaves, the deepest text does not fit a browser's stack.
+# For size.
 for crate; do
-    level=-Oz
-    case $crate in stp_door | digs_door) level=-O2 ;; esac
     retarget "$from/$crate.bc" >"$work/$crate.ll"
-    "$clang" $wasm $level -Werror -x ir -c "$work/$crate.ll" -o "$work/$crate.o"
+    "$clang" $wasm -Oz -Werror -x ir -c "$work/$crate.ll" -o "$work/$crate.o"
     objects="$objects $work/$crate.o"
 done
 
