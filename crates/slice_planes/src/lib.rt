@@ -3,7 +3,7 @@
 
 #![tactic(auto)]
 
-ghost use Rattle.std.specs.Prelude.{◌≡◌, ℕ, ◌+◌, ◌<◌, ◌*◌, ◌^◌, get_or, []};
+ghost use Rattle.std.specs.Prelude.{◌≡◌, ℕ, ◌+◌, ◌<◌, ◌*◌, ◌%◌, ◌^◌, get_or, []};
 ghost use Rattle.slice_planes.specs.Planes.{plane, bit_plane};
 ghost use Rattle.slice_planes.specs.Steps.Blocks.{block_of, word_of};
 
@@ -46,11 +46,11 @@ fn gather(column: &[u8], stride: usize, offset: usize, q: usize) -> [u64; 8]
     array::from_fn(|g| block(column, stride, offset, BITS * q + g))
 }
 
-// The bits k of the bytes of eight blocks.
+// The bits k of the bytes of eight blocks, for k of 0 to 7; any other k is taken modulo 8.
 pub fn word(blocks: &[u64; 8], k: usize) -> u64
-    requires { k < 8 }
-    ensures { result ≡ word_of blocks.now k 0 }
+    ensures { result ≡ word_of blocks.now (k % 8) 0 }
 {
+    let k = k % 8;
     let mut word: u64 = 0;
     for g in (0..8).rev() {
         word = word * 2 + ((blocks[g] >> k) & LOWEST);
