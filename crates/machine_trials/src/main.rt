@@ -3,13 +3,12 @@
 
 #![tactic(auto)]
 
-use refusal::Refusal;
 use search_great::Compared;
 use search_match::Matched;
 use slice::Slice;
 use std::io;
 use std::io::Read;
-use table::Table;
+use table::{RefusedLoad, Table};
 
 // A number after a blank.
 fn number(rt: &impl Print, x: usize) -> io::Result<()> {
@@ -115,10 +114,21 @@ fn rows_right(t: &Table, taken: usize, rows: Rows) -> usize {
 }
 
 // Whether a load was taken, or why it was not.
-fn taken_or_refused(rt: &impl Print, loaded: &Result<Table, Refusal>) -> io::Result<()> {
+fn taken_or_refused(rt: &impl Print, loaded: &Result<Table, RefusedLoad>) -> io::Result<()> {
     match loaded {
         Ok(_) => print!(rt; " taken"),
-        Err(refusal) => print!(rt; " refused {} {}", refusal.number, refusal.place),
+        Err(refused) => {
+            let refusal = refused.refusal;
+            print!(rt; " refused {} {}", refusal.number, refusal.place)
+        }
+    }
+}
+
+// The table that a load gives, also where it is refused.
+fn table_in(loaded: &Result<Table, RefusedLoad>) -> &Table {
+    match loaded {
+        Ok(table) => table,
+        Err(refused) => &refused.table,
     }
 }
 
@@ -130,10 +140,10 @@ fn report(rt: &(impl Input + Print), column: &[u8], taken: usize, rows: Rows) ->
     };
     label(rt)?;
     taken_or_refused(rt, &loaded)?;
-    let t = loaded.unwrap_or(Table::ZERO);
-    let right = rows_right(&t, taken, rows);
-    let first = table::row_of(t, 1);
-    let last = table::row_of(t, 1024);
+    let t = table_in(&loaded);
+    let right = rows_right(t, taken, rows);
+    let first = table::row_of(*t, 1);
+    let last = table::row_of(*t, 1024);
     print!(rt; ", rows read back {right}, row 1 {first}, row 1024 {last}\n")
 }
 
@@ -179,7 +189,7 @@ fn small() -> Table {
     let column = [
         5u8, 0, 0, 0, 3, 0, 0, 0, 5, 0, 0, 0, 4, 0, 0, 0, 255, 255, 255, 255, 3, 0, 0, 0,
     ];
-    table::load_quads(&column).unwrap_or(Table::ZERO)
+    *table_in(&table::load_quads(&column))
 }
 
 // A slice of these rows.

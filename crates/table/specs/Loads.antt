@@ -1,11 +1,12 @@
 -- Loads: what a table holds after a column of bytes is loaded, with one byte a row or four, and when a column is refused.
 -- At the end, the theorem that a table loaded into bit columns reads back row by row as it was. Assumes nothing.
-use Rattle.std.specs.Prelude.{ℕ, ◌+◌, ◌*◌, ◌%◌, ◌≤◌, ◌<◌, cond, List, ◌↔◌, ◌≡◌, eqb, ltb, length, get_or, replicate, Result, Ok, Err}
+use Rattle.std.specs.Prelude.{ℕ, ◌+◌, ◌*◌, ◌%◌, ◌≤◌, ◌<◌, cond, List, ◌↔◌, ◌≡◌, eqb, ltb, length, get_or, Result, Ok, Err}
 use Rattle.refusal.specs.declared.Refusal.{Refusal}
 use Rattle.rowset.specs.Bytes.{in_row}
 use Rattle.slice.specs.Slices.{size}
-use Rattle.table.specs.Tables.{blank, width, row}
+use Rattle.table.specs.Tables.{row}
 use Rattle.table.specs.declared.Table.{Table}
+use Rattle.table.specs.declared.RefusedLoad.{RefusedLoad}
 
 -- the refusal record with this number and place 0; number 0 says that nothing is refused
 abbrev pub load_refused : ℕ → Refusal
@@ -21,14 +22,14 @@ load_refusal k l = cond (ltb (k * size) (length l)) (load_refused 2) (cond (eqb 
 unfoldable pub loaded_row : ℕ → List ℕ → ℕ → ℕ
 loaded_row k l i = cond (eqb (load_refusal k l).number 0) (in_row k l i) 0
 
--- what a load gives: its refusal, with number 0 where it is taken, and its table, the table of zeros where it is refused
-unfoldable pub refusal_in : Result Table Refusal → Refusal
+-- what a load gives: its refusal, with number 0 where it is taken, and its table
+unfoldable pub refusal_in : Result Table RefusedLoad → Refusal
 refusal_in (Ok t) = load_refused 0
-refusal_in (Err r) = r
+refusal_in (Err d) = d.refusal
 
-unfoldable pub table_in : Result Table Refusal → Table
+unfoldable pub table_in : Result Table RefusedLoad → Table
 table_in (Ok t) = t
-table_in (Err r) = record { columns = replicate width blank }
+table_in (Err d) = d.table
 
 -- After loading, ROW gives each row as the number handed in. Of a column l and a table t,
 -- with one byte a row: row 1 is the first byte, and so on, and the rows past the column's end are 0;

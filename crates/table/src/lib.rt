@@ -6,7 +6,7 @@ ghost use Rattle.std.specs.Prelude.{◌≡◌, ℕ, ◌+◌, ◌*◌, ◌≤◌,
 ghost use Rattle.rowset.specs.Sets.{empty};
 ghost use Rattle.slice.specs.Slices.{component};
 ghost use Rattle.table.specs.Tables.{column, row};
-ghost use Rattle.table.specs.Loads.{load_refusal, loaded_row, refusal_in, table_in};
+ghost use Rattle.table.specs.Loads.{load_refused, load_refusal, loaded_row, refusal_in, table_in};
 ghost use Rattle.table.specs.Steps.Loading.{byte_in, upper_bytes};
 
 use refusal::{Cause, Refusal};
@@ -22,6 +22,13 @@ const UPPER: usize = 24;
 #[derive(Clone, Copy)]
 pub struct Table {
     pub columns: [Slice; WIDTH],
+}
+
+// What a refused load gives: the refusal, and the table of zeros.
+#[derive(Clone, Copy)]
+pub struct RefusedLoad {
+    pub refusal: Refusal,
+    pub table: Table,
 }
 
 impl Table {
@@ -87,8 +94,19 @@ fn filled(column: &[u8], count: u32) -> Table
     t
 }
 
+// A load that is refused with this number: the table of zeros.
+fn declined(number: u32) -> RefusedLoad
+    ensures refusal { result.refusal ≡ load_refused number }
+    ensures rows { row result.table ≡ (λ i. 0) }
+{
+    RefusedLoad {
+        refusal: Refusal::of(number),
+        table: Table::zero(),
+    }
+}
+
 // A load of a column with `count` bytes a row.
-fn load(column: &[u8], count: u32) -> Result<Table, Refusal>
+fn load(column: &[u8], count: u32) -> Result<Table, RefusedLoad>
     requires { (1 ≤ count) × (count ≤ 4) }
     ensures refusal { refusal_in result ≡ load_refusal count column.now }
     ensures rows { row (table_in result) ≡ loaded_row count column.now }
@@ -96,16 +114,16 @@ fn load(column: &[u8], count: u32) -> Result<Table, Refusal>
 {
     let bytes = count as usize;
     if bytes * slice::SIZE < column.len() {
-        return Err(Refusal::of(Cause::TooManyRows as u32));
+        return Err(declined(Cause::TooManyRows as u32));
     }
     if column.len() % bytes != 0 {
-        return Err(Refusal::of(Cause::BadLengths as u32));
+        return Err(declined(Cause::BadLengths as u32));
     }
     Ok(filled(column, count))
 }
 
 // A load of a column with one byte a row.
-pub fn load_bytes(column: &[u8]) -> Result<Table, Refusal>
+pub fn load_bytes(column: &[u8]) -> Result<Table, RefusedLoad>
     ensures refusal { refusal_in result ≡ load_refusal 1 column.now }
     ensures rows { row (table_in result) ≡ loaded_row 1 column.now }
     ensures taken { is_ok result ≡ eqb (load_refusal 1 column.now).number 0 }
@@ -114,7 +132,7 @@ pub fn load_bytes(column: &[u8]) -> Result<Table, Refusal>
 }
 
 // A load of a column with four bytes a row, least significant first.
-pub fn load_quads(column: &[u8]) -> Result<Table, Refusal>
+pub fn load_quads(column: &[u8]) -> Result<Table, RefusedLoad>
     ensures refusal { refusal_in result ≡ load_refusal 4 column.now }
     ensures rows { row (table_in result) ≡ loaded_row 4 column.now }
     ensures taken { is_ok result ≡ eqb (load_refusal 4 column.now).number 0 }
