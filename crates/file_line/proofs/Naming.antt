@@ -1,6 +1,6 @@
 -- A name's letters and bytes, as std says that some byte passes or all do. Assumes nothing.
 use Prim.Native.Nat.{ℕ}
-use mathlib.Core.Bool.{◌&&◌}
+use mathlib.Core.Bool.{◌&&◌, and_comm}
 use mathlib.Core.List.{List, [], ◌∷◌}
 use mathlib.Core.Path.{◌≡◌, refl}
 use Rattle.std.specs.List.{list_any, list_all}
@@ -16,6 +16,6 @@ unfolding all_of_names
 each-of [] = refl
 each-of (b ∷ t) = rw (each-of t)
 
-pub named : (w : List ℕ) → is_name w ≡ (list_any is_letter w && list_all of_names w)
+pub named : (w : List ℕ) → is_name w ≡ (list_all of_names w && list_any is_letter w)
 unfolding is_name
-named w = rw (some-letter w, each-of w)
+named w = rw (some-letter w, each-of w, and_comm (list_any is_letter w) (list_all of_names w))

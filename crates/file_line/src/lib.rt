@@ -94,7 +94,7 @@ fn all_of_names(w: &[u8]) -> bool
 fn is_name(w: &[u8]) -> bool
     ensures { result ≡ is_name w.now }
 {
-    any_letter(w) && all_of_names(w)
+    all_of_names(w) && any_letter(w)
 }
 
 // The end that a part of the text is: a number from 1 to 255, or a name.

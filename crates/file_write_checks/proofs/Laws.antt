@@ -3,7 +3,7 @@ use Prim.Native.Nat.{ℕ, zero, suc, ◌+◌, ◌*◌, ◌-◌, ◌/◌, ◌%◌
 use borrow.Author.Tests.{eq-eqb, ne_eqb, eqb-true, eqb-false, lt-ltb, le-ltb, ltb-false}
 use lib.Dec.{eqb, ltb}
 use lib.ListN.{length, get_or, drop, take}
-use mathlib.Core.Bool.{Bool, true, false, not, cond, ◌&&◌, ◌||◌}
+use mathlib.Core.Bool.{Bool, true, false, not, cond, ◌&&◌, ◌||◌, and_comm}
 use mathlib.Core.List.{List, [], ◌∷◌}
 use mathlib.Core.Option.{Option, none, some}
 use mathlib.Core.Path.{◌≡◌, refl, sym, ◌∙◌}
@@ -39,9 +39,9 @@ unfolding all_fit
 all-fit s [] = refl
 all-fit s (b ∷ t) = rw (all-fit s t)
 
-pub name_fitting : (s : ℕ) (w : List ℕ) → name_fits s w ≡ ((list_any is_letter w && list_all (fits s) w) && full w)
+pub name_fitting : (s : ℕ) (w : List ℕ) → name_fits s w ≡ ((list_all (fits s) w && list_any is_letter w) && full w)
 unfolding name_fits
-name_fitting s w = rw (some-letter w, all-fit s w)
+name_fitting s w = rw (some-letter w, all-fit s w, and_comm (list_any is_letter w) (list_all (fits s) w))
 
 -- ── Edges ──
 

@@ -81,7 +81,7 @@ fn edges_full(w: &[u8]) -> bool
 fn name_fits(s: u8, w: &[u8]) -> bool
     ensures { result ≡ name_fits s w.now }
 {
-    any_letter(w) && bytes_fit(s, w) && edges_full(w)
+    bytes_fit(s, w) && any_letter(w) && edges_full(w)
 }
 
 // What is wrong with the name of a junction: its cause, if it has one.
