@@ -46,7 +46,7 @@ pub same-opening : (text : List ℕ) → pointwise eqb (239 ∷ 187 ∷ 191 ∷ 
 unfolding opens_marked
 same-opening text = sym (same-bytes (take 3 text) (239 ∷ 187 ∷ 191 ∷ []))
 
-opens-short : (text : List ℕ) → length text < 3 → opens_marked text ≡ false
+pub opens-short : (text : List ℕ) → length text < 3 → opens_marked text ≡ false
 unfolding opens_marked equal
 opens-short [] h = refl
 opens-short (a ∷ []) h = and_none (eqb a 239)
