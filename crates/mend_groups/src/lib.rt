@@ -29,9 +29,7 @@ pub fn rename_all(labels: &mut [u8], x: u8, y: u8)
     ensures { labels.new ≡ all_renamed labels.old x y }
 {
     for label in labels.iter_mut() {
-        if *label == x {
-            *label = y;
-        }
+        *label = if *label == x { y } else { *label };
     }
 }
 

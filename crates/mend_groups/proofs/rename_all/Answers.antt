@@ -12,8 +12,8 @@ pub loop-label-preserved : goal.loop-label-preserved
 loop-label-preserved c =
     let l = c.loop-label in
     elim c.if-label-x.branch [
-      | then-label-x w ↦ rw w.labels-is (renaming-more _ _ _ _ _ _ (omega arith) (renamed-same _ _ _ w.if-label-x.true) l.invariant)
-      | else-label-x w ↦ rw w.labels-is (renaming-more _ _ _ _ _ _ (omega arith) (renamed-other _ _ _ w.if-label-x.false) l.invariant)
+      | then-label-x w ↦ rw w.label-is (renaming-more _ _ _ _ _ _ (omega arith) (renamed-same _ _ _ w.if-label-x.true) l.invariant)
+      | else-label-x w ↦ rw w.label-is (renaming-more _ _ _ _ _ _ (omega arith) (renamed-other _ _ _ w.if-label-x.false) l.invariant)
     ]
 
 pub returns : goal.returns
