@@ -3,7 +3,7 @@
 
 #![tactic(auto)]
 
-ghost use Rattle.std.specs.Prelude.{ℕ, suc, ◌+◌, ◌-◌, ◌*◌, ◌<◌, ◌≤◌, cond, ◌++◌, ◌≡◌, length, take, drop, replicate};
+ghost use Rattle.std.specs.Prelude.{ℕ, suc, ◌+◌, ◌-◌, ◌*◌, ◌<◌, ◌≤◌, cond, ◌++◌, ◌≡◌, ◌≢◌, length, take, drop, replicate};
 ghost use Rattle.refusal.specs.Outcomes.{refusal_of};
 ghost use Rattle.rowset.specs.Sets.{put, count};
 ghost use Rattle.rowset.specs.Words.{column_words, in_words};
@@ -78,11 +78,14 @@ fn write_row<const N: usize>(column: &mut [u8], row: usize, bytes: [u8; N])
     column[at..at + N].copy_from_slice(&bytes);
 }
 
-// The words become those of a slice.
+// The words become those of a slice. Words that are not sixteen stay as they were.
 pub fn write_rows(words: &mut [u64], x: Slice)
-    requires { length words.old ≡ column_words }
-    ensures { words.new ≡ words_of (component x) }
+    ensures stored { length words.old ≡ column_words → words.new ≡ words_of (component x) }
+    ensures kept { length words.old ≢ column_words → words.new ≡ words.old }
 {
+    if words.len() != WORDS {
+        return;
+    }
     words.copy_from_slice(&x.words);
 }
 

@@ -33,11 +33,14 @@ pub fn rename_all(labels: &mut [u8], x: u8, y: u8)
     }
 }
 
-// Each vertex is a group of its own.
+// Each vertex is a group of its own. More than 255 labels stay as they were.
 pub fn own_labels(labels: &mut [u8])
-    requires { length labels.old ≤ 255 }
-    ensures { labels.new ≡ labels_from 0 (length labels.old) }
+    ensures stored { length labels.old ≤ 255 → labels.new ≡ labels_from 0 (length labels.old) }
+    ensures kept { 255 < length labels.old → labels.new ≡ labels.old }
 {
+    if VERTICES < labels.len() {
+        return;
+    }
     for (i, label) in labels.iter_mut().enumerate() {
         *label = (i + 1) as u8;
     }

@@ -61,7 +61,7 @@ returns c =
     let i = c.last_row-row.result + 1 in
     record {
       position = ap (λ k. k + 1) l ∙ add-one _;
-      rows = c.write_rows.ensures ∙ ap words_of (c.put.ensures ∙ written-true _ i (in-up_to size i (omega arith) (omega arith)) ∙ ap (λ p. put p i) c.rows_in_use-x.ensures);
+      rows = c.write_rows.ensures.stored c.requires.words_bound.1 ∙ ap words_of (c.put.ensures ∙ written-true _ i (in-up_to size i (omega arith) (omega arith)) ∙ ap (λ p. put p i) c.rows_in_use-x.ensures);
       lefts = c.write_row.ensures c.args.a (c.to_le_bytes.ensures ∙ byte_same c.args.a (omega arith));
       rights = c.write_row-2.ensures c.args.b (c.to_le_bytes-2.ensures ∙ byte_same c.args.b (omega arith));
       weights = c.write_row-3.ensures c.args.price (c.to_le_bytes-3.ensures ∙ bytes_same c.args.price);

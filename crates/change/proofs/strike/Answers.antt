@@ -40,5 +40,5 @@ returns c =
     let a = c.args in
     let e = strike-done a.words.now a.row (used (goal.at.returns c).After-get true c.if-not-get.false) c.if-words-ne-WORDS.false in record {
       answer = sym e;
-      rows = c.write_rows.ensures ∙ ap words_of (c.put.ensures ∙ written-false _ a.row ∙ ap (λ q. take_out q a.row) c.rows_in_use-x.ensures) ∙ sym (struck a.words.now a.row e);
+      rows = c.write_rows.ensures.stored c.if-words-ne-WORDS.false ∙ ap words_of (c.put.ensures ∙ written-false _ a.row ∙ ap (λ q. take_out q a.row) c.rows_in_use-x.ensures) ∙ sym (struck a.words.now a.row e);
     }

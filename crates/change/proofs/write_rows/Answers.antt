@@ -15,4 +15,7 @@ returns c =
     let words : length x.words ≡ 16 = search rules in
     let small : (k : ℕ) → Fits w64 (get_or x.words k 0) = λ k. search rules in
     let stored : SixteenWords x = record { sixteen = words; fits = λ k h. (small k).fits } in
-    c.copy_from_slice.ensures.after ∙ slice-words x stored
+    record {
+      stored = λ h. c.copy_from_slice.ensures.after ∙ slice-words x stored;
+      kept = λ h. absurd (h c.if-words-ne-WORDS.false);
+    }

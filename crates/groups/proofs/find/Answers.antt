@@ -5,4 +5,4 @@ use Rattle.groups.proofs.find.Goals as goal
 
 pub returns : goal.returns
 returns c =
-    let told = visits-found _ _ _ _ _ _ c.visit_rows.ensures c.own_labels.ensures in record { labels = told.0; rings = told.1 }
+    let told = visits-found _ _ _ _ _ _ c.visit_rows.ensures (c.own_labels.ensures.stored c.requires) in record { labels = told.0; rings = told.1 }

@@ -18,7 +18,7 @@ pub returns : goal.returns
 unfolding two_passes
 returns c =
     let a = c.args in
-    let first = c.drop_rings-ringless.ensures.passed ∙ ap (λ (l : List ℕ). visits (drop_at a.left.now a.right.now) a.m (record { marks = component a.marked; count = 0; list = a.list.now; own = l })) c.own_labels.ensures in
+    let first = c.drop_rings-ringless.ensures.passed ∙ ap (λ (l : List ℕ). visits (drop_at a.left.now a.right.now) a.m (record { marks = component a.marked; count = 0; list = a.list.now; own = l })) (c.own_labels.ensures.stored (omega arith)) in
     let all = c.close_gaps.ensures.passed ∙ ap (visits (add_at (component a.used) a.left.now a.right.now) a.m) first in
     record {
       marks = ap (λ (s : State). s.marks) all;

@@ -13,4 +13,8 @@ pub loop-i-preserved : goal.loop-i-preserved
 loop-i-preserved c = filled_more c.loop-i.invariant (omega arith) refl
 
 pub returns : goal.returns
-returns c = labels-whole _ _ c.loop-i.invariant.full (filled-all c.loop-i.invariant (omega arith))
+returns c =
+    let l = c.loop-i in record {
+      stored = λ h. labels-whole _ _ l.invariant.full (filled-all l.invariant (omega arith));
+      kept = λ h. absurd (omega arith);
+    }

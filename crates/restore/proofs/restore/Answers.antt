@@ -46,5 +46,5 @@ returns c =
     let e = restore-done a.words.now a.row t c.if-words-ne-WORDS.false in
     let s = struck-test a.words.now a.row t in record {
       answer = sym e;
-      rows = c.write_rows.ensures ∙ ap words_of (c.put.ensures ∙ written-true _ a.row (in-up_to size a.row s.0 s.1) ∙ ap (λ q. put q a.row) c.rows_in_use-x.ensures) ∙ sym (restored a.words.now a.row e);
+      rows = c.write_rows.ensures.stored c.if-words-ne-WORDS.false ∙ ap words_of (c.put.ensures ∙ written-true _ a.row (in-up_to size a.row s.0 s.1) ∙ ap (λ q. put q a.row) c.rows_in_use-x.ensures) ∙ sym (restored a.words.now a.row e);
     }
