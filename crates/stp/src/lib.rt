@@ -102,9 +102,9 @@ pub fn import(
 {
     match stp_reader::read(text) {
         Ok(table) => settle(&table, left, right, weight),
-        Err(place) => Err(Refusal {
+        Err(broken) => Err(Refusal {
             number: Cause::BadText as u32,
-            place: place as u32,
+            place: broken.at as u32,
         }),
     }
 }

@@ -16,8 +16,9 @@ use Rattle.stp_words.specs.Names.{same, is}
 use Rattle.stp_words.specs.Spans.{span_of}
 use Rattle.stp_words.specs.Text.{Word, words_at}
 use Rattle.stp_words.specs.declared.Span.{Span}
-use Rattle.stp_reader.specs.Readings.{Clean, read_of, stand_of, next_of}
-use Rattle.stp_reader.specs.Texts.{padded, table_of, text_of}
+use Rattle.stp_reader.specs.Readings.{Sized, Clean, read_of, stand_of, next_of}
+use Rattle.stp_reader.specs.Texts.{padded, table_of, broken_text, text_of}
+use Rattle.stp_reader.specs.declared.BrokenText.{BrokenText}
 use Rattle.stp_reader.specs.declared.Table.{Table}
 use Rattle.stp_reader.specs.declared.Stand as code
 use Rattle.stp_reader.specs.declared.Stand.TheVariants.{Heading, Sections, Naming, Skipping, Skipped, Ending, Nodes, NodeCount, Edges, EdgeCount, Lines, LeftEnd, RightEnd, Price, Closed}
@@ -151,9 +152,21 @@ still-open Closed h = absurd (h refl)
 
 -- ── The answer ──
 
-pub told-broken : (text : List ℕ) (p : ℕ) → read_text text ≡ broken p → Err p ≡ text_of (read_text text)
+pub told-broken : (text : List ℕ) (p : ℕ) {b : BrokenText} → b ≡ broken_text p → read_text text ≡ broken p → Err b ≡ text_of (read_text text)
 unfolding text_of
-told-broken text p e = rw e
+told-broken text p f e = rw (e, f)
+
+pub kept-broken : (text : List ℕ) (p : ℕ) {b : BrokenText} → b ≡ broken_text p → read_text text ≡ broken p → read_text text ≡ broken b.at
+unfolding broken_text
+kept-broken text p f e = rw f e
+
+pub place-broken : (p : ℕ) {b : BrokenText} → b ≡ broken_text p → p ≤ 65536 → b.at ≤ 65536
+unfolding broken_text
+place-broken p f h = rw f h
+
+pub sized-broken : (p : ℕ) {b : BrokenText} → b ≡ broken_text p → Sized b.table.left b.table.right b.table.weight
+unfolding broken_text table_of padded nothing_read
+sized-broken p f = rw f (record { lefts = refl; rights = refl; weights = refl })
 
 -- a table that is 0 past its rows is that of what was read
 whole-column : (n k : ℕ) (l : List ℕ) → length l ≡ n → drop k l ≡ replicate (n - k) 0 → padded n (take k l) ≡ l
@@ -162,7 +175,11 @@ whole-column n k l h e =
     let f : n - length (take k l) ≡ n - k = simp length-take (omega arith) in
     rw (f, ← e) (take-append-drop k l)
 
+pub whole_table : (t : Table) → Clean t → table_of (read_of t) ≡ t
+unfolding table_of read_of
+whole_table t c =
+    rw (whole-column 1024 t.rows t.left c.sized.lefts c.left, whole-column 1024 t.rows t.right c.sized.rights c.right, whole-column 4096 (4 * t.rows) t.weight c.sized.weights c.weight) refl
+
 pub told-whole : (text : List ℕ) (t : Table) → read_text text ≡ whole (read_of t) → Clean t → Ok t ≡ text_of (read_text text)
-unfolding text_of table_of read_of
-told-whole text t e c =
-    rw (e, whole-column 1024 t.rows t.left c.sized.lefts c.left, whole-column 1024 t.rows t.right c.sized.rights c.right, whole-column 4096 (4 * t.rows) t.weight c.sized.weights c.weight)
+unfolding text_of
+told-whole text t e c = rw (e, whole_table t c)

@@ -4,6 +4,7 @@ use Rattle.std.specs.Prelude.{ℕ, ◌*◌, ◌-◌, List, ◌≡◌, length, ta
 use Rattle.std.proofs.Math.Option.{none, some}
 use Rattle.stp_spec.specs.Reader.{Read, Reading, broken, whole, Next}
 use Rattle.stp_spec.specs.Reader as reader
+use Rattle.stp_reader.specs.declared.BrokenText.{BrokenText}
 use Rattle.stp_reader.specs.declared.Table.{Table}
 use Rattle.stp_reader.specs.declared.Stand.{Stand}
 use Rattle.stp_reader.specs.declared.Stand.TheVariants.{Heading, Sections, Naming, Skipping, Skipped, Ending, Nodes, NodeCount, Edges, EdgeCount, Lines, LeftEnd, RightEnd, Price, Closed}
@@ -58,6 +59,6 @@ next_of (Some s) r = some (stand_of s, r)
 next_of None r = none
 
 -- what the answer says of the text
-unfoldable pub reading_of : Result Table ℕ → Reading
+unfoldable pub reading_of : Result Table BrokenText → Reading
 reading_of (Ok t) = whole (read_of t)
-reading_of (Err place) = broken place
+reading_of (Err b) = broken b.at

@@ -1,7 +1,8 @@
--- What is answered of a text: the place where it is broken, and else its numbers and rows. Each column has zeros past its rows.
+-- What is answered of a text: its place where it is broken, and else its numbers and rows. Each column has zeros past its rows, and a broken text has zeros alone.
 -- Assumes nothing.
 use Rattle.std.specs.Prelude.{ℕ, ◌-◌, List, ◌++◌, length, replicate, Result, Ok, Err}
-use Rattle.stp_spec.specs.Reader.{Read, Reading, broken, whole}
+use Rattle.stp_spec.specs.Reader.{Read, Reading, broken, whole, nothing_read}
+use Rattle.stp_reader.specs.declared.BrokenText.{BrokenText}
 use Rattle.stp_reader.specs.declared.Table.{Table}
 
 -- a column of `size` bytes that begins with some, and else is 0
@@ -21,6 +22,10 @@ table_of r =
       weight = padded 4096 r.weight;
     }
 
-unfoldable pub text_of : Reading → Result Table ℕ
-text_of (broken place) = Err place
+-- a broken text: its place, and the table of zeros
+unfoldable pub broken_text : ℕ → BrokenText
+broken_text place = record { at = place; table = table_of nothing_read }
+
+unfoldable pub text_of : Reading → Result Table BrokenText
+text_of (broken place) = Err (broken_text place)
 text_of (whole r) = Ok (table_of r)

@@ -1,6 +1,6 @@
 -- Trials of what is answered of a text: of a broken one, and of one with two rows.
 -- Assumes nothing.
-use Rattle.std.specs.Prelude.{true, [], ◌∷◌, ◌≡◌, replicate, Ok, Err}
+use Rattle.std.specs.Prelude.{true, false, [], ◌∷◌, ◌≡◌, replicate, Ok, Err}
 use Rattle.stp_spec.specs.Reader.{Read, broken, whole}
 use Rattle.stp_reader.specs.Texts.{text_of}
 
@@ -17,7 +17,20 @@ two_rows =
     }
 
 pub record TrialsHold : Type 0 where
-  pub broken-holds : text_of (broken 7) ≡ Err 7
+  pub broken-holds : text_of (broken 7)
+      ≡ Err (record {
+        at = 7;
+        table =
+            record {
+              graph = false;
+              nodes = 0;
+              edges = 0;
+              rows = 0;
+              left = replicate 1024 0;
+              right = replicate 1024 0;
+              weight = replicate 4096 0;
+            };
+      })
   pub read-holds : text_of (whole two_rows)
       ≡ Ok (record {
         graph = true;

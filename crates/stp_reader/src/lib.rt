@@ -9,7 +9,7 @@ ghost use Rattle.stp_spec.specs.Import.{max_text, read_text};
 ghost use Rattle.stp_spec.specs.Reader.{Read, nothing_read, end_of, with_row, next, next_section, named, skip_line, graph_line};
 ghost use Rattle.stp_words.specs.Text.{Word};
 ghost use Rattle.stp_reader.specs.Readings.{Sized, Clean, read_of, stand_of, next_of, reading_of};
-ghost use Rattle.stp_reader.specs.Texts.{text_of};
+ghost use Rattle.stp_reader.specs.Texts.{broken_text, text_of};
 
 use stp_words::{next_word, number_of, price_of, same};
 
@@ -32,6 +32,13 @@ pub struct Table {
     pub left: [u8; ROWS],
     pub right: [u8; ROWS],
     pub weight: [u8; WEIGHT_BYTES],
+}
+
+// A text that is broken: the place, and a table of which the numbers and the columns are 0.
+#[derive(Clone, Copy)]
+pub struct BrokenText {
+    pub at: usize,
+    pub table: Table,
 }
 
 // Where the reader stands after the first word of a text, as in the definition of the layout: a number or a price that comes next, for one, or the first word of a line of Graph.
@@ -230,32 +237,45 @@ impl Table {
     }
 }
 
-// The whole text: the table that it holds, or the place where its layout is broken.
-pub fn read(text: &[u8]) -> Result<Table, usize>
+impl BrokenText {
+    // Nothing is kept of what was read before the place.
+    fn new(at: usize) -> BrokenText
+        ensures { result ≡ broken_text at }
+    {
+        BrokenText {
+            at,
+            table: Table::new(),
+        }
+    }
+}
+
+// The whole text: the numbers and rows that it holds, with zeros past them; a broken text has its place and zeros alone.
+pub fn read(text: &[u8]) -> Result<Table, BrokenText>
     ensures value { result ≡ text_of (read_text text.now) }
     ensures kept { read_text text.now ≡ reading_of result }
-    ensures place { IfErr result (λ p. p ≤ max_text) }
+    ensures place { IfErr result (λ b. b.at ≤ max_text) }
     ensures sized { IfOk result (λ t. Sized t.left t.right t.weight) }
+    ensures zeros { IfErr result (λ b. Sized b.table.left b.table.right b.table.weight) }
 {
     if MAX_TEXT < text.len() {
-        return Err(MAX_TEXT);
+        return Err(BrokenText::new(MAX_TEXT));
     }
     let opening = next_word(text, 0, true);
     if !same(&text[opening.from..opening.to], b"33D32945") {
-        return Err(opening.from);
+        return Err(BrokenText::new(opening.from));
     }
     let mut table = Table::new();
     let mut stand = Stand::Heading;
     let mut word = next_word(text, opening.to, false);
     while word.from < word.to {
         let Some(after) = table.next(stand, word.first, &text[word.from..word.to]) else {
-            return Err(word.from);
+            return Err(BrokenText::new(word.from));
         };
         stand = after;
         word = next_word(text, word.to, false);
     }
     match stand {
         Stand::Closed => Ok(table),
-        _ => Err(text.len()),
+        _ => Err(BrokenText::new(text.len())),
     }
 }

@@ -16,7 +16,7 @@ pub returns-in-Err : goal.returns-in-Err
 unfolding imported import_refusal left_after right_after weight_after reading_of answer_of
 returns-in-Err c =
     let e = c.in-Err.ensures.kept in
-    let b = broken-refused c.in-Err.place _ _ _ in
+    let b = broken-refused c.in-Err.broken.at _ _ _ in
     record {
       answer = rw e (answered-some _ _ b);
       lefts = rw e (filled-some _ _ _ b);
