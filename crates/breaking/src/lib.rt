@@ -9,12 +9,19 @@ ghost use Rattle.path_walk.specs.Steps.Walks.{walk};
 ghost use Rattle.slice.specs.Slices.{component};
 ghost use Rattle.in_use.specs.Tables.{table_in};
 ghost use Rattle.table.specs.Loads.{loaded_row};
-ghost use Rattle.breaking.specs.Answers.{answer_of, said_of};
-ghost use Rattle.breaking.specs.Steps.Routes.{said, heaviest_price, told};
+ghost use Rattle.breaking.specs.Answers.{answer_of};
+ghost use Rattle.breaking.specs.Steps.Routes.{said_of, said, heaviest_price, told};
 
 use in_use::InUse;
 use refusal::{Cause, Refusal};
 use slice::Slice;
+
+// What the trees say of a row: the rows of a tree that is built without it, where there is one; else the answer. Beside a route the answer is the price 0.
+#[derive(Clone, Copy)]
+pub struct Around {
+    pub answer: Result<Option<u32>, Refusal>,
+    pub route: Option<Slice>,
+}
 
 // The rows by which the walk over the rows of a tree comes from vertex u to vertex v. The walk fills a path matrix that is lent.
 fn path_between(
@@ -42,7 +49,7 @@ fn heaviest_price(weight: &[u8], x: Slice) -> u32
     table_checks::row_weight(weight, heaviest)
 }
 
-// What the trees of a table of either kind say of a row: the rows of a tree that is built without it, where there is one; none where a tree is built only with it; else the refusal.
+// What the trees of a table of either kind say of a row: the rows of a tree that is built without it, where there is one; else that there is no route, where a tree is built only with it, or the refusal.
 pub fn around_rows(
     n: u32,
     table: InUse,
@@ -50,34 +57,48 @@ pub fn around_rows(
     right: &[u8],
     weight: &[u8],
     row: u32,
-) -> Result<Option<Slice>, Refusal>
+) -> Around
     ensures { let c = table_in n table left.now right.now weight.now left.now in
         said_of result ≡ said c row }
 {
-    quote::row_check(n, table, left, right, weight, row)?;
+    if let Err(refusal) = quote::row_check(n, table, left, right, weight, row) {
+        return Around {
+            answer: Err(refusal),
+            route: None,
+        };
+    }
     let others = slice::put(table.rows, row as usize, false);
     if let Some(tree) = mst1::tree_of(n, table.m, others, left, right, weight) {
-        return Ok(Some(tree));
+        return Around {
+            answer: Ok(Some(0)),
+            route: Some(tree),
+        };
     }
     if mst1::tree_of(n, table.m, table.rows, left, right, weight).is_none() {
-        return Err(Refusal::of(Cause::NoNetwork as u32));
+        return Around {
+            answer: Err(Refusal::of(Cause::NoNetwork as u32)),
+            route: None,
+        };
     }
-    Ok(None)
+    Around {
+        answer: Ok(None),
+        route: None,
+    }
 }
 
-// The 32 bits of the breaking price, none, or the refusal: where there is a route, the heaviest row on the tree's path between the row's ends has the price.
+// The answer: where there is a route, the heaviest row on the tree's path between the row's ends has the breaking price.
 pub fn told(
     n: u32,
     left: &[u8],
     right: &[u8],
     weight: &[u8],
     row: u32,
-    around: Result<Option<Slice>, Refusal>,
+    around: Around,
 ) -> Result<Option<u32>, Refusal>
     ensures { answer_of result ≡ told n left.now right.now weight.now row (said_of around) }
 {
-    let Some(tree) = around? else {
-        return Ok(None);
+    let Some(tree) = around.route else {
+        return around.answer;
     };
     let u = table_checks::row_byte(left, row as usize) as u32;
     let v = table_checks::row_byte(right, row as usize) as usize;

@@ -1,7 +1,10 @@
 -- The two steps to a breaking price, each as a function of what it is handed: what the trees of a call say of row k, and the answer that a walk over the rows of a tree then gives. Assumes nothing.
-use Rattle.std.specs.Prelude.{ℕ, pos, replicate, Bool, true, false, cond, List}
+use Rattle.std.specs.Prelude.{ℕ, pos, replicate, Bool, true, false, cond, List, is_some}
 use Rattle.std.proofs.Math.Option.{Option, none, some}
+use Rattle.breaking.specs.Answers.{answer_of}
+use Rattle.breaking.specs.declared.Around.{Around}
 use Rattle.graph_theory.specs.Builder.{Fragment, tree}
+use Rattle.mst1.specs.Steps.Growth.{chosen_in}
 use Rattle.path_matrix.specs.Matrix.{matrix_column}
 use Rattle.path_walk.specs.Steps.Walks.{walk}
 use Rattle.price_spec.specs.Breaking.{BreakingAnswer, unanswered, breaks_at, never_breaks}
@@ -22,6 +25,9 @@ pub record Said : Type 0 where
   pub answer : BreakingAnswer
   pub route : Bool
   pub chosen : ℕ → Bool
+
+abbrev pub said_of : Around → Said
+said_of x = record { answer = answer_of x.answer; route = is_some x.route; chosen = chosen_in x.route }
 
 abbrev pub answered : BreakingAnswer → Said
 answered a = record { answer = a; route = false; chosen = empty }
