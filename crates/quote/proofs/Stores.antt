@@ -69,7 +69,7 @@ module _ (weight bytes : List ℕ) (size : length bytes ≡ 4096) (same : (j : �
   abbrev at : ℕ
   at = 4 * (row - 1)
 
-  abbrev new : List ℕ
+  abbrev pub new : List ℕ
   new = stores bytes at (price % 256) (price / 256 % 256) (price / 65536 % 256) (price / 16777216 % 256)
 
   -- another row's bytes are as they were
