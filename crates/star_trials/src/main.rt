@@ -4,7 +4,7 @@
 
 #![tactic(auto)]
 
-ghost use Rattle.std.specs.Prelude.{◌≤◌, ◌+◌, length};
+ghost use Rattle.std.specs.Prelude.{◌≤◌, ◌+◌, length, IfSome};
 
 use cst::{Checked, Exchange, Pass, Verdict};
 use in_use::InUse;
@@ -142,7 +142,9 @@ fn filled(rt: &impl Print, answer: Result<(), Refusal>, matrix: &[u64], n: u32) 
 }
 
 // The value of a digit, none for any other byte.
-fn digit(b: u8) -> Option<u32> {
+fn digit(b: u8) -> Option<u32>
+    ensures { IfSome result (λ d. d ≤ 9) }
+{
     if b.is_ascii_digit() {
         Some((b - b'0') as u32)
     } else {
