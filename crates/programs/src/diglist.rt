@@ -11,6 +11,23 @@ use streams::{first, print_page, tell};
 // One byte more than the longest text that is taken, so that a longer one is noticed.
 const TEXT_BYTES: usize = 65537;
 
+// Writes the list of a text and gives the exit status: 2 where it is not written, else that of the list. The bytes that are handed on are those that are to be printed of the text.
+fn write_list<W: Write, E: Eprint>(
+    output: &mut W,
+    errors: &E,
+    text: &[u8],
+    list: &[u8],
+    status: u32,
+) -> u32
+    requires { (list.now ≡ printed (text_list text.now)) × (status ≡ exit_status (text_list text.now)) × (status ≤ 1) }
+    ensures status { (result ≡ exit_status (text_list text.now)) ⊎ (result ≡ 2) }
+    ensures few { result ≤ 2 }
+    ensures written { result ≢ 2 → Appends (W.contents output.old) (W.contents output.new) (printed (text_list text.now)) }
+{
+    let what = "diglist: the list is not printed whole";
+    print_page(output, errors, list, what, status, 2)
+}
+
 // Prints the list of a text, and gives the exit status: 2 where it is not written, else 0 for a list and 1 for a refusal.
 fn list<W: Write, E: Eprint>(output: &mut W, errors: &E, text: &[u8]) -> u32
     ensures status { (result ≡ exit_status (text_list text.now)) ⊎ (result ≡ 2) }
@@ -21,8 +38,7 @@ fn list<W: Write, E: Eprint>(output: &mut W, errors: &E, text: &[u8]) -> u32
     let page = digs::print_text(text, &mut bytes);
     let status = page.status;
     let size = page.size;
-    let what = "diglist: the list is not printed whole";
-    print_page(output, errors, first(&bytes, size), what, status, 2)
+    write_list(output, errors, text, first(&bytes, size), status)
 }
 
 // The program: its exit status is 0 for a list, 1 for a refusal, 2 where the text cannot be read or the list not be written. Of a text that the reader says, it is the list of the first 65,537

@@ -99,6 +99,23 @@ fn import(text: &[u8], out: &mut [u8]) -> Page
     }
 }
 
+// Writes the page of a text and gives the exit status: 2 where it is not written, else that of the page. The bytes that are handed on are those that are to be printed of the text.
+fn write_page<W: Write, E: Eprint>(
+    output: &mut W,
+    errors: &E,
+    text: &[u8],
+    page: &[u8],
+    status: u32,
+) -> u32
+    requires { (page.now ≡ read_page text.now) × (status ≡ read_status text.now) × (status ≤ 1) }
+    ensures status { (result ≡ read_status text.now) ⊎ (result ≡ 2) }
+    ensures few { result ≤ 2 }
+    ensures written { result ≢ 2 → Appends (W.contents output.old) (W.contents output.new) (read_page text.now) }
+{
+    let what = "readstp: the answer is not printed whole";
+    print_page(output, errors, page, what, status, 2)
+}
+
 // Prints what the import of the text answers, and gives the exit status.
 fn print<W: Write, E: Eprint>(output: &mut W, errors: &E, text: &[u8]) -> u32
     ensures status { (result ≡ read_status text.now) ⊎ (result ≡ 2) }
@@ -109,8 +126,7 @@ fn print<W: Write, E: Eprint>(output: &mut W, errors: &E, text: &[u8]) -> u32
     let page = import(text, &mut bytes);
     let status = page.status;
     let size = page.size;
-    let what = "readstp: the answer is not printed whole";
-    print_page(output, errors, first(&bytes, size), what, status, 2)
+    write_page(output, errors, text, first(&bytes, size), status)
 }
 
 // The program: its exit status is 0 for a table, 1 for a refusal, 2 where the text cannot be read or the answer not be written. Of a text that the reader says, it is the page of the first 65,537
