@@ -43,10 +43,10 @@ done
     -o "$work/star.o"
 # With no optimisation, which would make a call of itself of it.
 "$clang" $wasm -O0 -ffreestanding -c page/freestanding/multi3.c -o "$work/multi3.o"
-# For size, but for the doors that read STP texts, which would take up to three times as long.
+# For size, but for the doors that read texts, which would take three to five times as long.
 for crate; do
     level=-Oz
-    case $crate in stp_door | digs_door) level=-O2 ;; esac
+    case $crate in stp_door | digs_door | file_door) level=-O2 ;; esac
     retarget "$from/$crate.bc" >"$work/$crate.ll"
     "$clang" $wasm $level -Werror -x ir -c "$work/$crate.ll" -o "$work/$crate.o"
     objects="$objects $work/$crate.o"
