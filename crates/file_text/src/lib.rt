@@ -11,6 +11,20 @@ ghost use Rattle.file_text.specs.Steps.Collected.{Collected, added};
 // The names that a table can have.
 pub const NAMES: usize = 255;
 
+// Whether two parts have the same bytes. The last byte is looked at first: many names of a table differ in it alone.
+pub fn equal(a: &[u8], b: &[u8]) -> bool
+    ensures { result ≡ equal a.now b.now }
+{
+    let n = a.len();
+    if n != b.len() {
+        return false;
+    }
+    if n > 0 && a[n - 1] != b[n - 1] {
+        return false;
+    }
+    a == b
+}
+
 // The position of a name among the first `count` of the names met so far, which are kept by their places in the text; `count` where it is new.
 fn find_name(
     text: &[u8],
@@ -27,7 +41,7 @@ fn find_name(
     ensures bounded { result ≤ count }
 {
     for k in 0..count {
-        if text[from..to] == text[starts[k] as usize..ends[k] as usize] {
+        if equal(&text[from..to], &text[starts[k] as usize..ends[k] as usize]) {
             return k;
         }
     }

@@ -6,13 +6,13 @@ use Rattle.file_text.proofs.find_name.Goals as goal
 pub loop-k-init : goal.loop-k-init
 loop-k-init c = found-start _ _ _ _ _
 
-pub returns-then-eq-clause-value : goal.returns-then-eq-clause-value
+pub returns-then-equal-clause-value : goal.returns-then-equal-clause-value
 unfolding part
-returns-then-eq-clause-value c = found_here _ _ _ _ _ c.loop-k.k c.loop-k.invariant c.loop-k-test.true _ c.eq.ensures c.if-eq.true
+returns-then-equal-clause-value c = found_here _ _ _ _ _ c.loop-k.k c.loop-k.invariant c.loop-k-test.true _ c.equal.ensures c.if-equal.true
 
 pub loop-k-preserved : goal.loop-k-preserved
 unfolding part
-loop-k-preserved c = found-later _ _ _ _ _ c.loop-k.k c.loop-k.invariant c.loop-k-test.true _ c.eq.ensures c.if-eq.false
+loop-k-preserved c = found-later _ _ _ _ _ c.loop-k.k c.loop-k.invariant c.loop-k-test.true _ c.equal.ensures c.if-equal.false
 
 pub returns-clause-value : goal.returns-clause-value
 returns-clause-value c = found_none _ _ _ _ _ c.loop-k.k c.loop-k.invariant c.loop-k.auto.k-end c.loop-k-test.false
