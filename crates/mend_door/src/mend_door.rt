@@ -4,6 +4,7 @@ ghost use Rattle.answer.specs.Records.{fields_of};
 ghost use Rattle.mend_spec.specs.Bytes.{MendCall};
 ghost use Rattle.mend_spec.specs.Door.{mend_fields, mend_door, mend_door_marks, mend_door_list};
 ghost use Rattle.mend.specs.Answers.{answer_of};
+ghost use Rattle.mend_door.specs.Told.{records_of, mend_door_count};
 ghost use Rattle.in_use.specs.Tables.{table_in};
 ghost use Rattle.star_spec.specs.Call.{call_of, work_of};
 ghost use Rattle.star_spec.specs.Door.{door_returns};
@@ -12,6 +13,13 @@ use answer::{of_refusal, well_lent, write_answer};
 use in_use::InUse;
 use mend_record::Record;
 use refusal::Refusal;
+
+// What a call gives: how many records it wrote, which stand first in the lent list, and the number returned.
+#[derive(Clone, Copy)]
+pub struct Told {
+    pub count: usize,
+    pub returned: u32,
+}
 
 // The fields of what was mended: the number of records is the amount.
 pub fn of_mended(x: Result<u32, Refusal>) -> answer::Record
@@ -30,6 +38,17 @@ pub fn of_mended(x: Result<u32, Refusal>) -> answer::Record
     }
 }
 
+// How many records were written.
+#[tactic(auto, unfolding(crate::specs::Told::records_of, mend::specs::Answers::answer_of))]
+fn count_of(x: Result<u32, Refusal>) -> usize
+    ensures { result ≡ records_of (answer_of x) }
+{
+    match x {
+        Ok(count) => count as usize,
+        Err(_) => 0,
+    }
+}
+
 // Mending of a table of either kind through the door.
 fn mend_table(
     n: u32,
@@ -40,16 +59,22 @@ fn mend_table(
     mark: &mut [u8],
     records: &mut [Record],
     answer: &mut [u8],
-) -> u32
+) -> Told
     ensures { let c = table_in n table left.now right.now weight.now mark.old in
-        (result ≡ door_returns answer.old) × (answer.new ≡ mend_door c (length records.old) answer.old) × (mark.new ≡ mend_door_marks c (length records.old) answer.old) × (records.new ≡ mend_door_list c records.old answer.old) }
+        (result.returned ≡ door_returns answer.old) × (answer.new ≡ mend_door c (length records.old) answer.old) × (mark.new ≡ mend_door_marks c (length records.old) answer.old) × (records.new ≡ mend_door_list c records.old answer.old) × (result.count ≡ mend_door_count c (length records.old) answer.old) }
 {
     if !well_lent(answer) {
-        return 0;
+        return Told {
+            count: 0,
+            returned: 0,
+        };
     }
     let mended = mend::mend(n, table, left, right, weight, mark, records);
     write_answer(answer, of_mended(mended));
-    1
+    Told {
+        count: count_of(mended),
+        returned: 1,
+    }
 }
 
 // Mending through the door. `means` says what the bytes, the claim and the list are worth.
@@ -70,7 +95,7 @@ pub extern "C" fn star_mend(
         MendCall c records.old answer.old answer.new mark.new records.new result }
 {
     let table = InUse::plain(left.len());
-    mend_table(n, table, left, right, weight, mark, records, answer)
+    mend_table(n, table, left, right, weight, mark, records, answer).returned
 }
 
 // Mending of a working table, whose rows in use are lent as sixteen words, through the door. `means` says what the bytes, the claim and the list are worth.
@@ -92,5 +117,5 @@ pub extern "C" fn star_work_mend(
         MendCall c records.old answer.old answer.new mark.new records.new result }
 {
     let used = InUse::working(words);
-    mend_table(n, used, left, right, weight, mark, records, answer)
+    mend_table(n, used, left, right, weight, mark, records, answer).returned
 }

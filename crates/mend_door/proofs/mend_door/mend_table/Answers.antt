@@ -9,4 +9,4 @@ returns-then-not-well_lent c = mend-shut _ _ _ (sym c.well_lent.ensures ∙ c.if
 
 pub returns : goal.returns
 returns c =
-    mend-open _ _ _ (sym c.well_lent.ensures ∙ c.if-not-well_lent.false) c.mend-mended.ensures (c.write_answer.ensures ∙ ap (answer_after _) c.of_mended.ensures)
+    mend-open _ _ _ (sym c.well_lent.ensures ∙ c.if-not-well_lent.false) c.mend-mended.ensures (c.write_answer.ensures ∙ ap (answer_after _) c.of_mended.ensures) c.count_of.ensures
